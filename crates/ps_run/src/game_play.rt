@@ -1,6 +1,6 @@
 //! A game in play, each level on boards of the kind that it asks for.
 
-ghost use Rattle.std.specs.Prelude.{◌≡◌, ◌++◌, IfOk};
+ghost use Rattle.std.specs.Prelude.{◌≡◌, ◌++◌, IfOk, OnErr, OnOk};
 ghost use Rattle.ps_model.specs.declared.limits.TheConstants.{SIDE_LIMIT};
 ghost use Rattle.ps_model.specs.game.Outputs.{ending_of, opening_step};
 ghost use Rattle.ps_stage.specs.Playable.{EntriesFit};
@@ -16,25 +16,30 @@ use std::alloc::Global;
 use std::marker::Model;
 use std::mem;
 
-/// Goes on at an entry of a game that is played by these sections.
+/// Goes on at an entry of a game that is played by these sections, in place of how it was played before.
 ///
 /// # Errors
 ///
-/// `Memory`.
+/// `Memory`, and it is played as before.
+#[inline(never)]
 fn go_on<'g>(
     alloc: Global,
     game: &SessionGame<'g>,
     plain: &'g [CompiledSection<'g>],
     late: &'g [CompiledSection<'g>],
     entry: usize,
+    play: &mut SizedPlay<'g>,
     output: &mut OutputText,
-) -> Result<SizedPlay<'g>, Memory>
+) -> Result<(), Memory>
     requires { EntriesFit SIDE_LIMIT game.now.entries }
-    ensures { IfOk result (λ play.
-        HasBegun (script_on game.now plain.now late.now) entry (play_in play) output.old output.new) }
+    ensures begun { OnOk result
+        (HasBegun (script_on game.now plain.now late.now) entry (play_in play.new) output.old output.new) }
+    ensures stays { OnErr result (play_in play.new ≡ play_in play.old) }
 {
-    let play = SizedPlay::start_at(alloc, game.copied(), plain, late, entry, output)?;
-    Ok(play)
+    let next = SizedPlay::start_at(alloc, game.copied(), plain, late, entry, output)?;
+    let before = mem::replace(play, next);
+    before.end();
+    Ok(())
 }
 
 /// A game in play. Where a key leads to a level for boards of another kind, the game goes on there in a session of its
@@ -111,9 +116,16 @@ impl<'g> GamePlay<'g> {
             Err(Stop::Memory) => return Err(Memory),
             Err(Stop::Elsewhere(entry)) => entry,
         };
-        let next = go_on(self.alloc, &self.game, self.plain, self.late, entry, output)?;
-        let before = mem::replace(&mut self.play, next);
-        before.end();
+        let (plain, late) = (self.plain, self.late);
+        go_on(
+            self.alloc,
+            &self.game,
+            plain,
+            late,
+            entry,
+            &mut self.play,
+            output,
+        )?;
         Ok(())
     }
 

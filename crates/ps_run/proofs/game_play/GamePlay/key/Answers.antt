@@ -1,10 +1,9 @@
 use Rattle.std.proofs.Common.{sym, subst, Err}
 use Rattle.ps_stage.specs.declared.stops.Stop.{Stop}
 use Rattle.ps_stage.specs.declared.stops.Stop.TheVariants.{Elsewhere}
-use Rattle.ps_run.specs.GamesInPlay.{HasBegun, IsKeyed, script_on}
+use Rattle.ps_run.specs.GamesInPlay.{IsKeyed}
 use Rattle.ps_run.specs.SizedPlays.{play_in}
-use Rattle.ps_run.specs.declared.sized_play.SizedPlay.{SizedPlay}
-use Rattle.ps_run.proofs.Turned.{turned_as, turned_failed, turned_here, turned_in, turned_not, turned_there}
+use Rattle.ps_run.proofs.Turned.{turned_as, turned_here, turned_in, turned_not, turned_there}
 use Rattle.ps_run.proofs.game_play.GamePlay.key.Goals as goal
 
 pub returns-in-Ok : goal.returns-in-Ok
@@ -19,24 +18,12 @@ returns-in-Err-Memory c =
     (turned_in c.self.inside.game c.self.inside.plain.now c.self.inside.late.now _ _ c.args.key _ _ _
     c.self.invariant.0 (turned_not _ _ _ _ _ _ _ _ c.in-Err-Memory.ensures))
 
-pub returns-in_err-next : goal.returns-in_err-next
-returns-in_err-next c =
-    turned_as _ _ _ _ _ _ _ c.self.view_is
-    (turned_in c.self.inside.game c.self.inside.plain.now c.self.inside.late.now _ _ c.args.key _ _ _ c.self.invariant.0
-    (turned_failed _ _ _ _ _ _ _ _ c.from_residual.ensures.0 c.in-Err-Elsewhere.ensures))
-
 pub returns : goal.returns
 returns c =
     let keyed : IsKeyed (play_in c.self.inside.play) (play_in c.key.new.self) c.args.key c.args.output.now
     c.key.new.output (Err (Elsewhere c.in-Err-Elsewhere.entry)) =
     subst (λ (stop : Stop). IsKeyed (play_in c.self.inside.play) (play_in c.key.new.self) c.args.key c.args.output.now
     c.key.new.output (Err stop)) c.in-Err-Elsewhere.field-0-is c.in-Err-Elsewhere.ensures in
-    let begun : HasBegun (script_on c.self.inside.game c.self.inside.plain.now c.self.inside.late.now)
-    c.in-Err-Elsewhere.entry (play_in c.replace-before.new.dest) c.key.new.output c.go_on.new.output =
-    subst (λ (play : SizedPlay). HasBegun (script_on c.self.inside.game c.self.inside.plain.now c.self.inside.late.now)
-    c.in-Err-Elsewhere.entry (play_in play) c.key.new.output c.go_on.new.output)
-    (sym c.replace-before.ensures.after)
-    c.in_ok-next.ensures in
     turned_as _ _ _ _ _ _ _ c.self.view_is
     (turned_in c.self.inside.game c.self.inside.plain.now c.self.inside.late.now _ _ c.args.key _ _ _ c.self.invariant.0
-    (turned_there _ _ _ _ _ _ _ c.in-Err-Elsewhere.entry _ _ (sym c.self.invariant.0) keyed begun))
+    (turned_there _ _ _ _ _ _ _ c.in-Err-Elsewhere.entry _ _ (sym c.self.invariant.0) keyed c.in_ok-go_on.ensures.begun))
