@@ -1,18 +1,37 @@
 -- Sets of columns by what holds of each column.
-use Rattle.std.proofs.Common.{◌≡◌, ◌∙◌, ℕ, ◌+◌, ◌<◌, ◌≤◌, suc, zero, Bool, true, false, cond, List, [], ◌∷◌, map, refl}
+use Rattle.std.proofs.Common.{◌≡◌, ◌≢◌, ◌∙◌, ℕ, ◌+◌, ◌<◌, ◌≤◌, suc, zero, Bool, true, false, cond, List, [], ◌∷◌, map, refl}
 use Rattle.std.proofs.Common.{sym, ap, ap₂, arith}
-use Rattle.std.specs.Prelude.{nat_eq, nat_lt, filter}
+use Rattle.std.specs.Prelude.{if◌then◌else◌, nat_eq, nat_lt, filter}
 use Rattle.std.specs.List.{range_with_len}
 use Rattle.std.proofs.lemmas.Bool.Decides.{nat_tests}
 use Rattle.std.proofs.lemmas.List.{get_or_past}
 use Rattle.std.proofs.lemmas.List.FromFn.{length-map-range_with_len, get_or-map-range_with_len}
 use Rattle.ps_model.specs.declared.limits.TheConstants.{SIDE_LIMIT}
-use Rattle.ps_board.specs.ColumnSets.{columns_where, column_at, set_columns, no_columns}
+use Rattle.ps_board.specs.ColumnSets.{columns_below, columns_where, column_at, set_columns, no_columns, with_column}
 
 -- a column below the last one, and one beyond
 pub column_at-where : (holds : ℕ → Bool) (x : ℕ) → x < SIDE_LIMIT → column_at (columns_where holds) x ≡ holds x
 unfolding columns_where
 column_at-where holds x low = get_or-map-range_with_len holds 0 SIDE_LIMIT x x false low (omega arith)
+
+-- the columns below a number
+pub below_at : (count x : ℕ) → x < SIDE_LIMIT → column_at (columns_below count) x ≡ nat_lt x count
+below_at count x low = column_at-where (λ y. nat_lt y count) x low
+
+-- a set with a column put in or left out: that column, and each other one
+pub with_here : (columns : List Bool) (column : ℕ) (on : Bool) → column < SIDE_LIMIT →
+    column_at (with_column columns column on) column ≡ on
+with_here columns column on low =
+    let same : nat_eq column column ≡ true = grind (arith, nat_tests) in
+    column_at-where (λ y. if nat_eq y column then on else column_at columns y) column low
+    ∙ ap (λ (t : Bool). if t then on else column_at columns column) same
+
+pub with_other : (columns : List Bool) (column other : ℕ) (on : Bool) → other < SIDE_LIMIT → other ≢ column →
+    column_at (with_column columns column on) other ≡ column_at columns other
+with_other columns column other on low apart =
+    let differs : nat_eq other column ≡ false = grind (arith, nat_tests, apart) in
+    column_at-where (λ y. if nat_eq y column then on else column_at columns y) other low
+    ∙ ap (λ (t : Bool). if t then on else column_at columns other) differs
 
 pub column_at-beyond : (holds : ℕ → Bool) (x : ℕ) → SIDE_LIMIT ≤ x → column_at (columns_where holds) x ≡ false
 unfolding columns_where

@@ -16,7 +16,7 @@ use Rattle.ps_board.specs.ColumnSets.{either_columns, columns_ahead, columns_beh
 use Rattle.ps_board.specs.ColumnSets.{no_columns, unlike_columns}
 use Rattle.ps_board.proofs.Bits.{and_bit, clear_bit, full_bit, low_bit, minus_bit, moved_bit, no_bit_above, or_bit}
 use Rattle.ps_board.proofs.Bits.{raised_high, raised_low, set_bit, xor_bit}
-use Rattle.ps_board.proofs.ColumnLaws.{column_at-where, column_at-all, columns-agree}
+use Rattle.ps_board.proofs.ColumnLaws.{below_at, column_at-where, column_at-all, columns-agree}
 use Rattle.ps_board.proofs.ColumnLaws.{set_columns-first, set_columns-none}
 
 -- any column of a word
@@ -26,10 +26,6 @@ word_column word x within =
 
 word_beyond : (word x : ℕ) → word < 2 ^ 64 → 64 ≤ x → column_at (word_columns word) x ≡ false
 word_beyond word x within high = word_column word x within ∙ no_bit_above word x within high
-
--- a column below a number
-is_below : (count x : ℕ) → x < SIDE_LIMIT → column_at (columns_below count) x ≡ nat_lt x count
-is_below count x low = column_at-where (λ y. nat_lt y count) x low
 
 -- the bits of two words, taken together
 pub and_word : (a b : ℕ) → word_columns (bit_and a b) ≡ both_columns (word_columns a) (word_columns b)
@@ -88,10 +84,10 @@ raised_there : (word count x : ℕ) (here : Bool) → nat_lt x 64 ≡ here → x
 raised_there word count x true t low =
     raised_bit word count x (nat_le count x) refl (grind (arith, nat_tests))
     ∙ sym (is_ahead (word_columns word) count x low)
-    ∙ ap (λ (b : Bool). b && column_at (columns_ahead (word_columns word) count) x) (sym (is_below 64 x low ∙ t))
+    ∙ ap (λ (b : Bool). b && column_at (columns_ahead (word_columns word) count) x) (sym (below_at 64 x low ∙ t))
 raised_there word count x false t low =
     no_bit_above (word * 2 ^ count % 2 ^ 64) x (mod-lt (word * 2 ^ count) (omega arith)) (grind (arith, nat_tests))
-    ∙ ap (λ (b : Bool). b && column_at (columns_ahead (word_columns word) count) x) (sym (is_below 64 x low ∙ t))
+    ∙ ap (λ (b : Bool). b && column_at (columns_ahead (word_columns word) count) x) (sym (below_at 64 x low ∙ t))
 
 pub raised_word : (word count : ℕ) → word_columns (word * 2 ^ count % 2 ^ 64)
     ≡ both_columns (columns_below 64) (columns_ahead (word_columns word) count)
@@ -105,9 +101,9 @@ raised_off columns count x true t far low =
     let short : nat_le count x ≡ false = grind (arith, nat_tests, far) in
     ap (λ (b : Bool). b && column_at columns (x - count)) (sym short)
     ∙ sym (is_ahead columns count x low)
-    ∙ ap (λ (b : Bool). b && column_at (columns_ahead columns count) x) (sym (is_below 64 x low ∙ t))
+    ∙ ap (λ (b : Bool). b && column_at (columns_ahead columns count) x) (sym (below_at 64 x low ∙ t))
 raised_off columns count x false t far low =
-    ap (λ (b : Bool). b && column_at (columns_ahead columns count) x) (sym (is_below 64 x low ∙ t))
+    ap (λ (b : Bool). b && column_at (columns_ahead columns count) x) (sym (below_at 64 x low ∙ t))
 
 pub raised_out : (word count : ℕ) → 64 ≤ count →
     word_columns 0 ≡ both_columns (columns_below 64) (columns_ahead (word_columns word) count)
@@ -142,7 +138,7 @@ kept_there : (word count x : ℕ) (here : Bool) → nat_lt x 64 ≡ here → wor
     ≡ (column_at (word_columns word) x && not (column_at (columns_below count) x))
 kept_there word count x true t within low =
     kept_bit word count x (nat_le count x) refl (grind (arith, nat_tests))
-    ∙ sym (ap₂ (λ (p q : Bool). p && not q) (column_at-where (bit_is_set word) x low) (is_below count x low))
+    ∙ sym (ap₂ (λ (p q : Bool). p && not q) (column_at-where (bit_is_set word) x low) (below_at count x low))
 kept_there word count x false t within low =
     let high : 64 ≤ x = grind (arith, nat_tests) in
     no_bit_above (word / 2 ^ count * 2 ^ count % 2 ^ 64) x (mod-lt (word / 2 ^ count * 2 ^ count) (omega arith)) high
@@ -159,7 +155,7 @@ kept_off : (word count x : ℕ) (here : Bool) → nat_lt x 64 ≡ here → word 
     false ≡ (column_at (word_columns word) x && not (column_at (columns_below count) x))
 kept_off word count x true t within far low =
     let below : nat_lt x count ≡ true = grind (arith, nat_tests, far) in
-    sym (ap (λ (b : Bool). column_at (word_columns word) x && not b) (is_below count x low ∙ below)
+    sym (ap (λ (b : Bool). column_at (word_columns word) x && not b) (below_at count x low ∙ below)
     ∙ and-false (column_at (word_columns word) x))
 kept_off word count x false t within far low = off_word word count x within (grind (arith, nat_tests))
 

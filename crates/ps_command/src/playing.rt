@@ -48,8 +48,8 @@ fn play_in_view<R: Files + AllocGlobal, I: ByteReader, O: ByteWriter>(
     played
 }
 
-/// Plays a game with keys from a file, which is opened once the game's text was read; or from a reader, where no file is
-/// named.
+/// Plays a game with keys from a file, which is opened once the game's text was read; or from a reader, where no file
+/// is named.
 fn play_from<R: Files + AllocGlobal, I: ByteReader, O: ByteWriter>(
     rt: &R,
     text: &[u8],

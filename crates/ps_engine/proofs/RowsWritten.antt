@@ -254,7 +254,8 @@ found_on_row start now m mask set left row columns any shape alike taken under s
           let remainder : n % start.height ≡ row = mod-mul-add x start.height row under in
           record {
             number = n;
-            fits = sym (column_fits start now m mask set row n columns shape alike first.0 high is scanned low remainder)
+            fits = sym (column_fits start now m mask set row n columns shape alike first.0 high is scanned low
+                remainder)
                 ∙ ap (column_at columns) quotient ∙ column.0;
           } where
             there : (cell : Option (List Slot)) → slice_get now.cells (x * start.height + row) ≡ cell →

@@ -1,10 +1,10 @@
 -- Grids that differ in nothing that rules ask about: the rules have the same combinations on both.
-use Rattle.std.proofs.Common.{◌≡◌, ◌∙◌, ℕ, ◌+◌, ◌*◌, ◌%◌, ◌<◌, ◌≤◌, ◌&&◌, ◌||◌, inl, inr, Bool, true, false, not, Option, Some, None}
+use Rattle.std.proofs.Common.{◌≡◌, ◌∙◌, ℕ, ◌+◌, ◌*◌, ◌%◌, ◌<◌, ◌≤◌, ◌&&◌, ◌||◌, inl, inr, Bool, true, false, not}
+use Rattle.std.proofs.Common.{Option, Some, None}
 use Rattle.std.proofs.Common.{List, [], ◌∷◌, length, map, filter, get_or, refl, sym, ap, ap₂, arith}
 use Rattle.std.specs.Prelude.{All, slice_get}
 use Rattle.std.specs.List.{flat_map, list_all, list_any}
 use Rattle.std.proofs.lemmas.Bool.{and_parts, cases_lt}
-use Rattle.std.proofs.lemmas.Nat.{mod_below}
 use Rattle.std.proofs.lemmas.Option.{slice_get-get_or, slice_get_past}
 use Rattle.std.proofs.lemmas.List.Elements.{All-head, All-tail}
 use mathlib.Core.Path.{fun_ext}
@@ -31,6 +31,7 @@ use Rattle.ps_program.specs.ProgramShown.{mask_shown}
 use Rattle.ps_board.specs.ColumnSets.{both_columns, column_at, set_columns}
 use Rattle.ps_board.proofs.ColumnLaws.{column_at-where, none_in}
 use Rattle.ps_match.specs.Topics.{DifferOnlyAbout, HoldAlike, MoveAlike, motion_topic, object_topic}
+use Rattle.ps_match.proofs.TopicSets.{motion_low, object_low}
 use Rattle.ps_places.specs.Lines.{cell_meaning}
 use Rattle.ps_places.specs.RowPlaces.{row_meaning}
 use Rattle.ps_engine.specs.RulesInRoom.{rule_meaning}
@@ -60,12 +61,6 @@ apart_at topics stirred none topic low on =
     ap (λ (b : Bool). b && column_at stirred topic) (sym on)
     ∙ sym (column_at-where (λ x. column_at topics x && column_at stirred x) topic low)
     ∙ none_in (both_columns topics stirred) topic none low
-
-pub object_low : (object : ℕ) → object_topic object < SIDE_LIMIT
-object_low object = omega (arith, mod_below object 192 (omega arith))
-
-pub motion_low : (layer : ℕ) → motion_topic layer < SIDE_LIMIT
-motion_low layer = omega (arith, mod_below layer 64 (omega arith))
 
 module _ (g h : Grid) (topics stirred : List Bool) (differ : DifferOnlyAbout stirred g h)
     (apart : set_columns (both_columns topics stirred) ≡ []) (wide : g.width ≡ h.width) (high : g.height ≡ h.height)

@@ -15,7 +15,8 @@ use Rattle.ps_program.specs.declared.program.CompiledSection.TheVariants.{Group,
 use Rattle.ps_match.specs.Topics.{HasTopicsOf, motion_topic, object_topic}
 use Rattle.ps_engine.specs.TopicsAsked.{HasMask, HasMotion, HasObject, HasPart, HasParts, HasRows}
 use Rattle.ps_engine.proofs.RoomsFor.{AllBefore}
-use Rattle.ps_engine.proofs.Stirred.{each_of, motion_low, object_low}
+use Rattle.ps_match.proofs.TopicSets.{motion_low, object_low}
+use Rattle.ps_engine.proofs.Stirred.{each_of}
 
 -- what each element has been given, and the next one
 pub before_more : {X : Type 0} (P Q : X → Type 0) (xs : List X) (n m : ℕ) → ((x : X) → P x → Q x) →

@@ -1,5 +1,6 @@
 -- What is known of sections that are woken, forgotten, or looked at anew.
-use Rattle.std.proofs.Common.{◌≡◌, ◌≢◌, ◌∙◌, ℕ, zero, suc, ◌+◌, ◌*◌, ◌<◌, ◌≤◌, ◌++◌, inl, inr, Bool, true, false, Option, Some, None, List, []}
+use Rattle.std.proofs.Common.{◌≡◌, ◌≢◌, ◌∙◌, ℕ, zero, suc, ◌+◌, ◌*◌, ◌<◌, ◌≤◌, ◌++◌, inl, inr, Bool, true, false}
+use Rattle.std.proofs.Common.{Option, Some, None, List, []}
 use Rattle.std.proofs.Common.{◌∷◌, length, get_or, refl, sym, ap, ap₂, subst, arith}
 use Rattle.std.specs.Prelude.{option_map, slice_get, slice_set}
 use Rattle.std.specs.Option.{is_some}
@@ -7,11 +8,11 @@ use Rattle.std.proofs.lemmas.Bool.{cases_eq, cases_lt, false≢true}
 use Rattle.std.proofs.lemmas.List.{get_or-set_other, get_or-set_same, get_or_append_left, get_or_default}
 use Rattle.std.proofs.lemmas.List.{length-append, length-set}
 use Rattle.std.proofs.Math.Seq.{get_or-append_seam}
-use Rattle.std.proofs.lemmas.Option.{get_or_from_slice_get, same_Some, slice_get-get_or, slice_get_past, slice_get_within}
+use Rattle.std.proofs.lemmas.Option.{get_or_from_slice_get, same_Some, slice_get-get_or, slice_get_past}
+use Rattle.std.proofs.lemmas.Option.{slice_get_within}
 use Rattle.ps_model.specs.board.Grid.{Grid, IsGrid}
 use Rattle.ps_model.specs.declared.limits.TheConstants.{SIDE_LIMIT}
 use Rattle.ps_board.specs.ColumnSets.{both_columns, columns_below, set_columns}
-use Rattle.ps_match.proofs.TopicSets.{all_differ}
 use Rattle.ps_match.specs.InRoom.{sides_of}
 use Rattle.ps_match.specs.Topics.{DifferOnlyAbout}
 use Rattle.ps_program.specs.declared.program.CompiledSection.{CompiledSection}
@@ -40,7 +41,8 @@ pub unknown_more : (sections : List CompiledSection) (watches : List SectionWatc
     n < length sections → section ≡ get_or sections n section → IsUnknown section watch →
     AreUnknown sections watches → AreUnknown sections all
 unknown_more sections watches n section watch all is long low here told before k other found at there =
-    let there' : slice_get (watches ++ watch ∷ []) k ≡ Some found = ap (λ (ws : List SectionWatch). slice_get ws k) (sym is)
+    let there' : slice_get (watches ++ watch ∷ []) k ≡ Some found =
+    ap (λ (ws : List SectionWatch). slice_get ws k) (sym is)
     ∙ there in
     elim (cases_eq k n) [
       | inl e ↦
@@ -90,7 +92,8 @@ get_set_other : {W : Type 0} (xs : List W) (i j : ℕ) (x : W) → j ≢ i → s
 get_set_other xs i j x apart = elim (cases_lt j (length xs)) [
   | inl low ↦ slice_get-get_or (slice_set xs i x) j x (omega (arith, low, length-set xs i x))
       ∙ ap Some (get_or-set_other xs i j x x apart) ∙ sym (slice_get-get_or xs j x low)
-  | inr far ↦ slice_get_past (slice_set xs i x) j (omega (arith, far, length-set xs i x)) ∙ sym (slice_get_past xs j far)
+  | inr far ↦ slice_get_past (slice_set xs i x) j (omega (arith, far, length-set xs i x))
+      ∙ sym (slice_get_past xs j far)
 ]
 
 pub others_left : {W : Type 0} (ws now : List W) (n : ℕ) (next : List W) (made : W) →
@@ -153,9 +156,6 @@ pub two_same : (g h : Grid) (table other : Option (List ℕ)) → h ≡ g → ot
     ◌≡◌ {A = Option (Grid × Option (List ℕ))} (Some (g, table)) (Some (h, other))
 two_same g h table other grids tables = ap₂ (λ (k : Grid) (t : Option (List ℕ)).
     let both : Grid × Option (List ℕ) = (k, t) in Some both) (sym grids) (sym tables)
-
-pub all_stirred : (g h : Grid) (topics : List Bool) → topics ≡ columns_below SIDE_LIMIT → DifferOnlyAbout topics g h
-all_stirred g h topics all = all_differ g h topics all
 
 -- a board that differs from what is kept in nothing that a section asks about
 module _ {X : Type 0} (view : X → Grid × Option (List ℕ)) (sections : List CompiledSection)

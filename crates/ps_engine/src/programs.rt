@@ -23,8 +23,8 @@ use ps_places::RoomFor;
 use ps_program::{CompiledRule, CompiledSection};
 use ps_text::List;
 
-/// How far a run has come: the repeats that are left for its loops, whether one more was due than there were, and whether
-/// the last section may have changed the board.
+/// How far a run has come: the repeats that are left for its loops, whether one more was due than there were, and
+/// whether the last section may have changed the board.
 #[derive(Clone, Copy)]
 struct Left {
     repeats: u32,
@@ -148,8 +148,8 @@ fn play_sections<'r, B: Scan>(
     Ok(())
 }
 
-/// A section of a program with so many repeats left, unless it is known to be a group that has no place. The board differs
-/// from what is kept in these topics alone.
+/// A section of a program with so many repeats left, unless it is known to be a group that has no place. The board
+/// differs from what is kept in these topics alone.
 ///
 /// # Errors
 ///
@@ -190,8 +190,8 @@ fn play_next<'r, 's: 'r, B: Scan>(
     play_section(&sections[number], repeats, board, queue, rooms, kept)
 }
 
-/// The sections of a program in order, as `play_sections`, but for groups that are known to have no place. What the board
-/// shows is kept.
+/// The sections of a program in order, as `play_sections`, but for groups that are known to have no place. What the
+/// board shows is kept.
 ///
 /// # Errors
 ///

@@ -3,7 +3,8 @@
 //! kept, and of each section whether it is a group that has no place there; and a run passes over such a group as long
 //! as nothing that it asks about has changed.
 
-ghost use Rattle.std.specs.Prelude.{◌≡◌, ◌<◌, ℕ, [], IfOk, List, OnOk, Option, Some, length, slice_get, slice_set, true};
+ghost use Rattle.std.specs.Prelude.{◌≡◌, ◌<◌, ℕ, [], IfOk, List, OnOk, Option, Some, length, slice_get, slice_set};
+ghost use Rattle.std.specs.Prelude.{true};
 ghost use Rattle.ps_board.specs.ColumnSets.{both_columns, set_columns};
 ghost use Rattle.ps_match.specs.InRoom.{sides_of};
 ghost use Rattle.ps_match.specs.Topics.{DifferOnlyAbout};
@@ -51,8 +52,8 @@ struct Pace {
     rest: u32,
 }
 
-/// The sections of a program, lent, with what is known of them, and the board that is kept, if one is. Contracts see the
-/// sections and what the board shows.
+/// The sections of a program, lent, with what is known of them, and the board that is kept, if one is. Contracts see
+/// the sections and what the board shows.
 #[derive(Drop)]
 pub struct WatchedProgram<'p, 'r, B: Scan> {
     alloc: Global,
@@ -229,7 +230,7 @@ impl<'p, 'r, B: Scan> WatchedProgram<'p, 'r, B> {
     }
 
     /// The sections.
-    pub fn sections(&self) -> &'p [CompiledSection<'r>]
+    pub(crate) fn sections(&self) -> &'p [CompiledSection<'r>]
         ensures { result.now ≡ self.now.sections }
     {
         self.sections
@@ -289,7 +290,7 @@ impl<'p, 'r, B: Scan> WatchedProgram<'p, 'r, B> {
     /// # Errors
     ///
     /// `Memory`, where no board is kept, or one of another size or game.
-    pub fn begin(&mut self, board: &B) -> Result<bool, Memory>
+    pub(crate) fn begin(&mut self, board: &B) -> Result<bool, Memory>
         ensures sections { self.new.sections ≡ self.old.sections }
         ensures kept { IfOk result (λ watches. watches ≡ true →
             self.new.kept ≡ Some (B.grid board.now, B.table board.now)) }
@@ -306,7 +307,7 @@ impl<'p, 'r, B: Scan> WatchedProgram<'p, 'r, B> {
 
     /// Whether a section may be passed over on a board, which differs from what is kept in these topics alone: it is a
     /// group of which no rule has a combination. No memory is taken.
-    pub fn passes(
+    pub(crate) fn passes(
         &mut self,
         number: usize,
         stirred: Topics,
@@ -338,7 +339,7 @@ impl<'p, 'r, B: Scan> WatchedProgram<'p, 'r, B> {
 
     /// The topics about which a board, of the same size, with as many layers and the same room, differs from what is
     /// kept; all of them, where nothing is.
-    pub fn stirred_on(&self, board: &B) -> Topics
+    pub(crate) fn stirred_on(&self, board: &B) -> Topics
         ensures { (g : Grid) (table : Option (List ℕ)) → self.now.kept ≡ Some (g, table) →
             sides_of g ≡ sides_of (B.grid board.now) → table ≡ B.table board.now →
             DifferOnlyAbout result (B.grid board.now) g }

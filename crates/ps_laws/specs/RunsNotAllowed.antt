@@ -170,7 +170,8 @@ NoWriteUncounted =
     1 ≤ length told.wrote → writer_after.calls ≡ writer_before.calls →
     Tells reader_before reader_after writer_before writer_after told → ⊥
 
--- the run called the writer more often than it has texts to write, but for one more call for each that took less than it
+-- the run called the writer more often than it has texts to write, but for one more call for each that took less than
+-- it
 -- was handed: so a text isn't handed on in pieces that the writer didn't ask for
 abbrev pub NoTextInPieces : Type 0
 NoTextInPieces =

@@ -4,6 +4,7 @@ use Rattle.std.proofs.Common.{sym, ap, ◌∙◌, append_assoc, arith}
 use Rattle.std.specs.List.{list_any, take-map}
 use Rattle.std.proofs.lemmas.List.{map-append, length-map, length-append}
 use Rattle.std.proofs.lemmas.Grind.{common_steps}
+use Rattle.std.proofs.lemmas.Simd.{map-map}
 use Rattle.ps_model.specs.declared.faults.Fault.{Fault}
 use Rattle.ps_model.specs.declared.faults.FaultKind.TheVariants.{UnknownGlyph, PropertyGlyph, TooLarge}
 use Rattle.ps_model.specs.text.Faults.{first_fault, when}
@@ -18,11 +19,7 @@ use Rattle.ps_names.specs.declared.meaning.Meaning as code
 use Rattle.ps_levels.specs.Cells.{is_unknown, objects_of, meaning_seen, meanings_shown}
 use Rattle.ps_levels.specs.RowFaults.{faults_of_meanings}
 use Rattle.ps_laws.proofs.common.FirstFaults.{first-front}
-
-any-map : {A B : Type 0} (f : A → B) (test : B → Bool) (xs : List A) →
-    list_any test (map f xs) ≡ list_any (λ x. test (f x)) xs
-any-map f test [] = refl
-any-map f test (x ∷ xs) = rw (any-map f test xs) refl
+use Rattle.ps_laws.proofs.common.Lists.{any-map}
 
 -- the faults of a row by what its characters stand for
 pub faults-by-meanings : (names : Names) (width place : ℕ) (row : Line) →
@@ -32,19 +29,15 @@ faults-by-meanings names width place row =
     let characters : List ℕ = take width (characters_of row) in
     ap (λ (unknown : Bool). when unknown UnknownGlyph row.number ++
     (when (list_any is_property (map (character_meaning names) characters)) PropertyGlyph row.number ++ when
-    (is_too_large width place) TooLarge row.number)) (any-map (character_meaning names) is_unknown characters)
+    (is_too_large width place) TooLarge row.number)) (any-map is_unknown (character_meaning names) characters)
     ∙ ap (λ (property : Bool). when (list_any (is_unknown_glyph names) characters) UnknownGlyph row.number ++
     (when property PropertyGlyph row.number ++ when (is_too_large width place) TooLarge row.number))
-    (any-map (character_meaning names) is_property characters)
-
-map-map : {A B C : Type 0} (f : A → B) (g : B → C) (xs : List A) → map g (map f xs) ≡ map (λ x. g (f x)) xs
-map-map f g [] = refl
-map-map f g (x ∷ xs) = rw (map-map f g xs) refl
+    (any-map is_property (character_meaning names) characters)
 
 -- the cells of a row by what its characters stand for
 pub cells-by-meanings : (names : Names) (width : ℕ) (row : Line) →
     map objects_of (map (character_meaning names) (of_width width (characters_of row))) ≡ row_cells names width row
-cells-by-meanings names width row = map-map (character_meaning names) objects_of (of_width width (characters_of row))
+cells-by-meanings names width row = map-map objects_of (character_meaning names) (of_width width (characters_of row))
 
 pub front-short : (width count : ℕ) (characters fill : List ℕ) → count ≡ length characters → count ≤ width →
     take count (take width (characters ++ fill)) ≡ take width characters

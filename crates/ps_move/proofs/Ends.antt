@@ -126,7 +126,8 @@ slides_went before now went place o layer none (suc links) from e =
           | inr further ↦ let left = again link.to further.1 in absurd (cc)
         ]
         | inr entered ↦ let same : entered.0 ≡ from = same_Some entered.0 from (sym entered.1 ∙ link.wins) in
-            let left : o.midway.goes layer from ≡ true = subst (λ (c : ℕ). o.midway.goes layer c ≡ true) same entered.2 in
+            let left : o.midway.goes layer from ≡ true =
+                subst (λ (c : ℕ). o.midway.goes layer c ≡ true) same entered.2 in
             absurd (cc)
       ]
 

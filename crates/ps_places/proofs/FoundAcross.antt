@@ -16,7 +16,7 @@ use Rattle.ps_program.specs.declared.rows.Axis.TheVariants.{Right}
 use Rattle.ps_program.specs.ProgramShown.{mask_shown}
 use Rattle.ps_match.specs.InRoom.{meaning_of_mask}
 use Rattle.ps_board.specs.ColumnSets.{both_columns, column_at, columns_below, no_columns, set_columns, with_column}
-use Rattle.ps_board.proofs.ColumnLaws.{none_in}
+use Rattle.ps_board.proofs.ColumnLaws.{none_in, with_here, with_other}
 use Rattle.ps_board.proofs.PassedColumns.{no_cell}
 use Rattle.ps_places.specs.Candidates.{BeginsOnlyOn}
 use Rattle.ps_places.specs.FoundStarts.{BeginInSets, BeginsNowhere, HasNoWay, HaveWaysOnlyOn, IsLineFound, begins_on}
@@ -24,7 +24,7 @@ use Rattle.ps_places.specs.FoundStarts.{part_of, set_of}
 use Rattle.ps_places.specs.Lines.{part_fits}
 use Rattle.ps_places.specs.Starts.{AreWhere}
 use Rattle.ps_places.proofs.CellByCell.{fits_not, moved_on}
-use Rattle.ps_places.proofs.LineSets.{none_has, sets_kept, sets_written, with_here, with_other}
+use Rattle.ps_places.proofs.LineSets.{none_has, sets_kept, sets_written}
 use Rattle.ps_places.proofs.OnlyOn.{missing, not_left_out}
 
 -- rows on which a part begins nowhere ---------------------------------------------------------------------------------

@@ -13,13 +13,14 @@ use Rattle.ps_program.specs.declared.rows.Axis.TheVariants.{Down}
 use Rattle.ps_board.specs.ColumnSets.{both_columns, column_at, columns_below, either_columns, no_columns, set_columns}
 use Rattle.ps_board.specs.ColumnSets.{with_column}
 use Rattle.ps_board.proofs.ColumnLaws.{column_at-all, column_at-beyond, column_at-where, first_in, none_in}
+use Rattle.ps_board.proofs.ColumnLaws.{with_here, with_other}
 use Rattle.ps_board.proofs.Taken.{passed-init, taken_gone, taken_out}
 use Rattle.ps_places.specs.Candidates.{BeginsOnlyOn}
 use Rattle.ps_places.specs.FoundStarts.{AreLinesFound, BeginInSets, HasNoWay, IsLineFound, IsPartFound, IsRowAdded}
 use Rattle.ps_places.specs.FoundStarts.{begins_on, part_of, set_of, with_row}
 use Rattle.ps_places.specs.Lines.{part_fits}
 use Rattle.ps_places.specs.Starts.{AreWhere, begins_down}
-use Rattle.ps_places.proofs.LineSets.{apart, none_has, with_here, with_other}
+use Rattle.ps_places.proofs.LineSets.{apart, none_has}
 
 -- a row added to the sets of some columns -----------------------------------------------------------------------------
 

@@ -9,7 +9,7 @@ use Rattle.std.proofs.lemmas.Bool.{not-true}
 use Rattle.ps_model.specs.declared.limits.TheConstants.{SIDE_LIMIT}
 use Rattle.ps_model.specs.board.Grid.{Grid}
 use Rattle.ps_board.specs.ColumnSets.{column_at, no_columns, set_columns, with_column}
-use Rattle.ps_board.proofs.ColumnLaws.{none_in}
+use Rattle.ps_board.proofs.ColumnLaws.{none_in, with_here, with_other}
 use Rattle.ps_program.specs.declared.cells.CompiledCell.{CompiledCell}
 use Rattle.ps_program.specs.declared.rows.Axis.{Axis}
 use Rattle.ps_program.specs.declared.rows.Axis.TheVariants.{Down, Right}
@@ -17,7 +17,7 @@ use Rattle.ps_places.specs.Candidates.{BeginsOnlyOn}
 use Rattle.ps_places.specs.Lines.{part_fits}
 use Rattle.ps_places.specs.PartStarts.{IsRowFound, begins_at, columns_on}
 use Rattle.ps_places.specs.Starts.{AreWhere}
-use Rattle.ps_places.proofs.LineSets.{none_has, with_here, with_other}
+use Rattle.ps_places.proofs.LineSets.{none_has}
 
 -- a row on which the part doesn't begin
 not_begun : (g : Grid) (table : Option (List ℕ)) (axis : Axis) (part : List CompiledCell) (own : List Bool)

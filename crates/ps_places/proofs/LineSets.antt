@@ -9,24 +9,10 @@ use Rattle.std.proofs.lemmas.Bool.Decides.{nat_tests}
 use Rattle.std.proofs.lemmas.List.{length-take-le, get_or_append_left, get_or-append_right, get_or-take, get_or-drop}
 use Rattle.ps_model.specs.declared.limits.TheConstants.{SIDE_LIMIT}
 use Rattle.ps_board.specs.ColumnSets.{column_at, no_columns, with_column}
-use Rattle.ps_board.proofs.ColumnLaws.{column_at-all, column_at-beyond, column_at-where}
+use Rattle.ps_board.proofs.ColumnLaws.{column_at-all, column_at-beyond, column_at-where, with_here, with_other}
 use Rattle.ps_places.specs.FoundStarts.{set_of}
 
--- a set of lines with a line more
-pub with_here : (lines : List Bool) (row : ℕ) (b : Bool) → row < SIDE_LIMIT →
-    column_at (with_column lines row b) row ≡ b
-with_here lines row b low =
-    let same : nat_eq row row ≡ true = grind (arith, nat_tests) in
-    column_at-where (λ y. if nat_eq y row then b else column_at lines y) row low
-    ∙ ap (λ (t : Bool). if t then b else column_at lines row) same
-
-pub with_other : (lines : List Bool) (row x : ℕ) (b : Bool) → x < SIDE_LIMIT → x ≢ row →
-    column_at (with_column lines row b) x ≡ column_at lines x
-with_other lines row x b low other =
-    let apart : nat_eq x row ≡ false = grind (arith, nat_tests, other) in
-    column_at-where (λ y. if nat_eq y row then b else column_at lines y) x low
-    ∙ ap (λ (t : Bool). if t then b else column_at lines x) apart
-
+-- a set of lines with a line more has lines below a number
 with_by : (lines : List Bool) (row count x : ℕ) (b : Bool) → row < count →
     ((line : ℕ) → column_at lines line ≡ true → line < count) → column_at (with_column lines row b) x ≡ true →
     x < SIDE_LIMIT → (x ≡ row) ⊎ (x ≢ row) → x < count

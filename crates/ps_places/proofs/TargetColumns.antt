@@ -13,7 +13,7 @@ use Rattle.ps_laws.proofs.common.Truths.{same_tests}
 use Rattle.ps_board.specs.ColumnSets.{both_columns, column_at, columns_behind, columns_below}
 use Rattle.ps_board.specs.ColumnSets.{columns_without, either_columns, no_columns, set_columns, with_column}
 use Rattle.ps_board.proofs.Taken.{first_least}
-use Rattle.ps_board.proofs.ColumnLaws.{column_at-beyond, column_at-where, first_in, none_in}
+use Rattle.ps_board.proofs.ColumnLaws.{column_at-beyond, column_at-where, first_in, none_in, with_here, with_other}
 use Rattle.ps_match.proofs.Chosen.{any_none}
 use Rattle.ps_program.specs.declared.cells.CompiledCell.{CompiledCell}
 use Rattle.ps_program.specs.declared.rows.Axis.TheVariants.{Down}
@@ -22,7 +22,7 @@ use Rattle.ps_places.specs.PartTargets.{IsReach, IsRowKept, is_kept, is_paired, 
 use Rattle.ps_places.specs.Starts.{AreWhere, begins_down}
 use Rattle.ps_places.proofs.AnyOf.{any-found, any-here, all}
 use Rattle.ps_places.proofs.FoundDown.{below_edge, room_by}
-use Rattle.ps_places.proofs.LineSets.{none_has, with_below, with_here, with_other}
+use Rattle.ps_places.proofs.LineSets.{none_has, with_below}
 use Rattle.ps_places.proofs.RowsTogether.{le_true}
 
 -- reaching to the left ------------------------------------------------------------------------------------------------

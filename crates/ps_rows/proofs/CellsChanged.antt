@@ -7,7 +7,7 @@ use Rattle.ps_model.specs.declared.limits.TheConstants.{SIDE_LIMIT}
 use Rattle.ps_board.specs.ColumnSets.{no_columns, with_column}
 use Rattle.ps_match.proofs.RowWritten.{cell_known}
 use Rattle.ps_rows.specs.Planes.{has_cell, row_of, with_cell}
-use Rattle.ps_rows.proofs.Sets.{with_other, with_same}
+use Rattle.ps_board.proofs.ColumnLaws.{with_here, with_other}
 
 pub length-with_cell : (h : ℕ) (words : List (List Bool)) (cell plane : ℕ) (on : Bool) →
     length (with_cell h words cell plane on) ≡ length words
@@ -23,7 +23,7 @@ unfolding has_cell with_cell
 has_cell-with_same h words cell plane on low within =
     rw (get_or-set_same words (plane * h + cell % h) (with_column (row_of words (plane * h + cell % h)) (cell / h) on)
     no_columns within)
-    (with_same (row_of words (plane * h + cell % h)) (cell / h) on low)
+    (with_here (row_of words (plane * h + cell % h)) (cell / h) on low)
 
 -- each other cell of each plane
 pub has_cell-with_other : (h : ℕ) (words : List (List Bool)) (cell plane : ℕ) (on : Bool) (c p : ℕ) → 0 < h →
@@ -38,6 +38,6 @@ has_cell-with_other h words cell plane on c p some under within apart =
           let same = same_from_place p (c % h) plane (cell % h) h (mod_below c h some) (mod_below cell h some) e in
           let columns : c / h ≢ cell / h = λ q. apart (cell_known h c cell same.1 q) same.0 in
           rw (e, get_or-set_same words place word no_columns within)
-          (with_other (row_of words place) (cell / h) on (c / h) under columns)
+          (with_other (row_of words place) (cell / h) (c / h) on under columns)
       | inr n ↦ rw (get_or-set_other words place (p * h + c % h) word no_columns n) refl
     ]

@@ -103,7 +103,8 @@ pub number_shown : (table : List ℕ) (height : ℕ) (words : List (List Bool)) 
 unfolding slot_shown
 number_shown table height words cell layer = number_of (object_shown table height words cell layer)
     (motion_shown table height words cell layer) where
-      number_of : (object : Option ℕ) (motion : Motion) → slot_number (slot_of (option_map numbered object) motion) ≡ object
+      number_of : (object : Option ℕ) (motion : Motion) →
+          slot_number (slot_of (option_map numbered object) motion) ≡ object
       number_of None motion = refl
       number_of (Some o) motion = refl
 

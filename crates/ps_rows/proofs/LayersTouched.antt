@@ -11,11 +11,11 @@ use Rattle.ps_model.specs.declared.limits.TheConstants.{SIDE_LIMIT}
 use Rattle.ps_model.specs.meaning.Compiled.{CellWrite}
 use Rattle.ps_board.specs.ColumnSets.{column_at, no_columns, set_columns, with_column}
 use Rattle.ps_board.specs.declared.one_word.TheConstants.{WORD_BITS}
-use Rattle.ps_board.proofs.ColumnLaws.{first_in, none_in}
+use Rattle.ps_board.proofs.ColumnLaws.{first_in, none_in, with_here, with_other}
 use Rattle.ps_board.proofs.Taken.{AreBelow, taken_gone, taken_out}
 use Rattle.ps_match.specs.Touches.{touches}
 use Rattle.ps_rows.specs.LayersTouched.{is_reached, is_written, loses_one}
-use Rattle.ps_rows.proofs.Sets.{none_at, with_other, with_same}
+use Rattle.ps_rows.proofs.Sets.{none_at}
 
 -- one layer more ------------------------------------------------------------------------------------------------------
 
@@ -31,11 +31,11 @@ pub layer_added : (layers : List Bool) (layer count x : ℕ) → x < SIDE_LIMIT 
     column_at (with_column layers layer true) x ≡ (column_at layers x || (is_reached count x && nat_eq layer x))
 layer_added layers layer count x low under near = elim (cases_eq x layer) [
   | inl e ↦
-      rw e (with_same layers layer true (rw (← e) low)
+      rw e (with_here layers layer true (rw (← e) low)
       ∙ one_same (column_at layers layer) (nat_eq layer layer) (is_reached count layer) (eq-eqb layer layer refl)
       (ap₂ (λ (a b : Bool). a && b) (lt-ltb layer count under) (lt-ltb layer WORD_BITS near)))
   | inr n ↦
-      with_other layers layer true x low n
+      with_other layers layer x true low n
       ∙ one_none (column_at layers x) (is_reached count x && nat_eq layer x)
       (ap (λ (b : Bool). is_reached count x && b) (ne_eqb layer x (λ e. n (sym e))) ∙ and-false (is_reached count x))
 ]

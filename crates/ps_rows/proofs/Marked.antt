@@ -10,7 +10,8 @@ use Rattle.std.proofs.lemmas.List.{get_or-set_same, get_or-set_other}
 use Rattle.ps_rows.specs.RowIndex.{AreRowsMarked}
 use Rattle.ps_rows.specs.Showing.{motion_planes, motions_from}
 use Rattle.ps_rows.proofs.Moves.{five_false, five_high}
-use Rattle.ps_rows.proofs.Sets.{either_at, none_set, set_where, with_other, with_same}
+use Rattle.ps_board.proofs.ColumnLaws.{with_here, with_other}
+use Rattle.ps_rows.proofs.Sets.{either_at, none_set, set_where}
 use Rattle.ps_rows.proofs.Puts.{plane_whole}
 use Rattle.ps_rows.proofs.Rests.{blank_word}
 use Rattle.ps_board.specs.ColumnSets.{column_at, either_columns, no_columns, set_columns, with_column}
@@ -74,14 +75,14 @@ marked_row count height words index plane row word empty short under own within 
           ∙ get_or-set_same index plane mark no_columns own)) ∙ clear in
           elim (cases_eq y row) [
             | inl f ↦
-                let silent : not empty ≡ false = sym (with_same (row_of index plane) row (not empty) low)
+                let silent : not empty ≡ false = sym (with_here (row_of index plane) row (not empty) low)
                 ∙ sym (ap (column_at mark) f) ∙ there in
                 let none : word ≡ no_columns = none_set word is (told (not-false empty silent)) in
                 rw (e, f) (get_or-set_same words (plane * height + row) word no_columns within ∙ none)
             | inr n ↦
                 elsewhere (λ same. n (same_from_place o y plane row height inside under same).1)
                 (ap (λ (p : ℕ). column_at (row_of index p) y) e
-                ∙ sym (with_other (row_of index plane) row (not empty) y y_low n) ∙ there)
+                ∙ sym (with_other (row_of index plane) row y (not empty) y_low n) ∙ there)
           ]
       | inr n ↦
           elsewhere (λ same. n (same_from_place o y plane row height inside under same).0)

@@ -13,7 +13,8 @@ use Rattle.ps_match.specs.Together.{rewritten_where}
 use Rattle.ps_match.proofs.Chosen.{rewritten_of, where-agree, where-one}
 use Rattle.ps_match.proofs.RowWritten.{cell_known}
 use Rattle.ps_rows.specs.SlotsWritten.{in_columns}
-use Rattle.ps_rows.proofs.Sets.{none_at, with_other, with_same}
+use Rattle.ps_board.proofs.ColumnLaws.{with_here, with_other}
+use Rattle.ps_rows.proofs.Sets.{none_at}
 use Rattle.ps_rows.proofs.Whole.{columns_low}
 use Rattle.ps_board.specs.ColumnSets.{column_at, no_columns, with_column}
 use Rattle.ps_model.specs.declared.limits.TheConstants.{SIDE_LIMIT}
@@ -24,8 +25,8 @@ column_alone column = with_column no_columns column true
 
 alone_at : (column x : ℕ) → x < SIDE_LIMIT → column_at (column_alone column) x ≡ nat_eq x column
 alone_at column x low = elim (cases_eq x column) [
-  | inl e ↦ rw e (with_same no_columns column true (omega (arith, low, e)) ∙ sym (eq-eqb column column refl))
-  | inr other ↦ with_other no_columns column true x low other ∙ none_at x ∙ sym (ne_eqb x column other)
+  | inl e ↦ rw e (with_here no_columns column true (omega (arith, low, e)) ∙ sym (eq-eqb column column refl))
+  | inr other ↦ with_other no_columns column x true low other ∙ none_at x ∙ sym (ne_eqb x column other)
 ]
 
 pub alone_within : (width column : ℕ) → column < width → (x : ℕ) → width ≤ x → x < SIDE_LIMIT →

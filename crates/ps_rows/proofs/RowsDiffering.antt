@@ -4,11 +4,11 @@ use Rattle.std.proofs.Common.{arith, true, []}
 use Rattle.std.proofs.lemmas.Bool.{cases_eq, not-false, or_parts}
 use Rattle.ps_board.specs.ColumnSets.{column_at, either_columns, no_columns, set_columns, unlike_columns, with_column}
 use Rattle.ps_board.specs.Rows.{DifferOnlyOn}
-use Rattle.ps_board.proofs.ColumnLaws.{none_in}
+use Rattle.ps_board.proofs.ColumnLaws.{none_in, with_here, with_other}
 use Rattle.ps_rows.specs.RowIndex.{AreRowsMarked}
 use Rattle.ps_rows.specs.Showing.{grid_shown}
 use Rattle.ps_rows.specs.Sameness.{DifferOnlyOnRows}
-use Rattle.ps_rows.proofs.Sets.{either_at, none_at, same_by_unlike, same_set, with_other, with_same}
+use Rattle.ps_rows.proofs.Sets.{either_at, none_at, same_by_unlike, same_set}
 use Rattle.ps_rows.proofs.Marked.{plane_indexed}
 use Rattle.ps_rows.proofs.SameRows.{others_same}
 use Rattle.ps_model.specs.declared.limits.TheConstants.{SIDE_LIMIT}
@@ -62,12 +62,12 @@ one_row_more height plane row rows unlike empty first second under short here th
     let other : List Bool = row_of second (plane * height + row) in
     elim (cases_eq y row) [
       | inl e ↦
-          let silent : not empty ≡ false = sym (with_same rows row (not empty) (omega (arith, under, short)))
+          let silent : not empty ≡ false = sym (with_here rows row (not empty) (omega (arith, under, short)))
           ∙ ap (column_at (with_column rows row (not empty))) (sym e) ∙ none in
           let nothing : set_columns (unlike_columns mine other) ≡ [] = ap set_columns (sym is)
           ∙ told (not-false empty silent) in
           rw e (same_set mine other here there (same_by_unlike mine other nothing))
-      | inr n ↦ before y (omega arith) (sym (with_other rows row (not empty) y (omega (arith, below, under, short)) n)
+      | inr n ↦ before y (omega arith) (sym (with_other rows row y (not empty) (omega (arith, below, under, short)) n)
           ∙ none)
     ]
 

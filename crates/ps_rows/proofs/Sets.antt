@@ -6,7 +6,7 @@ use Rattle.std.proofs.lemmas.Bool.{eq-eqb, ne_eqb, lt-ltb, or_parts, not-false}
 use Rattle.ps_model.specs.declared.limits.TheConstants.{SIDE_LIMIT}
 use Rattle.ps_board.specs.ColumnSets.{both_columns, column_at, columns_below, columns_where, columns_without}
 use Rattle.ps_board.specs.ColumnSets.{either_columns, no_columns, set_columns, unlike_columns, with_column}
-use Rattle.ps_board.proofs.ColumnLaws.{column_at-all, column_at-where, columns-again, columns-agree, none_in, none_on}
+use Rattle.ps_board.proofs.ColumnLaws.{below_at, column_at-all, column_at-where, columns-again, columns-agree, none_in, none_on}
 use Rattle.ps_board.proofs.ColumnLaws.{set_columns-are}
 use Rattle.ps_rows.specs.Planes.{IsSet}
 
@@ -25,25 +25,6 @@ either_at a b x low = column_at-where (λ y. column_at a y || column_at b y) x l
 pub without_at : (a b : List Bool) (x : ℕ) → x < SIDE_LIMIT →
     column_at (columns_without a b) x ≡ (column_at a x && not (column_at b x))
 without_at a b x low = column_at-where (λ y. column_at a y && not (column_at b y)) x low
-
-pub below_at : (count x : ℕ) → x < SIDE_LIMIT → column_at (columns_below count) x ≡ nat_lt x count
-below_at count x low = column_at-where (λ y. nat_lt y count) x low
-
-with_at : (columns : List Bool) (column : ℕ) (on : Bool) (x : ℕ) → x < SIDE_LIMIT →
-    column_at (with_column columns column on) x ≡ (if nat_eq x column then on else column_at columns x)
-with_at columns column on x low = column_at-where (λ y. if nat_eq y column then on else column_at columns y) x low
-
-pub with_same : (columns : List Bool) (column : ℕ) (on : Bool) → column < SIDE_LIMIT →
-    column_at (with_column columns column on) column ≡ on
-with_same columns column on low =
-    with_at columns column on column low ∙ ap (λ (b : Bool).
-    if b then on else column_at columns column) (eq-eqb column column refl)
-
-pub with_other : (columns : List Bool) (column : ℕ) (on : Bool) (other : ℕ) → other < SIDE_LIMIT → other ≢ column →
-    column_at (with_column columns column on) other ≡ column_at columns other
-with_other columns column on other low apart =
-    with_at columns column on other low ∙ ap (λ (b : Bool).
-    if b then on else column_at columns other) (ne_eqb other column apart)
 
 -- a column in which two sets differ, or don't
 pub unlike_at : (a b : List Bool) (x : ℕ) → x < SIDE_LIMIT →

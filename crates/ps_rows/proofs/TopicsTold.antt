@@ -17,9 +17,11 @@ use Rattle.ps_model.specs.board.Grid.{Grid, cell_at}
 use Rattle.ps_model.specs.board.Movement.{is_number}
 use Rattle.ps_model.specs.meaning.Fitting.{same_motion}
 use Rattle.ps_laws.proofs.common.SameThings.{is_number-true}
-use Rattle.ps_board.specs.ColumnSets.{column_at, columns_below, columns_where, columns_without, either_columns, no_columns}
+use Rattle.ps_board.specs.ColumnSets.{column_at, columns_below, columns_where, columns_without, either_columns}
+use Rattle.ps_board.specs.ColumnSets.{no_columns}
 use Rattle.ps_board.proofs.ColumnLaws.{column_at-where}
 use Rattle.ps_match.specs.Topics.{DifferOnlyAbout, HasTopicsOf, HoldAlike, MoveAlike, motion_topic, object_topic}
+use Rattle.ps_match.proofs.TopicSets.{motion_low, object_low}
 use Rattle.ps_rows.specs.PlaneTopics.{AreFiveOfBoth, AreMotionsOfBoth, AreObjectsOfBoth}
 use Rattle.ps_rows.specs.Planes.{row_of}
 use Rattle.ps_rows.specs.RowTests.{IsRowOf, five_rows, held, moved}
@@ -27,12 +29,6 @@ use Rattle.ps_rows.specs.Showing.{AreMotionsShown, AreObjectsShown, cells_shown,
 use Rattle.ps_rows.proofs.Rests.{cells_long}
 use Rattle.ps_rows.proofs.Scans.{beyond_row, moving_row_is, other_row, own_row, resting_row_is}
 use Rattle.ps_rows.proofs.Sets.{either_at, none_at}
-
-pub object_low : (object : ℕ) → object_topic object < SIDE_LIMIT
-object_low object = omega (arith, mod_below object 192 (omega arith))
-
-pub motion_low : (layer : ℕ) → motion_topic layer < SIDE_LIMIT
-motion_low layer = omega (arith, mod_below layer 64 (omega arith))
 
 -- a topic that isn't in a set isn't in one that it has all of
 pub not_before : (topics more : List Bool) → HasTopicsOf topics more → (topic : ℕ) → topic < SIDE_LIMIT →
@@ -243,6 +239,7 @@ pub grids_alike : (table table' : List ℕ) (width width' height height' layers 
     height' ≡ height → layers' ≡ layers → topics ≡ either_columns objects motions →
     DifferOnlyAbout (either_columns objects motions) (grid_shown table width height layers words)
     (grid_shown table width height layers others) →
-    DifferOnlyAbout topics (grid_shown table width height layers words) (grid_shown table' width' height' layers' others)
+    DifferOnlyAbout topics (grid_shown table width height layers words)
+    (grid_shown table' width' height' layers' others)
 grids_alike table table' width width' height height' layers layers' words others topics objects motions same wide high
     deep are differ = rw (same, wide, high, deep, are) differ

@@ -1,5 +1,6 @@
 -- What bytes do, one after the other.
-use Rattle.std.proofs.Common.{◌≡◌, ◌∙◌, inl, inr, ℕ, zero, suc, ◌+◌, ◌<◌, ◌≤◌, ◌-◌, List, [], ◌∷◌, ◌++◌, length, take, drop}
+use Rattle.std.proofs.Common.{◌≡◌, ◌∙◌, inl, inr, ℕ, zero, suc, ◌+◌, ◌<◌, ◌≤◌, ◌-◌, List, [], ◌∷◌, ◌++◌, length, take}
+use Rattle.std.proofs.Common.{drop}
 use Rattle.std.proofs.Common.{get_or, Option, Some, None, refl, sym, subst, ap, append_assoc, append-nil, arith, Result}
 use Rattle.std.proofs.Common.{Ok, Err}
 use Rattle.std.specs.Prelude.{OnOk, IfErr, option_to_list}
@@ -47,17 +48,17 @@ two_up a b c first second = omega arith
 
 -- texts counted one after the other
 pub counted_twice :
-    (before now later : WriterState) (first second whole : List ℕ) (count more : ℕ) → HasCounted before now first count →
-    HasCounted now later second more → whole ≡ first ++ second → HasCounted before later whole (count + more)
+    (before now later : WriterState) (first second whole : List ℕ) (count more : ℕ) →
+    HasCounted before now first count → HasCounted now later second more → whole ≡ first ++ second → HasCounted before later whole (count + more)
 counted_twice before now later first second whole count more one other same =
     let long : length whole ≡ length first + length second = ap length same ∙ length-append first second in
     record {
       more = two_up before.calls now.calls later.calls one.more other.more;
       shorts = two_up before.short_calls now.short_calls later.short_calls one.shorts other.shorts;
-      called = λ some. some_of_both (length first) (length second) (length whole) before.calls now.calls later.calls long
-          some one.called other.called one.more other.more;
-      few = few_of_both before.calls before.short_calls now.calls now.short_calls later.calls later.short_calls count more
-          one.few other.few;
+      called = λ some. some_of_both (length first) (length second) (length whole) before.calls now.calls later.calls
+          long some one.called other.called one.more other.more;
+      few = few_of_both before.calls before.short_calls now.calls now.short_calls later.calls later.short_calls count
+          more one.few other.few;
     }
 
 few_of_more : (calls shorts new_calls new_shorts count more : ℕ) → new_calls + shorts ≤ calls + (count + new_shorts) →

@@ -14,8 +14,8 @@ use Rattle.ps_run.specs.declared.faults.PieceFault.{PieceFault}
 use Rattle.ps_run.specs.declared.faults.PieceFault.TheVariants.{Memory, Write}
 
 -- how a writer counts the calls by which it took a text, which is one of several or more of them, so many: it took back
--- no count; there was a call, if the text has a byte; and there were no more calls than texts, but for one more for each
--- that took less than it was handed
+-- no count; there was a call, if the text has a byte; and there were no more calls than texts, but for one more for
+-- each that took less than it was handed
 pub record HasCounted (before now : WriterState) (text : List ℕ) (count : ℕ) : Type 0 where
   pub more : before.calls ≤ now.calls
   pub shorts : before.short_calls ≤ now.short_calls

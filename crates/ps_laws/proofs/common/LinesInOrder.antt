@@ -141,7 +141,7 @@ here-there text line e = rw e refl
 pub here-not : (text : List ℕ) (line : ℕ) → (line_at text line).is_there ≡ false → here text line ≡ []
 here-not text line e = rw e refl
 
-one_more : (b : Bool) (x : Line) (xs : List Line) → cond b (x ∷ xs) xs ≡ (if b then x ∷ [] else []) ++ xs
+pub one_more : (b : Bool) (x : Line) (xs : List Line) → cond b (x ∷ xs) xs ≡ (if b then x ∷ [] else []) ++ xs
 one_more true x xs = refl
 one_more false x xs = refl
 

@@ -8,7 +8,8 @@ use Rattle.std.proofs.lemmas.Bool.{both_ways}
 use Rattle.ps_model.specs.board.Turns.{Script}
 use Rattle.ps_model.specs.game.Outputs.{output, front}
 use Rattle.ps_model.specs.game.Tellings.{Call, Gives, Fails, ReaderCalls, Unasked, Asked, Told, read, all_bytes}
-use Rattle.ps_model.specs.game.Tellings.{Tells, idle_writes, bytes_of_call, has_failing_call, last_behind, empty_pieces, empty_reads}
+use Rattle.ps_model.specs.game.Tellings.{Tells, idle_writes, bytes_of_call, has_failing_call, last_behind, empty_pieces}
+use Rattle.ps_model.specs.game.Tellings.{empty_reads}
 use Rattle.ps_model.specs.game.Headline.{Answer, Ends, Refuses, WantsMemory, CannotRead, CannotWrite, Answers, IsFront}
 use Rattle.ps_model.specs.game.Headline.{IsCutOff, IsPiece, AsksInTurn, ReadsInTurn, GaveNothing, IsTrueOfText}
 use Rattle.ps_model.specs.game.Headline.{script_of_text, texts_of, text_count}

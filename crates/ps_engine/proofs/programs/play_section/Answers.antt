@@ -14,7 +14,8 @@ returns-in_ok-changed-in-Group-clause-unchanged g c = λ off.
       queue = c.play_group.new.queue;
     } in
     let made : (let r : Result = record { state = after; changed = c.in_ok-changed-in-Group.changed } in r) ≡ group
-    (rules_meaning (g.B.Board.table c.args.board.now) c.as_slice.result.now) before = c.in_ok-changed-in-Group.ensures.group in
+    (rules_meaning (g.B.Board.table c.args.board.now) c.as_slice.result.now) before =
+    c.in_ok-changed-in-Group.ensures.group in
     ap (λ (r : Result). (r.state).grid) made
     ∙ group_kept (rules_meaning (g.B.Board.table c.args.board.now) c.as_slice.result.now) before
     (ap (λ (r : Result). r.changed) (sym made) ∙ off)

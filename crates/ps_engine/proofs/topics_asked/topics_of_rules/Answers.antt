@@ -9,9 +9,11 @@ loop-rule-preserved c =
     let after : List Bool = c.with_rows-topics.result in
     let n : ℕ = c.loop-rule.rule-index in
     let item = c.rule-item.result in
-    let told = before_more (λ rule. HasRows before rule.rows) (λ rule. HasRows after rule.rows) c.args.rules.now n (n + 1)
+    let told = before_more (λ rule. HasRows before rule.rows) (λ rule.
+    HasRows after rule.rows) c.args.rules.now n (n + 1)
     (λ rule. rows_kept before after c.with_rows-topics.ensures.kept rule.rows) c.loop-rule.invariant refl
-    (item_told (λ rule. HasRows after rule.rows) c.args.rules.now n item c.rule-item.is (subst (HasRows after) c.as_slice.ensures c.with_rows-topics.ensures.asked)) in
+    (item_told (λ rule. HasRows after rule.rows) c.args.rules.now n item c.rule-item.is
+    (subst (HasRows after) c.as_slice.ensures c.with_rows-topics.ensures.asked)) in
     told
 
 pub returns : goal.returns

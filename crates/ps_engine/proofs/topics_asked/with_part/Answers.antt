@@ -9,9 +9,11 @@ loop-cell-preserved c =
     let after : List Bool = c.with_mask-topics.result in
     let n : ℕ = c.loop-cell.cell-index in
     let item = c.cell-item.result in
-    let told = before_more (λ cell. HasMask before cell.mask) (λ cell. HasMask after cell.mask) c.args.part.now n (n + 1)
+    let told = before_more (λ cell. HasMask before cell.mask) (λ cell.
+    HasMask after cell.mask) c.args.part.now n (n + 1)
     (λ cell. mask_kept before after c.with_mask-topics.ensures.kept cell.mask) c.loop-cell.invariant.asked refl
-    (item_told (λ cell. HasMask after cell.mask) c.args.part.now n item c.cell-item.is c.with_mask-topics.ensures.asked) in
+    (item_told (λ cell. HasMask after cell.mask) c.args.part.now n item c.cell-item.is
+    c.with_mask-topics.ensures.asked) in
     record {
       kept = λ each low on. c.with_mask-topics.ensures.kept each low (c.loop-cell.invariant.kept each low on);
       asked = told;

@@ -11,7 +11,8 @@ loop-part-preserved c =
     let item = c.part-item.result in
     let told = before_more (HasPart before) (HasPart after) c.args.parts.now n (n + 1)
     (part_kept before after c.with_part-topics.ensures.kept) c.loop-part.invariant.asked refl
-    (item_told (HasPart after) c.args.parts.now n item c.part-item.is (subst (HasPart after) c.as_slice.ensures c.with_part-topics.ensures.asked)) in
+    (item_told (HasPart after) c.args.parts.now n item c.part-item.is
+    (subst (HasPart after) c.as_slice.ensures c.with_part-topics.ensures.asked)) in
     record {
       kept = λ each low on. c.with_part-topics.ensures.kept each low (c.loop-part.invariant.kept each low on);
       asked = told;

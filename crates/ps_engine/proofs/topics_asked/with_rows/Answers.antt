@@ -9,9 +9,11 @@ loop-row-preserved c =
     let after : List Bool = c.with_parts-topics.result in
     let n : ℕ = c.loop-row.row-index in
     let item = c.row-item.result in
-    let told = before_more (λ row. HasParts before row.parts) (λ row. HasParts after row.parts) c.args.rows.now n (n + 1)
+    let told = before_more (λ row. HasParts before row.parts) (λ row.
+    HasParts after row.parts) c.args.rows.now n (n + 1)
     (λ row. parts_kept before after c.with_parts-topics.ensures.kept row.parts) c.loop-row.invariant.asked refl
-    (item_told (λ row. HasParts after row.parts) c.args.rows.now n item c.row-item.is (subst (HasParts after) c.as_slice.ensures c.with_parts-topics.ensures.asked)) in
+    (item_told (λ row. HasParts after row.parts) c.args.rows.now n item c.row-item.is
+    (subst (HasParts after) c.as_slice.ensures c.with_parts-topics.ensures.asked)) in
     record {
       kept = λ each low on. c.with_parts-topics.ensures.kept each low (c.loop-row.invariant.kept each low on);
       asked = told;

@@ -25,7 +25,8 @@ returns-then-index-clause-idle g c = λ section at e.
     let apart : set_columns (both_columns watch.topics c.args.stirred) ≡ [] =
     subst (λ (w : SectionWatch). set_columns (both_columns w.topics c.args.stirred) ≡ []) first
     (c.is_apart.ensures c.if-not-is_apart.false) in
-    known_idle (λ board. (g.B.Board.grid board, g.B.Board.table board)) inside.sections.now inside.watches.items n section
+    known_idle (λ board. (g.B.Board.grid board, g.B.Board.table board)) inside.sections.now inside.watches.items n
+    section
     watch c.args.stirred (g.B.Board.grid c.args.board.now) (g.B.Board.table c.args.board.now)
     c.recall_shape.ensures.shape here there apart inside.board
     (c.is_none.ensures ∙ ap not c.if-is_none.false) c.self.invariant.1
@@ -39,7 +40,8 @@ invariant_of-self-2 g c =
     let section : CompiledSection = c.index-sections-number.result in
     let watch : SectionWatch = c.index.result.now in
     let here : slice_get inside.sections.now n ≡ Some section =
-    section_there inside.sections.now c.args.self.now.sections n section (ap (λ (w : Watching). w.sections) c.self.view_is) c.requires.number
+    section_there inside.sections.now c.args.self.now.sections n section
+    (ap (λ (w : Watching). w.sections) c.self.view_is) c.requires.number
     c.index-sections-number.is in
     let there : slice_get inside.watches.items n ≡ Some watch =
     watch_there inside.sections.now inside.watches.items n section watch here c.self.invariant.0 c.index.ensures in (

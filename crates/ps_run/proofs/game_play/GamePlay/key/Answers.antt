@@ -26,4 +26,5 @@ returns c =
     c.key.new.output (Err stop)) c.in-Err-Elsewhere.field-0-is c.in-Err-Elsewhere.ensures in
     turned_as _ _ _ _ _ _ _ c.self.view_is
     (turned_in c.self.inside.game c.self.inside.plain.now c.self.inside.late.now _ _ c.args.key _ _ _ c.self.invariant.0
-    (turned_there _ _ _ _ _ _ _ c.in-Err-Elsewhere.entry _ _ (sym c.self.invariant.0) keyed c.in_ok-go_on.ensures.begun))
+    (turned_there _ _ _ _ _ _ _ c.in-Err-Elsewhere.entry _ _ (sym c.self.invariant.0) keyed
+        c.in_ok-go_on.ensures.begun))
