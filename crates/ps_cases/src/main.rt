@@ -6,8 +6,6 @@
 
 mod difference;
 mod playing;
-#[cfg(test)]
-mod tests;
 mod verdict;
 
 use playing::first_complaint;

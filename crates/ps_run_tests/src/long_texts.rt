@@ -1,9 +1,10 @@
-//! Texts that are made here: those that are cut off, the longest ones, and long chains of names; and what is said of a
-//! game that is played otherwise.
+//! Texts that are made here: those that are cut off, the longest ones, and long chains of names.
 
-use crate::playing::first_complaint;
-use crate::verdict::{Verdict, judge};
-use ps_model::{Fault, FaultKind, TEXT_LIMIT};
+use crate::games::{PUSHING, repeated};
+use ps_check::first_fault;
+use ps_devices::{MemoryReader, MemoryWriter};
+use ps_model::{CALL_LIMIT, Ending, Fault, FaultKind, TEXT_LIMIT};
+use ps_run::run;
 use std::alloc::{AllocError, Global};
 use std::process::Abort;
 use std::test::Fail;
@@ -14,12 +15,13 @@ const OBJECTS: &str =
     Target O\nblue\nA\nred\nB\npink\nC\ngray\nD\nblack\nLEGEND\n";
 
 /// Its layers, a rule that pushes, a win condition and a level of one row.
-const REST: &str = "COLLISIONLAYERS\nBackground\nTarget\nPlayer, Wall, Crate\nA B C D\nRULES\n\
-    [ > Player | Crate ] -> [ > Player | > Crate ]\nWINCONDITIONS\nAll Target on Crate\nLEVELS\n\
-    #P*O#\n";
+const REST: &str =
+    "COLLISIONLAYERS\nBackground\nTarget\nPlayer, Wall, Crate\nA B C D\nRULES\n\
+    [ > Player | Crate ] -> [ > Player | > Crate ]\nWINCONDITIONS\nAll Target on Crate\nLEVELS\n#P*O#\n";
 
-fn refused(kind: FaultKind, line: u32) -> Verdict {
-    Verdict::Refused(Fault { kind, line })
+/// A fault, as the first of a text.
+fn found(kind: FaultKind, line: u32) -> Option<Fault> {
+    Some(Fault { kind, line })
 }
 
 /// How many lines a text has; an empty text has one, and a line feed at the end begins no further one.
@@ -34,36 +36,27 @@ fn lines_of(text: &[u8]) -> u32 {
 }
 
 #[test]
-fn reads_a_text_cut_behind_each_byte(rt: HostRuntime) -> Result<(), Fail> {
-    let text = format!(in rt.alloc(); "{OBJECTS}@ = Crate and Target\nAT = A or Target\n{REST}")?;
-    let bytes = text.as_bytes();
-    assert_eq!(rt; bytes.len(), 327);
-    for end in 0..328usize {
-        let front = &bytes[..end.min(bytes.len())];
+fn reads_a_text_cut_behind_each_byte(rt: HostRuntime) {
+    assert_eq!(rt; PUSHING.len(), 326);
+    for end in 0..327usize {
+        let front = &PUSHING[..end.min(PUSHING.len())];
         let wanted = if end < 320 {
-            refused(FaultKind::NoSection, lines_of(front))
+            found(FaultKind::NoSection, lines_of(front))
         } else if end < 322 {
-            refused(FaultKind::NoLevel, 33)
+            found(FaultKind::NoLevel, 33)
         } else {
-            Verdict::Accepted
+            None
         };
-        assert_eq!(rt; judge(rt.alloc(), front), Ok(wanted), "cut behind {end}");
+        assert_eq!(rt; first_fault(rt.alloc(), front), Ok(wanted), "cut behind {end}");
     }
-    Ok(())
 }
 
 #[test]
 fn refuses_a_text_by_its_length(rt: HostRuntime) -> Result<(), Fail> {
     let mut text = Vec::from_elem(rt.alloc(), b'(', TEXT_LIMIT)?;
-    assert_eq!(rt;
-        judge(rt.alloc(), &text),
-        Ok(refused(FaultKind::NoSection, 1))
-    );
+    assert_eq!(rt; first_fault(rt.alloc(), &text), Ok(found(FaultKind::NoSection, 1)));
     text.push(b'(')?;
-    assert_eq!(rt;
-        judge(rt.alloc(), &text),
-        Ok(refused(FaultKind::TooLong, 1))
-    );
+    assert_eq!(rt; first_fault(rt.alloc(), &text), Ok(found(FaultKind::TooLong, 1)));
     Ok(())
 }
 
@@ -74,20 +67,14 @@ const LAYERS: &str =
 #[test]
 fn refuses_the_longest_texts_by_their_lines(rt: HostRuntime) -> Result<(), Fail> {
     let feeds = Vec::from_elem(rt.alloc(), b'\n', TEXT_LIMIT)?;
-    assert_eq!(rt;
-        judge(rt.alloc(), &feeds),
-        Ok(refused(FaultKind::NoSection, 1048576))
-    );
+    assert_eq!(rt; first_fault(rt.alloc(), &feeds), Ok(found(FaultKind::NoSection, 1048576)));
     let front = format!(in rt.alloc(); "{OBJECTS}{LAYERS}[ ")?;
     let back = " ] -> [ ]\nLEVELS\nP\n";
-    let others = front.len().saturating_add(back.len());
-    let marks = ">".repeat(rt.alloc(), TEXT_LIMIT.saturating_sub(others))?;
-    let text = format!(in rt.alloc(); "{front}{marks}{back}")?;
+    let others = front.as_bytes().len().saturating_add(back.as_bytes().len());
+    let text = repeated(&rt, front.as_str(), ">", TEXT_LIMIT.saturating_sub(others), back);
+    let text = text.as_bytes();
     assert_eq!(rt; text.len(), TEXT_LIMIT);
-    assert_eq!(rt;
-        judge(rt.alloc(), text.as_bytes()),
-        Ok(refused(FaultKind::UnknownWord, 31))
-    );
+    assert_eq!(rt; first_fault(rt.alloc(), text), Ok(found(FaultKind::UnknownWord, 31)));
     Ok(())
 }
 
@@ -111,7 +98,7 @@ fn chain(alloc: Global, length: u32, last: &str) -> Result<String, AllocError> {
 #[test]
 fn reads_a_chain_of_ten_thousand_synonyms(rt: HostRuntime) -> Result<(), Fail> {
     let text = chain(rt.alloc(), 10000, "A")?;
-    assert_eq!(rt; judge(rt.alloc(), text.as_bytes()), Ok(Verdict::Accepted));
+    assert_eq!(rt; first_fault(rt.alloc(), text.as_bytes()), Ok(None));
     for (last, line) in [
         ("S1", 22),
         ("S5000", 5021),
@@ -119,10 +106,8 @@ fn reads_a_chain_of_ten_thousand_synonyms(rt: HostRuntime) -> Result<(), Fail> {
         ("S10000", 10021),
     ] {
         let circle = chain(rt.alloc(), 10000, last)?;
-        assert_eq!(rt;
-            judge(rt.alloc(), circle.as_bytes()),
-            Ok(refused(FaultKind::Cycle, line))
-        );
+        let wanted = found(FaultKind::Cycle, line);
+        assert_eq!(rt; first_fault(rt.alloc(), circle.as_bytes()), Ok(wanted));
     }
     Ok(())
 }
@@ -170,13 +155,17 @@ fn expect_taken(
         wanted.push_str("\n\n").expect(rt, "memory for a frame");
     }
     wanted.push_str("* end of keys\n").expect(rt, "memory");
-    let complaint = first_complaint(
-        rt.alloc(),
-        text.as_bytes(),
-        keys.as_bytes(),
-        wanted.as_bytes(),
-    );
-    assert!(rt; matches!(complaint, Ok(None)));
+    expect_written(rt, text.as_str(), keys, wanted.as_str());
+}
+
+/// Plays a game to the end of its keys.
+fn expect_written(rt: &(impl Abort + AllocGlobal), text: &str, keys: &str, wanted: &str) {
+    let output = MemoryWriter::new(rt.alloc(), 1000, CALL_LIMIT);
+    let mut output = output.expect(rt, "memory for the output");
+    let mut reader = MemoryReader::new(keys.as_bytes(), 1, None);
+    let answer = run(rt.alloc(), text.as_bytes(), &mut reader, &mut output);
+    assert_eq!(rt; answer, Ok(Ending::EndOfKeys));
+    assert_eq!(rt; output.bytes(), wanted.as_bytes());
 }
 
 #[test]
@@ -189,10 +178,8 @@ fn plays_by_long_chains_of_names(rt: HostRuntime) -> Result<(), Fail> {
         "xw",
         &["PBAB", "P.AB", "P.A."],
     );
-    let any = turned_round(
-        rt.alloc(),
-        synonyms(rt.alloc(), 10001, "B or C or B")?.as_str(),
-    )?;
+    let any = synonyms(rt.alloc(), 10001, "B or C or B")?;
+    let any = turned_round(rt.alloc(), any.as_str())?;
     expect_taken(
         &rt,
         any.as_str(),
@@ -208,36 +195,5 @@ fn plays_by_long_chains_of_names(rt: HostRuntime) -> Result<(), Fail> {
         "xwxw",
         &["PABAB", "PA.AB", "PA.A.", "P..A.", "P...."],
     );
-    Ok(())
-}
-
-#[test]
-fn tells_where_a_game_is_played_otherwise(rt: HostRuntime) -> Result<(), Fail> {
-    let text = format!(in rt.alloc(); "{OBJECTS}@ = Crate and Target\n{REST}")?;
-    let cases = [
-        (
-            "= T\n# level 1\n#P*O#\n\n#P.@#\n\n* level 1 done\n* the end\n",
-            "line 5 must be \"#P.@#\\n\", and is \"#.P@#\\n\"",
-        ),
-        (
-            "= T\n# level 1\n#P*O#\n\n#.P@#\n\n* level 1 done\n",
-            "line 8 must be the end, and is \"* the end\\n\"",
-        ),
-        (
-            "= T\n# level 1\n#P*O#\n\n#.P@#\n\n* level 1 done\n* the end\n* quit",
-            "line 9 must be \"* quit\", and is the end",
-        ),
-        (
-            "= T\n# level 1\n#P*O#\n\n#.P@#\n\n* level 1 done\n* the end",
-            "line 8 must be \"* the end\", and is \"* the end\\n\"",
-        ),
-    ];
-    for (wanted, difference) in cases {
-        let told = format!(in rt.alloc(); "played otherwise: {difference}")?;
-        match first_complaint(rt.alloc(), text.as_bytes(), b"d", wanted.as_bytes()) {
-            Ok(Some(said)) => assert_eq!(rt; said.as_str(), told.as_str()),
-            _ => panic!(rt; "nothing is said of an output that differs"),
-        }
-    }
     Ok(())
 }
