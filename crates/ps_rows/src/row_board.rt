@@ -364,9 +364,11 @@ impl<W: ColumnWords> Board for RowBoard<W> {
         self.all_columns.both(self.object_row(&sought, row))
     }
 
+    /// The last layer is looked at first: what moves stands there in most games, so that boards which differ are told
+    /// apart early.
     fn same(&self, other: &RowBoard<W>) -> bool {
-        for layer in 0..self.layers {
-            if !self.same_layer(other, layer) {
+        for step in 0..self.layers {
+            if !self.same_layer(other, self.layers - 1 - step) {
                 return false;
             }
         }

@@ -20,16 +20,19 @@ pub enum BoardStep<B, S> {
     Whole(B),
 }
 
+/// A step between boards of rows. A board that goes from hand to hand is behind a pointer.
+type RowStep<W> = BoardStep<Box<RowBoard<W>>, Columns<W>>;
+
 /// The boards of an undo history. The latest one is there as a whole, and each other one by the step that leads to it
 /// from the next, so that a move which changes few rows costs few words.
 #[derive(Drop)]
 pub struct RowHistory<W: ColumnWords> {
     alloc: Global,
-    latest: Option<RowBoard<W>>,
+    latest: Option<Box<RowBoard<W>>>,
     /// The steps back, that to the oldest board first.
-    steps: HeapCircularBuffer<BoardStep<RowBoard<W>, Columns<W>>>,
+    steps: HeapCircularBuffer<RowStep<W>>,
     /// The step from the latest board to the one that is ready to enter.
-    ready: Option<BoardStep<RowBoard<W>, Columns<W>>>,
+    ready: Option<RowStep<W>>,
 }
 
 impl<W: ColumnWords> Model for RowHistory<W> {
@@ -41,16 +44,31 @@ impl<W: ColumnWords> Model for RowHistory<W> {
 
     ghost view = { λ h. record {
       boards = boards_of h.latest h.steps.items
-          (λ b. kept b.members.table.items b.width b.planes.height b.layers b.planes.words.items);
+          (λ x. let b = x.value in kept b.members.table.items b.width b.planes.height b.layers b.planes.words.items);
       ready = ready_of h.latest h.ready
-          (λ b. kept b.members.table.items b.width b.planes.height b.layers b.planes.words.items);
+          (λ x. let b = x.value in kept b.members.table.items b.width b.planes.height b.layers b.planes.words.items);
     } };
 
     ghost invariant = { λ h. (h.steps.capacity ≡ HISTORY_LIMIT - 1)
         × (AreBehind h.latest h.steps.items
-        (λ b. kept b.members.table.items b.width b.planes.height b.layers b.planes.words.items)
+        (λ x. let b = x.value in kept b.members.table.items b.width b.planes.height b.layers b.planes.words.items)
         × IsReady h.latest h.ready
-        (λ b. kept b.members.table.items b.width b.planes.height b.layers b.planes.words.items)) };
+        (λ x. let b = x.value in kept b.members.table.items b.width b.planes.height b.layers b.planes.words.items)) };
+}
+
+/// A copy of a board, behind a pointer.
+///
+/// # Errors
+///
+/// `Memory`.
+fn copied<W: ColumnWords>(alloc: Global, board: &RowBoard<W>) -> Result<Box<RowBoard<W>>, Memory>
+    ensures { let b = board.now in IfOk result (λ copy. let c = copy.value in
+        shown (kept c.members.table.items c.width c.planes.height c.layers c.planes.words.items)
+        ≡ shown (kept b.members.table.items b.width b.planes.height b.layers b.planes.words.items)) }
+{
+    let copy = board.try_copy(alloc)?;
+    let boxed = Box::new(alloc, copy)?;
+    Ok(boxed)
 }
 
 /// The step from a board to another one.
@@ -62,10 +80,10 @@ fn step_to<W: ColumnWords>(
     alloc: Global,
     board: &RowBoard<W>,
     other: &RowBoard<W>,
-) -> Result<BoardStep<RowBoard<W>, Columns<W>>, Memory>
+) -> Result<RowStep<W>, Memory>
     ensures shown { let b = board.now in let o = other.now in IfOk result (λ step.
         shown (stepped (kept b.members.table.items b.width b.planes.height b.layers b.planes.words.items) step
-        (λ b. kept b.members.table.items b.width b.planes.height b.layers b.planes.words.items))
+        (λ x. let b = x.value in kept b.members.table.items b.width b.planes.height b.layers b.planes.words.items))
         ≡ shown (kept o.members.table.items o.width o.planes.height o.layers o.planes.words.items)) }
     ensures on { let b = board.now in IfOk result (λ step.
         LeadsOn (kept b.members.table.items b.width b.planes.height b.layers b.planes.words.items) step) }
@@ -77,7 +95,7 @@ fn step_to<W: ColumnWords>(
             return Ok(BoardStep::Rows(rows));
         }
     }
-    let copy = other.try_copy(alloc)?;
+    let copy = copied(alloc, other)?;
     Ok(BoardStep::Whole(copy))
 }
 
@@ -93,19 +111,19 @@ fn first_board<B: Drop, S: Drop>(step: BoardStep<B, S>) -> Option<B>
 
 /// The board to which a step leads, and the step back.
 fn taken<W: ColumnWords>(
-    board: RowBoard<W>,
-    step: BoardStep<RowBoard<W>, Columns<W>>,
-) -> (RowBoard<W>, BoardStep<RowBoard<W>, Columns<W>>)
-    requires { LeadsOn (kept board.members.table.items board.width board.planes.height board.layers
-        board.planes.words.items) step }
-    ensures forth { let b = board in let r = result.0 in
+    board: Box<RowBoard<W>>,
+    step: RowStep<W>,
+) -> (Box<RowBoard<W>>, RowStep<W>)
+    requires { let b = board.value in
+        LeadsOn (kept b.members.table.items b.width b.planes.height b.layers b.planes.words.items) step }
+    ensures forth { let b = board.value in let r = result.0.value in
         kept r.members.table.items r.width r.planes.height r.layers r.planes.words.items
         ≡ stepped (kept b.members.table.items b.width b.planes.height b.layers b.planes.words.items) step
-        (λ b. kept b.members.table.items b.width b.planes.height b.layers b.planes.words.items) }
-    ensures back { let b = board in let r = result.0 in
+        (λ x. let b = x.value in kept b.members.table.items b.width b.planes.height b.layers b.planes.words.items) }
+    ensures back { let b = board.value in let r = result.0.value in
         LeadsBack (kept b.members.table.items b.width b.planes.height b.layers b.planes.words.items) step
         → stepped (kept r.members.table.items r.width r.planes.height r.layers r.planes.words.items) result.1
-        (λ b. kept b.members.table.items b.width b.planes.height b.layers b.planes.words.items)
+        (λ x. let b = x.value in kept b.members.table.items b.width b.planes.height b.layers b.planes.words.items)
         ≡ kept b.members.table.items b.width b.planes.height b.layers b.planes.words.items }
 {
     match step {
@@ -136,13 +154,13 @@ impl<W: ColumnWords> History<RowBoard<W>> for RowHistory<W> {
     fn latest(&self) -> Option<&RowBoard<W>> {
         match &self.latest {
             None => None,
-            Some(board) => Some(board),
+            Some(board) => Some(&**board),
         }
     }
 
     fn make_ready(&mut self, board: &RowBoard<W>) -> Result<(), Memory> {
         let step = match &self.latest {
-            None => BoardStep::Whole(board.try_copy(self.alloc)?),
+            None => BoardStep::Whole(copied(self.alloc, board)?),
             Some(latest) => step_to(self.alloc, latest, board)?,
         };
         self.ready = Some(step);

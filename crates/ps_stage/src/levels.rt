@@ -32,9 +32,9 @@ use std::rc::Rc;
 #[derive(Drop)]
 pub struct PlayedLevel<B: Board> {
     entry: EntryNumber,
-    board: B,
-    spare: Option<B>,
-    restart_board: Rc<B, Global>,
+    board: Box<B>,
+    spare: Option<Box<B>>,
+    restart_board: Rc<Box<B>, Global>,
     room: Room,
 }
 
@@ -46,15 +46,15 @@ impl<B: Board> Model for PlayedLevel<B> {
 
     ghost view = { λ l. record {
       entry = l.entry;
-      table = B.table l.board;
-      board = B.grid l.board;
-      restart_board = B.grid l.restart_board.value;
+      table = B.table l.board.value;
+      board = B.grid l.board.value;
+      restart_board = B.grid l.restart_board.value.value;
       room = l.room;
     } };
 
-    ghost invariant = { λ l. IfSome l.spare (λ spare. B.grid spare ≡ B.grid l.board)
-        × (IfSome l.spare (λ spare. B.table spare ≡ B.table l.board)
-        × (B.table l.restart_board.value ≡ B.table l.board)) };
+    ghost invariant = { λ l. IfSome l.spare (λ spare. B.grid spare.value ≡ B.grid l.board.value)
+        × (IfSome l.spare (λ spare. B.table spare.value ≡ B.table l.board.value)
+        × (B.table l.restart_board.value.value ≡ B.table l.board.value)) };
 }
 
 /// Which done turns count. One that doesn't is as if not run.
@@ -128,12 +128,12 @@ fn lent<B: Board>(
     alloc: Global,
     spares: &mut SpareBoards<B>,
     board: &B,
-    spare: Option<B>,
-) -> Result<B, Memory>
-    requires grid { IfSome spare (λ spare. B.grid spare ≡ B.grid board.now) }
-    requires table { IfSome spare (λ spare. B.table spare ≡ B.table board.now) }
-    ensures grid { IfOk result (λ lent. B.grid lent ≡ B.grid board.now) }
-    ensures table { IfOk result (λ lent. B.table lent ≡ B.table board.now) }
+    spare: Option<Box<B>>,
+) -> Result<Box<B>, Memory>
+    requires grid { IfSome spare (λ spare. B.grid spare.value ≡ B.grid board.now) }
+    requires table { IfSome spare (λ spare. B.table spare.value ≡ B.table board.now) }
+    ensures grid { IfOk result (λ lent. B.grid lent.value ≡ B.grid board.now) }
+    ensures table { IfOk result (λ lent. B.table lent.value ≡ B.table board.now) }
 {
     let Some(spare) = spare else {
         return spares.copy_of(alloc, board);
@@ -150,10 +150,10 @@ fn boards_beside<B: Board>(
     alloc: Global,
     spares: &mut SpareBoards<B>,
     board: &B,
-    restart_board: &Rc<B, Global>,
-) -> Result<(B, Rc<B, Global>), Memory>
-    ensures spare { IfOk result (λ both. B.grid both.0 ≡ B.grid board.now) }
-    ensures spare_table { IfOk result (λ both. B.table both.0 ≡ B.table board.now) }
+    restart_board: &Rc<Box<B>, Global>,
+) -> Result<(Box<B>, Rc<Box<B>, Global>), Memory>
+    ensures spare { IfOk result (λ both. B.grid both.0.value ≡ B.grid board.now) }
+    ensures spare_table { IfOk result (λ both. B.table both.0.value ≡ B.table board.now) }
     ensures restart_board { IfOk result (λ both. both.1.value ≡ restart_board.now.value) }
 {
     let restart_board = restart_board.clone()?;
@@ -171,14 +171,14 @@ fn level_of<B: Board>(
     spares: &mut SpareBoards<B>,
     entry: EntryNumber,
     board: &B,
-    restart_board: &Rc<B, Global>,
+    restart_board: &Rc<Box<B>, Global>,
     room: Room,
 ) -> Result<PlayedLevel<B>, Memory>
-    requires { B.table restart_board.now.value ≡ B.table board.now }
+    requires { B.table restart_board.now.value.value ≡ B.table board.now }
     ensures entry { IfOk result (λ level. level.entry ≡ entry) }
     ensures table { IfOk result (λ level. level.table ≡ B.table board.now) }
     ensures board { IfOk result (λ level. level.board ≡ B.grid board.now) }
-    ensures restart_board { IfOk result (λ level. level.restart_board ≡ B.grid restart_board.now.value) }
+    ensures restart_board { IfOk result (λ level. level.restart_board ≡ B.grid restart_board.now.value.value) }
     ensures room { IfOk result (λ level. level.room ≡ room) }
 {
     let copy = spares.copy_of(alloc, board)?;
@@ -207,13 +207,13 @@ fn restart_board_behind<B: Board>(
     alloc: Global,
     spares: &mut SpareBoards<B>,
     board: &B,
-    restart_board: &Rc<B, Global>,
+    restart_board: &Rc<Box<B>, Global>,
     done: &DoneTurn,
-) -> Result<Rc<B, Global>, Memory>
-    requires { B.table restart_board.now.value ≡ B.table board.now }
-    ensures grid { IfOk result (λ next. B.grid next.value
-        ≡ (if done.now.checkpoint then B.grid board.now else B.grid restart_board.now.value)) }
-    ensures table { IfOk result (λ next. B.table next.value ≡ B.table board.now) }
+) -> Result<Rc<Box<B>, Global>, Memory>
+    requires { B.table restart_board.now.value.value ≡ B.table board.now }
+    ensures grid { IfOk result (λ next. B.grid next.value.value
+        ≡ (if done.now.checkpoint then B.grid board.now else B.grid restart_board.now.value.value)) }
+    ensures table { IfOk result (λ next. B.table next.value.value ≡ B.table board.now) }
 {
     if !done.checkpoint {
         let same = restart_board.clone()?;
@@ -234,15 +234,15 @@ fn boards_behind<B: Board>(
     alloc: Global,
     spares: &mut SpareBoards<B>,
     board: &B,
-    restart_board: &Rc<B, Global>,
+    restart_board: &Rc<Box<B>, Global>,
     done: &DoneTurn,
-) -> Result<(B, Rc<B, Global>), Memory>
-    requires { B.table restart_board.now.value ≡ B.table board.now }
-    ensures spare { IfOk result (λ both. B.grid both.0 ≡ B.grid board.now) }
-    ensures spare_table { IfOk result (λ both. B.table both.0 ≡ B.table board.now) }
-    ensures grid { IfOk result (λ both. B.grid both.1.value
-        ≡ (if done.now.checkpoint then B.grid board.now else B.grid restart_board.now.value)) }
-    ensures table { IfOk result (λ both. B.table both.1.value ≡ B.table board.now) }
+) -> Result<(Box<B>, Rc<Box<B>, Global>), Memory>
+    requires { B.table restart_board.now.value.value ≡ B.table board.now }
+    ensures spare { IfOk result (λ both. B.grid both.0.value ≡ B.grid board.now) }
+    ensures spare_table { IfOk result (λ both. B.table both.0.value ≡ B.table board.now) }
+    ensures grid { IfOk result (λ both. B.grid both.1.value.value
+        ≡ (if done.now.checkpoint then B.grid board.now else B.grid restart_board.now.value.value)) }
+    ensures table { IfOk result (λ both. B.table both.1.value.value ≡ B.table board.now) }
 {
     let restart_board = restart_board_behind(alloc, spares, board, restart_board, done)?;
     let spare = spares.copy_of(alloc, board)?;
@@ -271,8 +271,9 @@ impl<B: Board> PlayedLevel<B> {
         ensures room { IfOk result (λ played. played.room ≡ first_room) }
     {
         let board: B = load(alloc, names, level)?;
-        let spare = spares.copy_of(alloc, &board)?;
-        let copy = spares.copy_of(alloc, &board)?;
+        let board = Box::new(alloc, board)?;
+        let spare = spares.copy_of(alloc, &*board)?;
+        let copy = spares.copy_of(alloc, &*board)?;
         let restart_board = Rc::new(alloc, copy)?;
         Ok(PlayedLevel {
             entry,
@@ -299,7 +300,7 @@ impl<B: Board> PlayedLevel<B> {
             alloc,
             spares,
             self.entry.copied(),
-            &self.board,
+            &*self.board,
             &self.restart_board,
             self.room,
         )
@@ -350,7 +351,7 @@ impl<B: Board> PlayedLevel<B> {
         ensures restart_board { IfOk result (λ copy. copy.restart_board ≡ self.now.restart_board) }
         ensures room { IfOk result (λ copy. copy.room ≡ self.now.room) }
     {
-        self.with_board(alloc, spares, &self.restart_board, self.room)
+        self.with_board(alloc, spares, &**self.restart_board, self.room)
     }
 
     /// The place of its entry.
@@ -365,7 +366,7 @@ impl<B: Board> PlayedLevel<B> {
         ensures grid { B.grid result.now ≡ self.now.board }
         ensures table { B.table result.now ≡ self.now.table }
     {
-        &self.board
+        &*self.board
     }
 
     /// The room that the last frame showed.
@@ -379,7 +380,7 @@ impl<B: Board> PlayedLevel<B> {
     pub(crate) fn see(&mut self, game: &SessionGame<'_>)
         ensures { self.new ≡ seen_level game.now self.old }
     {
-        self.room = game.room_after(&self.board, self.room);
+        self.room = game.room_after(&*self.board, self.room);
     }
 
     /// Its board, and the one for turns, are there to be used again.
@@ -413,8 +414,8 @@ impl<B: Board> PlayedLevel<B> {
         ensures plain { R.meant rules.new.plain ≡ R.meant rules.old.plain }
         ensures late { R.meant rules.new.late ≡ R.meant rules.old.late }
     {
-        let mut spare = lent(alloc, spares, &self.board, self.spare.take())?;
-        let turned = match run_turn(game, rules, input, &self.board, &mut spare) {
+        let mut spare = lent(alloc, spares, &*self.board, self.spare.take())?;
+        let turned = match run_turn(game, rules, input, &*self.board, &mut *spare) {
             Ok(turned) => turned,
             Err(Memory) => {
                 self.spare = Some(spare);
@@ -426,17 +427,17 @@ impl<B: Board> PlayedLevel<B> {
             return Ok(turned);
         };
         if !counting.counts(done) {
-            self.board.copy_into(&mut spare);
+            self.board.copy_into(&mut *spare);
             self.spare = Some(spare);
             return Ok(turned);
         }
         mem::swap(&mut self.board, &mut spare);
-        self.board.copy_into(&mut spare);
+        self.board.copy_into(&mut *spare);
         self.spare = Some(spare);
         self.restart_board = restart_board_behind(
             alloc,
             spares,
-            &self.board,
+            &*self.board,
             &self.restart_board,
             done,
         )?;
@@ -467,8 +468,8 @@ impl<B: Board> PlayedLevel<B> {
         ensures plain { R.meant rules.new.plain ≡ R.meant rules.old.plain }
         ensures late { R.meant rules.new.late ≡ R.meant rules.old.late }
     {
-        let mut spare = lent(alloc, spares, &self.board, self.spare.take())?;
-        let done = match run_turn(game, rules, Some(input), &self.board, &mut spare) {
+        let mut spare = lent(alloc, spares, &*self.board, self.spare.take())?;
+        let done = match run_turn(game, rules, Some(input), &*self.board, &mut *spare) {
             Ok(Turned::Done(done)) => done,
             Ok(Turned::Blocked(message)) => {
                 self.spare = Some(spare);
@@ -483,7 +484,7 @@ impl<B: Board> PlayedLevel<B> {
                 return Err(Memory);
             }
         };
-        match boards_behind(alloc, spares, &spare, &self.restart_board, &done) {
+        match boards_behind(alloc, spares, &*spare, &self.restart_board, &done) {
             Ok((copy, restart_board)) => {
                 let next = PlayedLevel {
                     entry: self.entry.copied(),
@@ -495,7 +496,7 @@ impl<B: Board> PlayedLevel<B> {
                 Ok(Tried::Done(next, done))
             }
             Err(Memory) => {
-                self.board.copy_into(&mut spare);
+                self.board.copy_into(&mut *spare);
                 self.spare = Some(spare);
                 Err(Memory)
             }

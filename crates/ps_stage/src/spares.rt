@@ -10,19 +10,19 @@ use std::alloc::Global;
 /// size and the room for it, and only else takes memory.
 #[derive(Drop)]
 pub struct SpareBoards<B: Board> {
-    first: Option<B>,
-    second: Option<B>,
+    first: Option<Box<B>>,
+    second: Option<Box<B>>,
 }
 
 /// Takes a board away, if it has the same size, as many layers and the same room as another one.
-fn taken_if_alike<B: Board>(place: &mut Option<B>, board: &B) -> Option<B>
-    ensures width { IfSome result (λ spare. (B.grid spare).width ≡ (B.grid board.now).width) }
-    ensures height { IfSome result (λ spare. (B.grid spare).height ≡ (B.grid board.now).height) }
-    ensures layers { IfSome result (λ spare. (B.grid spare).layers ≡ (B.grid board.now).layers) }
-    ensures table { IfSome result (λ spare. B.table spare ≡ B.table board.now) }
+fn taken_if_alike<B: Board>(place: &mut Option<Box<B>>, board: &B) -> Option<Box<B>>
+    ensures width { IfSome result (λ spare. (B.grid spare.value).width ≡ (B.grid board.now).width) }
+    ensures height { IfSome result (λ spare. (B.grid spare.value).height ≡ (B.grid board.now).height) }
+    ensures layers { IfSome result (λ spare. (B.grid spare.value).layers ≡ (B.grid board.now).layers) }
+    ensures table { IfSome result (λ spare. B.table spare.value ≡ B.table board.now) }
 {
     let spare = place.take()?;
-    if board.is_alike(&spare) {
+    if board.is_alike(&*spare) {
         return Some(spare);
     }
     *place = Some(spare);
@@ -30,11 +30,11 @@ fn taken_if_alike<B: Board>(place: &mut Option<B>, board: &B) -> Option<B>
 }
 
 /// Puts a board in the place of none, or of one that isn't alike; gives it back, where one that is alike has the place.
-fn given_back<B: Board>(place: &mut Option<B>, board: B) -> Option<B>
+fn given_back<B: Board>(place: &mut Option<Box<B>>, board: Box<B>) -> Option<Box<B>>
     ensures { IsSome place.new }
 {
     if let Some(other) = place {
-        if board.is_alike(other) {
+        if board.is_alike(&**other) {
             return Some(board);
         }
     }
@@ -52,11 +52,11 @@ impl<B: Board> SpareBoards<B> {
     }
 
     /// Takes away one of the boards that has the same size, as many layers and the same room as another one.
-    fn taken(&mut self, board: &B) -> Option<B>
-        ensures width { IfSome result (λ spare. (B.grid spare).width ≡ (B.grid board.now).width) }
-        ensures height { IfSome result (λ spare. (B.grid spare).height ≡ (B.grid board.now).height) }
-        ensures layers { IfSome result (λ spare. (B.grid spare).layers ≡ (B.grid board.now).layers) }
-        ensures table { IfSome result (λ spare. B.table spare ≡ B.table board.now) }
+    fn taken(&mut self, board: &B) -> Option<Box<B>>
+        ensures width { IfSome result (λ spare. (B.grid spare.value).width ≡ (B.grid board.now).width) }
+        ensures height { IfSome result (λ spare. (B.grid spare.value).height ≡ (B.grid board.now).height) }
+        ensures layers { IfSome result (λ spare. (B.grid spare.value).layers ≡ (B.grid board.now).layers) }
+        ensures table { IfSome result (λ spare. B.table spare.value ≡ B.table board.now) }
     {
         if let Some(spare) = taken_if_alike(&mut self.first, board) {
             return Some(spare);
@@ -69,20 +69,22 @@ impl<B: Board> SpareBoards<B> {
     /// # Errors
     ///
     /// `Memory`, where no spare board is alike.
-    pub fn copy_of(&mut self, alloc: Global, board: &B) -> Result<B, Memory>
-        ensures grid { IfOk result (λ copy. B.grid copy ≡ B.grid board.now) }
-        ensures table { IfOk result (λ copy. B.table copy ≡ B.table board.now) }
+    pub fn copy_of(&mut self, alloc: Global, board: &B) -> Result<Box<B>, Memory>
+        ensures grid { IfOk result (λ copy. B.grid copy.value ≡ B.grid board.now) }
+        ensures table { IfOk result (λ copy. B.table copy.value ≡ B.table board.now) }
     {
         let Some(mut spare) = self.taken(board) else {
-            return board.try_copy(alloc);
+            let copy = board.try_copy(alloc)?;
+            let boxed = Box::new(alloc, copy)?;
+            return Ok(boxed);
         };
-        board.copy_into(&mut spare);
+        board.copy_into(&mut *spare);
         Ok(spare)
     }
 
     /// Keeps a board that nobody shows any more, so that one that is alike is there. Where two are there already, it is
     /// dropped; one that isn't alike makes room.
-    pub fn keep(&mut self, board: B)
+    pub fn keep(&mut self, board: Box<B>)
         ensures { IsSome self.new.first }
     {
         if let Some(board) = given_back(&mut self.first, board) {
@@ -91,7 +93,7 @@ impl<B: Board> SpareBoards<B> {
     }
 
     /// Keeps a board that nobody shows any more, if there is one.
-    pub fn keep_any(&mut self, board: Option<B>)
+    pub fn keep_any(&mut self, board: Option<Box<B>>)
         ensures { IsSome board → IsSome self.new.first }
     {
         if let Some(board) = board {

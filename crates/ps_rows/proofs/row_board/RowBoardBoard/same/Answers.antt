@@ -1,4 +1,4 @@
-use Rattle.std.proofs.Common.{◌≡◌, ◌<◌, ◌≤◌, arith}
+use Rattle.std.proofs.Common.{◌≡◌, ◌-◌, ◌<◌, ◌≤◌, arith}
 use Rattle.std.proofs.lemmas.Option.{same_Some}
 use Rattle.ps_rows.proofs.Alike.{board_same, board_other}
 use Rattle.ps_rows.proofs.row_board.RowBoardBoard.same.Goals as goal
@@ -9,10 +9,10 @@ returns-then-not-same_layer g c =
     let o = c.args.other.now in
     let tables : o.members.table.items ≡ b.members.table.items =
     same_Some o.members.table.items b.members.table.items c.requires.table in
-    let on : c.loop-layer.layer < b.layers = c.loop-layer-test.true in
+    let on : b.layers - 1 - c.loop-step.step < b.layers = omega (arith, c.loop-step-test.true) in
     rw (tables, c.requires.layers, c.requires.height, c.requires.width)
     (board_other b.members.table.items b.width b.planes.height b.layers b.planes.words.items o.planes.words.items
-    c.loop-layer.layer c.same_layer.result on c.if-not-same_layer.true c.same_layer.ensures.other)
+    (b.layers - 1 - c.loop-step.step) c.same_layer.result on c.if-not-same_layer.true c.same_layer.ensures.other)
 
 pub returns : goal.returns
 returns g c =
@@ -20,7 +20,7 @@ returns g c =
     let o = c.args.other.now in
     let tables : o.members.table.items ≡ b.members.table.items =
     same_Some o.members.table.items b.members.table.items c.requires.table in
-    let end : b.layers ≤ c.loop-layer.layer = c.loop-layer-test.false in
+    let end : b.layers ≤ c.loop-step.step = c.loop-step-test.false in
     rw (tables, c.requires.layers, c.requires.height, c.requires.width)
     (board_same b.members.table.items b.width b.planes.height b.layers b.planes.words.items o.planes.words.items
-    (λ layer low. c.loop-layer.invariant layer (omega arith)))
+    (λ layer low. c.loop-step.invariant layer low (omega arith)))

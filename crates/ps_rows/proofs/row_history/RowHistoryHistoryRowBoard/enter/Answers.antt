@@ -38,7 +38,7 @@ invariant_of-self-2 g c =
             c.self.inside.steps.capacity c.in-Some-take.ensures.value c.in-Some.ensures.value
             c.taken-board.ensures.back c.self.invariant.0
             (ap (λ ring. ring.items) c.push_back.ensures.items) c.self.invariant.1.1
-            (record { objects = c.in-Some-take.latest.objects; motions = c.in-Some-take.latest.motions })
+            (record { objects = c.in-Some-take.latest.value.objects; motions = c.in-Some-take.latest.value.motions })
             c.self.invariant.1.0,
         tt,
       ),

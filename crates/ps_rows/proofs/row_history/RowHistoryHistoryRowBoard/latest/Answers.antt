@@ -6,5 +6,6 @@ use Rattle.ps_rows.proofs.row_history.RowHistoryHistoryRowBoard.latest.Goals as 
 
 pub returns-in-Some-clause-some : goal.returns-in-Some-clause-some
 returns-in-Some-clause-some g c =
-    ap (λ (history : HistoryShown). latest_board history.boards) (sym c.self.view_is)
-    ∙ latest_shown _ c.self.inside.latest c.in-Some.board c.self.inside.steps.items (sym c.in-Some.is)
+    rw c.deref.ensures
+    (ap (λ (history : HistoryShown). latest_board history.boards) (sym c.self.view_is)
+    ∙ latest_shown _ c.self.inside.latest c.in-Some.board c.self.inside.steps.items (sym c.in-Some.is))
