@@ -23,7 +23,7 @@ use std::marker::Model;
 #[derive(Drop)]
 struct LastFrame<B: Board> {
     text: FrameText,
-    board: B,
+    board: Box<B>,
 }
 
 /// The frames of a game: what they need of its names, made ready once, and the last frame, if there was one. Contracts
@@ -48,7 +48,7 @@ impl<'g, B: Board> Model for Picture<'g, B> {
     ghost view = { λ p. p.names.now };
 
     ghost invariant = { λ p. (p.ground.0 ≡ background_layer p.names.now)
-        × IfSome p.last (λ last. IsTextOf p.names.now (B.grid last.board) last.text) };
+        × IfSome p.last (λ last. IsTextOf p.names.now (B.grid last.board.value) last.text) };
 }
 
 impl<'g, B: Board> Picture<'g, B> {
@@ -84,7 +84,7 @@ impl<'g, B: Board> Picture<'g, B> {
             whole_board(board),
             &mut self.space,
         )?;
-        let added = add_text(self.names, &last.board, &last.text, output);
+        let added = add_text(self.names, &*last.board, &last.text, output);
         self.last = Some(last);
         added
     }
@@ -120,7 +120,7 @@ impl<'g, B: Board> Picture<'g, B> {
         let added = add_window(
             self.names,
             self.ground,
-            &last.board,
+            &*last.board,
             window,
             &last.text,
             &mut self.space,
@@ -170,11 +170,11 @@ fn redraw<B: Board>(
 ) -> Result<LastFrame<B>, Memory>
     requires ground { ground.0 ≡ background_layer names.now }
     requires window { IsWindowOf (B.grid board.now) window }
-    requires last { IfSome last (λ last. IsTextOf names.now (B.grid last.board) last.text) }
-    ensures text { IfOk result (λ last. IsTextOf names.now (B.grid last.board) last.text) }
-    ensures shown { IfOk result (λ last. AgreeInWindow window (B.grid board.now) (B.grid last.board)) }
-    ensures width { IfOk result (λ last. (B.grid last.board).width ≡ (B.grid board.now).width) }
-    ensures height { IfOk result (λ last. (B.grid last.board).height ≡ (B.grid board.now).height) }
+    requires last { IfSome last (λ last. IsTextOf names.now (B.grid last.board.value) last.text) }
+    ensures text { IfOk result (λ last. IsTextOf names.now (B.grid last.board.value) last.text) }
+    ensures shown { IfOk result (λ last. AgreeInWindow window (B.grid board.now) (B.grid last.board.value)) }
+    ensures width { IfOk result (λ last. (B.grid last.board.value).width ≡ (B.grid board.now).width) }
+    ensures height { IfOk result (λ last. (B.grid last.board.value).height ≡ (B.grid board.now).height) }
 {
     let Some(last) = last else {
         return draw(alloc, names, ground, None, board, space);
@@ -183,14 +183,14 @@ fn redraw<B: Board>(
         text,
         board: mut before,
     } = last;
-    if !board.is_alike(&before) {
+    if !board.is_alike(&*before) {
         return draw(alloc, names, ground, Some(text), board, space);
     }
-    let rows = rows_to_draw(board, &before, window);
-    let Some(text) = patch_text(names, ground, &before, board, rows, space, text)? else {
+    let rows = rows_to_draw(board, &*before, window);
+    let Some(text) = patch_text(names, ground, &*before, board, rows, space, text)? else {
         return draw(alloc, names, ground, None, board, space);
     };
-    board.copy_rows(&mut before, &rows);
+    board.copy_rows(&mut *before, &rows);
     Ok(LastFrame {
         text,
         board: before,
@@ -211,10 +211,11 @@ fn draw<B: Board>(
     space: &mut CellSpace,
 ) -> Result<LastFrame<B>, Memory>
     requires { ground.0 ≡ background_layer names.now }
-    ensures text { IfOk result (λ last. IsTextOf names.now (B.grid last.board) last.text) }
-    ensures board { IfOk result (λ last. B.grid last.board ≡ B.grid board.now) }
+    ensures text { IfOk result (λ last. IsTextOf names.now (B.grid last.board.value) last.text) }
+    ensures board { IfOk result (λ last. B.grid last.board.value ≡ B.grid board.now) }
 {
     let text = draw_text(alloc, names, ground, board, space, kept)?;
-    let board = board.try_copy(alloc)?;
+    let copy = board.try_copy(alloc)?;
+    let board = Box::new(alloc, copy)?;
     Ok(LastFrame { text, board })
 }

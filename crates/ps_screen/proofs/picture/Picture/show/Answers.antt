@@ -9,7 +9,7 @@ pub returns-clause-shown : goal.returns-clause-shown
 returns-clause-shown g c =
     let names = c.self.inside.names.now in
     let now = g.B.Board.grid c.args.board.now in
-    let after = g.B.Board.grid c.in_ok-last.last.board in
+    let after = g.B.Board.grid c.in_ok-last.last.board.value in
     let within = subst (λ (window : Window). IsWindowOf now window) c.whole_board.ensures.window
     c.whole_board.ensures.within in
     let same = subst (λ (window : Window). AgreeInWindow window now after) c.whole_board.ensures.window
@@ -17,4 +17,4 @@ returns-clause-shown g c =
     rw (← c.self.view_is) (on_ok_weaker c.add_text-added.result
     (λ added. added ∙ ap (λ (text : List ℕ). c.args.output.now ++ text)
     (same_frame names now after c.in_ok-last.ensures.width c.in_ok-last.ensures.height within same))
-    c.add_text-added.ensures.added)
+    (rw c.deref.ensures at c.add_text-added.ensures.added))

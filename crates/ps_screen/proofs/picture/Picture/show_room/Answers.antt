@@ -8,10 +8,11 @@ pub returns-clause-shown : goal.returns-clause-shown
 returns-clause-shown g c =
     let names = c.self.inside.names.now in
     let now = g.B.Board.grid c.args.board.now in
-    let after = g.B.Board.grid c.in_ok-last.last.board in
+    let after = g.B.Board.grid c.in_ok-last.last.board.value in
     let window = c.room_window-window.result in
     rw (← c.self.view_is) (on_ok_weaker c.add_window-added.result
     (λ added. added ∙ ap (λ (text : List ℕ). c.args.output.now ++ text)
     (same_window_frame names now after window c.in_ok-last.ensures.height c.room_window-window.ensures.within
     c.in_ok-last.ensures.shown
-    ∙ ap (window_frame names now) c.room_window-window.ensures.window)) c.add_window-added.ensures.added)
+    ∙ ap (window_frame names now) c.room_window-window.ensures.window))
+    (rw c.deref.ensures at c.add_window-added.ensures.added))
