@@ -70,7 +70,8 @@ pub one_more : {W : Type 0} (P : W → W → Type 0) (ws now : List W) (n : ℕ)
 one_more P ws now n next made before left is low told k w under at = elim (cases_eq k n) [
   | inl e ↦
       let here : get_or next n w ≡ made = ap (λ (xs : List _). get_or xs n w) is ∙ get_or-set_same now n made w low in
-      let same : made ≡ w = sym here ∙ ap (λ (j : ℕ). get_or next j w) (sym e) ∙ get_or_from_slice_get next k w w at in (
+      let same : made ≡ w = sym here ∙ ap (λ (j : ℕ). get_or next j w) (sym e)
+      ∙ get_or_from_slice_get next k w w at in (
         get_or now n w,
         ap (slice_get ws) e ∙ sym (left n (omega arith)) ∙ slice_get-get_or now n w low,
         subst (λ (x : _). P (get_or now n w) x) same (told w),

@@ -127,7 +127,7 @@ slides_went before now went place o layer none (suc links) from e =
         ]
         | inr entered ↦ let same : entered.0 ≡ from = same_Some entered.0 from (sym entered.1 ∙ link.wins) in
             let left : o.midway.goes layer from ≡ true =
-                subst (λ (c : ℕ). o.midway.goes layer c ≡ true) same entered.2 in
+            subst (λ (c : ℕ). o.midway.goes layer c ≡ true) same entered.2 in
             absurd (cc)
       ]
 

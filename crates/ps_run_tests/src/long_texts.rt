@@ -15,8 +15,7 @@ const OBJECTS: &str =
     Target O\nblue\nA\nred\nB\npink\nC\ngray\nD\nblack\nLEGEND\n";
 
 /// Its layers, a rule that pushes, a win condition and a level of one row.
-const REST: &str =
-    "COLLISIONLAYERS\nBackground\nTarget\nPlayer, Wall, Crate\nA B C D\nRULES\n\
+const REST: &str = "COLLISIONLAYERS\nBackground\nTarget\nPlayer, Wall, Crate\nA B C D\nRULES\n\
     [ > Player | Crate ] -> [ > Player | > Crate ]\nWINCONDITIONS\nAll Target on Crate\nLEVELS\n#P*O#\n";
 
 /// A fault, as the first of a text.
@@ -47,16 +46,26 @@ fn reads_a_text_cut_behind_each_byte(rt: HostRuntime) {
         } else {
             None
         };
-        assert_eq!(rt; first_fault(rt.alloc(), front), Ok(wanted), "cut behind {end}");
+        assert_eq!(rt;
+            first_fault(rt.alloc(), front),
+            Ok(wanted),
+            "cut behind {end}"
+        );
     }
 }
 
 #[test]
 fn refuses_a_text_by_its_length(rt: HostRuntime) -> Result<(), Fail> {
     let mut text = Vec::from_elem(rt.alloc(), b'(', TEXT_LIMIT)?;
-    assert_eq!(rt; first_fault(rt.alloc(), &text), Ok(found(FaultKind::NoSection, 1)));
+    assert_eq!(rt;
+        first_fault(rt.alloc(), &text),
+        Ok(found(FaultKind::NoSection, 1))
+    );
     text.push(b'(')?;
-    assert_eq!(rt; first_fault(rt.alloc(), &text), Ok(found(FaultKind::TooLong, 1)));
+    assert_eq!(rt;
+        first_fault(rt.alloc(), &text),
+        Ok(found(FaultKind::TooLong, 1))
+    );
     Ok(())
 }
 
@@ -67,14 +76,26 @@ const LAYERS: &str =
 #[test]
 fn refuses_the_longest_texts_by_their_lines(rt: HostRuntime) -> Result<(), Fail> {
     let feeds = Vec::from_elem(rt.alloc(), b'\n', TEXT_LIMIT)?;
-    assert_eq!(rt; first_fault(rt.alloc(), &feeds), Ok(found(FaultKind::NoSection, 1048576)));
+    assert_eq!(rt;
+        first_fault(rt.alloc(), &feeds),
+        Ok(found(FaultKind::NoSection, 1048576))
+    );
     let front = format!(in rt.alloc(); "{OBJECTS}{LAYERS}[ ")?;
     let back = " ] -> [ ]\nLEVELS\nP\n";
     let others = front.as_bytes().len().saturating_add(back.as_bytes().len());
-    let text = repeated(&rt, front.as_str(), ">", TEXT_LIMIT.saturating_sub(others), back);
+    let text = repeated(
+        &rt,
+        front.as_str(),
+        ">",
+        TEXT_LIMIT.saturating_sub(others),
+        back,
+    );
     let text = text.as_bytes();
     assert_eq!(rt; text.len(), TEXT_LIMIT);
-    assert_eq!(rt; first_fault(rt.alloc(), text), Ok(found(FaultKind::UnknownWord, 31)));
+    assert_eq!(rt;
+        first_fault(rt.alloc(), text),
+        Ok(found(FaultKind::UnknownWord, 31))
+    );
     Ok(())
 }
 

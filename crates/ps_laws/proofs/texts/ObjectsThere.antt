@@ -172,7 +172,7 @@ at-place P number zero (name ∷ names) h all =
       refl,
       subst (λ (n : ℕ). P n name) e
           (All-head (λ (each : ℕ × LegendName).
-              P each.0 each.1) (number, name) (enumerate_from (number + 1) names) all),
+          P each.0 each.1) (number, name) (enumerate_from (number + 1) names) all),
     )
 at-place P number (suc step) (name ∷ names) h all =
     let found = at-place P (number + 1) step names (omega arith)
