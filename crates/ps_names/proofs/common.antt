@@ -5,3 +5,4 @@ pub mod FirstFaults
 pub mod Pairs
 pub mod Refused
 pub mod Characters
+pub mod Loops

@@ -12,6 +12,7 @@ pub mod Wholes
 pub mod NamesShown
 pub mod Sections
 pub mod SectionsShown
+pub mod Parts
 pub mod Levels
 pub mod Ends
 pub mod Flattened

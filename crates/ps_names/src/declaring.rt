@@ -59,6 +59,19 @@ pub fn known_objects(alloc: Global, objects: &[ObjectText<'_>]) -> Result<Known,
     Ok(known)
 }
 
+/// What the names of the legend stand for. `Refused`: a line has a fault by what it names.
+fn meanings_of(alloc: Global, legend: &[LegendName<'_>]) -> Result<Vec<Option<Meaning>>, Refusal>
+    requires few { length legend.now ≤ 4294967295 }
+    ensures { ReadsAs (λ meanings. meanings_shown meanings.items) result
+        (legend_meanings (legend_shown legend.now)) (legend_faults (legend_shown legend.now)) }
+{
+    let order = order_of(alloc, legend)?;
+    let meanings = legend_meanings(alloc, legend, &order.levels, &order.places)?;
+    let fault = fault_of_naming(alloc, legend, &order.levels, &meanings)?;
+    refuse(fault)?;
+    Ok(meanings)
+}
+
 /// Reads what the names of the legend stand for. `Refused`: a line has a fault by what it names.
 pub fn read_legend<'a>(
     alloc: Global,
@@ -71,9 +84,6 @@ pub fn read_legend<'a>(
         (legend_faults (map (legend_name (mentions_of_names known.now)) (declarations_shown declarations.now))) }
 {
     let names = legend_names(alloc, known, declarations)?;
-    let order = order_of(alloc, &names)?;
-    let meanings = legend_meanings(alloc, &names, &order.levels, &order.places)?;
-    let fault = fault_of_naming(alloc, &names, &order.levels, &meanings)?;
-    refuse(fault)?;
+    let meanings = meanings_of(alloc, &names)?;
     Ok(Legend { names, meanings })
 }

@@ -34,8 +34,7 @@ fn declare_if(
     let Some(name) = name else {
         return Ok(false);
     };
-    let again = known.declare(alloc, name, mention)?;
-    Ok(again)
+    known.declare(alloc, name, mention)
 }
 
 /// Declares what a legend line does, which has that place among those that declare. `Refused`: the line has a fault of

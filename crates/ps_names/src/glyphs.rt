@@ -49,8 +49,7 @@ pub fn make_glyph(
     let Some(character) = character else {
         return Ok(None);
     };
-    let glyph = glyph_of(alloc, character, meaning)?;
-    Ok(glyph)
+    glyph_of(alloc, character, meaning)
 }
 
 /// Puts a glyph last, if there is one.

@@ -37,9 +37,15 @@ pub struct KnownName<'a> {
 }
 
 /// The known names, letters folded, in order of declaration.
-#[derive(Drop)]
 pub struct Known {
     names: IndexMap<String, NameDetails>,
+}
+
+/// Written out, so that who owns known names calls this on each way out, instead of dropping the map's parts there.
+impl Drop for Known {
+    fn drop(self) {
+        let Known { names: _names } = self;
+    }
 }
 
 impl Model for Known {

@@ -18,7 +18,6 @@ use ps_model::{Joiner, Memory};
 use std::alloc::Global;
 
 /// A name of the legend.
-#[derive(Drop)]
 pub struct LegendName<'a> {
     /// The number, from 1, of the line that declares it.
     pub line: u32,
@@ -28,6 +27,19 @@ pub struct LegendName<'a> {
     pub mentions: Vec<Mention>,
     /// Something declares each name on the right.
     pub all_declared: bool,
+}
+
+/// Written out, so that who owns a name calls this on each way out, instead of dropping its parts there.
+impl Drop for LegendName<'_> {
+    fn drop(self) {
+        let LegendName {
+            line: _,
+            name: _,
+            joiner: _,
+            mentions: _mentions,
+            all_declared: _,
+        } = self;
+    }
 }
 
 /// Whose the names on the right of a legend line are.

@@ -21,6 +21,7 @@ mod naming;
 mod object_faults;
 mod objects;
 mod order;
+mod parts;
 mod reach;
 mod read;
 mod sections;

@@ -1,11 +1,13 @@
 //! OBJECTS: which objects there are, and by which names.
 
-ghost use Rattle.std.specs.Prelude.{◌≡◌, ◌≤◌, ◌<◌, ◌++◌, ◌∷◌, [], IfOk, OnOk, length, All, drop};
+ghost use Rattle.std.specs.Prelude.{◌≡◌, ◌≤◌, ◌<◌, ◌==◌, ◌&&◌, ◌++◌, ◌∷◌, [], IfOk, OnOk, length, map, All, drop};
+ghost use Rattle.std.specs.List.{list_all};
 ghost use Rattle.ps_model.specs.text.LineNumbers.{HasLine, line_at};
 ghost use Rattle.ps_model.specs.names.ObjectLines.{is_sprite_byte, is_sprite_word, is_sprite_row, sprite_rows};
 ghost use Rattle.ps_model.specs.names.ObjectLines.{lines_below, objects_below, object_texts};
 ghost use Rattle.ps_names.specs.LinesShown.{objects_shown};
 ghost use Rattle.ps_names.specs.LinesThere.{lines_at};
+ghost use Rattle.ps_text.specs.WordViews.{text_of};
 
 use ps_model::Memory;
 use ps_text::{Cut, Source, Word, words};
@@ -40,16 +42,20 @@ fn is_sprite_word(word: &str) -> bool
     word.len() == 5 && word.as_bytes().iter().all(|byte| is_sprite_byte(*byte))
 }
 
+/// Whether the words of a line are those of a sprite row: one word that is one.
+fn are_sprite_row(words: &[Word<'_>]) -> bool
+    ensures { result ≡ (length (map text_of words.now) == 1 && list_all is_sprite_word (map text_of words.now)) }
+{
+    words.len() == 1 && is_sprite_word(words[0].text())
+}
+
 /// Whether the line is a sprite row.
 fn is_sprite_row(alloc: Global, source: &Source, line: u32) -> Result<bool, Memory>
     requires { HasLine source.now line }
     ensures { IfOk result (λ row. row ≡ is_sprite_row (line_at source.now line)) }
 {
     let words = words(alloc, source, line, Cut::Blanks)?;
-    if words.len() != 1 {
-        return Ok(false);
-    }
-    Ok(is_sprite_word(words[0].text()))
+    Ok(are_sprite_row(&words))
 }
 
 /// How many rows of a sprite stand on top of the lines, five at most.

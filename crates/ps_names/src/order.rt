@@ -34,7 +34,6 @@ struct Visit {
 }
 
 /// A search through all that the lines mention.
-#[derive(Drop)]
 struct Search {
     /// The places that were looked at as starts.
     started: u32,
@@ -50,6 +49,22 @@ struct Search {
     open: Vec<u32>,
     /// The lines all of whose mentions were looked at.
     places: Vec<u32>,
+}
+
+/// Written out, so that who owns a search calls this on each way out, instead of dropping its parts there.
+impl Drop for Search {
+    fn drop(self) {
+        let Search {
+            started: _,
+            numbers: _numbers,
+            met: _,
+            levels: _levels,
+            level: _,
+            path: _path,
+            open: _open,
+            places: _places,
+        } = self;
+    }
 }
 
 /// Sets the number of a place.
@@ -164,6 +179,24 @@ impl Search {
         };
         self.look(visit, mention)
     }
+
+    /// The order that was found.
+    fn into_order(self, alloc: Global, legend: &[LegendName<'_>]) -> Order
+        ensures { Fall (legend_shown legend.now) result.levels.items }
+    {
+        let Search {
+            started: _,
+            numbers: _numbers,
+            met: _,
+            levels,
+            level: _,
+            path: _path,
+            open: _open,
+            places,
+        } = self;
+        let levels = fallen(alloc, legend, levels);
+        Order { places, levels }
+    }
 }
 
 /// Searches the whole legend: a step for each mention, and two for each line.
@@ -194,8 +227,5 @@ pub fn order_of(alloc: Global, legend: &[LegendName<'_>]) -> Result<Order, Memor
     ensures { IfOk result (λ order. Fall (legend_shown legend.now) order.levels.items) }
 {
     let search = searched(alloc, legend)?;
-    Ok(Order {
-        places: search.places,
-        levels: fallen(alloc, legend, search.levels),
-    })
+    Ok(search.into_order(alloc, legend))
 }

@@ -1,22 +1,22 @@
 //! Reading the names of a game.
 
-ghost use Rattle.std.specs.Prelude.{◌≤◌, ◌-◌, IfOk, length};
+ghost use Rattle.std.specs.Prelude.{◌≡◌, ◌≤◌, ◌-◌, IfOk, length};
 ghost use Rattle.ps_model.specs.text.LineNumbers.{HasLines, lines_between};
 ghost use Rattle.ps_model.specs.text.Reads.{Reads};
+ghost use Rattle.ps_model.specs.text.WrittenLines.{written_lines};
+ghost use Rattle.ps_model.specs.names.ObjectLines.{object_texts};
 ghost use Rattle.ps_model.specs.names.NameBounds.{AreBounded};
 ghost use Rattle.ps_model.specs.names.NameFaults.{name_faults, faults_of_sections};
 ghost use Rattle.ps_model.specs.names.NamesRead.{names_read, names_of, sections_of};
-ghost use Rattle.ps_names.specs.LinesShown.{objects_shown, lines_shown};
+ghost use Rattle.ps_names.specs.LinesShown.{IsPlainCut, objects_shown, lines_shown};
 
-use crate::declaring::refuse;
 use crate::lines::{WrittenLine, lines_there, written_lines};
 use crate::names::Names;
 use crate::objects::{ObjectText, object_texts};
-use crate::sections::{
-    declare_names, fault_of_whole, layer_numbers, layers_of_numbers, read_layers,
-};
+use crate::parts::parts_of;
+use crate::sections::declare_names;
 use crate::table::Table;
-use ps_model::Refusal;
+use ps_model::{Memory, Refusal};
 use ps_text::{Cut, Source};
 use std::alloc::Global;
 use std::ops::Range;
@@ -39,21 +39,46 @@ fn names_of_sections(
     let declared = declare_names(alloc, objects, legend_lines)?;
     let legend = declared.legend;
     let table = Table::new(alloc, declared.known, &legend.meanings)?;
-    let layering = read_layers(alloc, &table, objects.len(), layer_lines)?;
-    let layers = layer_numbers(alloc, &layering.places)?;
-    refuse(fault_of_whole(header, objects, &layering.places, &legend, &table, &layers))?;
-    let glyphs = table.glyphs(alloc)?;
-    let own_layers = layers_of_numbers(alloc, &layers)?;
-    let players = table.objects_named(alloc, "player")?;
-    let backgrounds = table.objects_named(alloc, "background")?;
+    let parts = parts_of(alloc, header, objects, &legend, &table, layer_lines)?;
     Ok(Names {
         table,
-        own_layers,
-        layer_count: layering.count,
-        glyphs,
-        players,
-        backgrounds,
+        own_layers: parts.own_layers,
+        layer_count: parts.layer_count,
+        glyphs: parts.glyphs,
+        players: parts.players,
+        backgrounds: parts.backgrounds,
     })
+}
+
+/// The objects of the lines of OBJECTS.
+fn read_objects<'a>(
+    alloc: Global,
+    source: &'a Source,
+    lines: Range<u32>,
+) -> Result<Vec<ObjectText<'a>>, Memory>
+    requires { HasLines source.now lines.start lines.end }
+    ensures { IfOk result (λ objects. objects_shown objects.items
+        ≡ object_texts (lines_between source.now lines.start lines.end)) }
+{
+    let numbers = lines_there(alloc, source, lines)?;
+    object_texts(alloc, source, &numbers)
+}
+
+/// The lines of a section that aren't blank, with their words.
+fn read_section<'a>(
+    alloc: Global,
+    source: &'a Source,
+    lines: Range<u32>,
+    cut: Cut,
+) -> Result<Vec<WrittenLine<'a>>, Memory>
+    requires there { HasLines source.now lines.start lines.end }
+    requires plain { IsPlainCut cut }
+    ensures few { IfOk result (λ made. length made.items ≤ 4294967295) }
+    ensures lines { IfOk result (λ made. lines_shown made.items
+        ≡ written_lines cut (lines_between source.now lines.start lines.end)) }
+{
+    let numbers = lines_there(alloc, source, lines)?;
+    written_lines(alloc, source, &numbers, cut)
 }
 
 /// Reads the names of a game from its sections OBJECTS, LEGEND and COLLISIONLAYERS, each given by the numbers of the
@@ -80,12 +105,9 @@ pub fn read_names(
     ensures facts { IfOk result (λ names. AreBounded names) }
 {
     let header = objects.start - 1;
-    let object_lines = lines_there(alloc, source, objects)?;
-    let objects = object_texts(alloc, source, &object_lines)?;
-    let legend = lines_there(alloc, source, legend)?;
-    let legend = written_lines(alloc, source, &legend, Cut::Legend)?;
-    let layers = lines_there(alloc, source, layers)?;
-    let layers = written_lines(alloc, source, &layers, Cut::Layers)?;
+    let objects = read_objects(alloc, source, objects)?;
+    let legend = read_section(alloc, source, legend, Cut::Legend)?;
+    let layers = read_section(alloc, source, layers, Cut::Layers)?;
     let names = names_of_sections(alloc, header, &objects, &legend, &layers)?;
     Ok(names)
 }

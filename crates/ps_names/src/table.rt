@@ -24,11 +24,20 @@ use std::alloc::Global;
 use std::marker::Model;
 
 /// The known names, and what each stands for, if it stands for anything.
-#[derive(Drop)]
 pub struct Table {
     known: Known,
     /// By the places of the names.
     meanings: Vec<Option<Meaning>>,
+}
+
+/// Written out, so that who owns a table calls this on each way out, instead of dropping its parts there.
+impl Drop for Table {
+    fn drop(self) {
+        let Table {
+            known: _known,
+            meanings: _meanings,
+        } = self;
+    }
 }
 
 impl Model for Table {
@@ -65,10 +74,7 @@ fn meaning_for(
 {
     match mention {
         Mention::Object(object) => Ok(Some(Meaning::One(object))),
-        Mention::Line(place) => {
-            let meaning = copied_if(alloc, meaning_at(meanings, place as usize))?;
-            Ok(meaning)
-        }
+        Mention::Line(place) => copied_if(alloc, meaning_at(meanings, place as usize)),
     }
 }
 

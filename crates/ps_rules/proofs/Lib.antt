@@ -6,6 +6,7 @@ pub mod SameRules
 pub mod Rows
 pub mod Words
 pub mod Repeats
+pub mod ItemSteps
 pub mod Founds
 pub mod Adds
 pub mod LooseProperties

@@ -1,8 +1,24 @@
 -- The rows of a rule by its cells.
-use Rattle.std.proofs.Common.{◌≡◌, map}
+use Rattle.std.proofs.Common.{◌≡◌, ◌∙◌, List, [], ◌∷◌, ◌++◌, Option, None, Some, option_map, map, refl, sym, ap}
+use Rattle.std.proofs.Common.{append_assoc}
 use Rattle.std.proofs.lemmas.Simd.{map-map}
+use Rattle.ps_model.specs.text.OptionSteps.{all_there}
 use Rattle.ps_model.specs.rules.RuleTree.{rows_of, row_of_cells}
-use Rattle.ps_model.specs.rules.RuleShape.{RuleShape, paired_cells, paired_rows}
+use Rattle.ps_model.specs.rules.RuleShape.{RuleShape, WrittenRow, paired_cells, paired_rows}
+use Rattle.ps_rules.specs.ShapesShown.{behind}
 
 pub rows-by-cells : (shape : RuleShape) → map row_of_cells (map paired_cells (paired_rows shape)) ≡ rows_of shape
 rows-by-cells shape = map-map row_of_cells paired_cells (paired_rows shape)
+
+behind-more : (rows : List WrittenRow) (row : WrittenRow) (after : Option (List WrittenRow)) →
+    behind (rows ++ row ∷ []) after ≡ behind rows (option_map (λ others. row ∷ others) after)
+behind-more rows row None = refl
+behind-more rows row (Some others) = ap Some (append_assoc rows (row ∷ []) others)
+
+-- one row more
+pub rows-more : (rows rows' : List WrittenRow) (row : WrittenRow) (first : Option WrittenRow)
+    (others : List (Option WrittenRow)) → first ≡ Some row → rows' ≡ rows ++ row ∷ [] →
+    behind rows' (all_there others) ≡ behind rows (all_there (first ∷ others))
+rows-more rows rows' row first others f e =
+    ap (λ (made : List WrittenRow). behind made (all_there others)) e ∙ behind-more rows row (all_there others)
+    ∙ ap (λ (o : Option WrittenRow). behind rows (all_there (o ∷ others))) (sym f)

@@ -73,11 +73,9 @@ fn paired_row<'a, 'n>(
         ≡ paired_cells ((row_shown left.now).cells, slice_index_or (cells_of_rows (rows_shown right.now)) 0 [])) }
 {
     if right.is_empty() {
-        let cells = paired_cells(alloc, &left.cells, &[])?;
-        return Ok(cells);
+        return paired_cells(alloc, &left.cells, &[]);
     }
-    let cells = paired_cells(alloc, &left.cells, &right[0].cells)?;
-    Ok(cells)
+    paired_cells(alloc, &left.cells, &right[0].cells)
 }
 
 /// The rows of a rule, each with its cells. Where the right has no rows, its cells are empty.

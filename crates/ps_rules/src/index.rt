@@ -18,7 +18,6 @@ use ps_names::Meaning;
 use std::alloc::Global;
 
 /// What is found of each name and of each movement word among items, made in one pass over them.
-#[derive(Drop)]
 pub struct Index {
     /// By the objects' numbers.
     objects: Tally,
@@ -28,6 +27,18 @@ pub struct Index {
     properties: Tally,
     /// By the movement words' places in their enum.
     words: Tally,
+}
+
+/// Written out, so that who owns an index calls this on each way out, instead of dropping its tallies there.
+impl Drop for Index {
+    fn drop(self) {
+        let Index {
+            objects: _objects,
+            aggregates: _aggregates,
+            properties: _properties,
+            words: _words,
+        } = self;
+    }
 }
 
 impl Index {
@@ -69,18 +80,9 @@ impl Index {
             ≡ with_if (is_name_key key (meaning_shown meaning.now)) (found_at self.old key) at) }
     {
         match meaning {
-            Meaning::One(object) => {
-                self.objects.add(object.0, at)?;
-                Ok(())
-            }
-            Meaning::All { line, objects: _ } => {
-                self.aggregates.add(*line, at)?;
-                Ok(())
-            }
-            Meaning::Any { line, objects: _ } => {
-                self.properties.add(*line, at)?;
-                Ok(())
-            }
+            Meaning::One(object) => self.objects.add(object.0, at),
+            Meaning::All { line, objects: _ } => self.aggregates.add(*line, at),
+            Meaning::Any { line, objects: _ } => self.properties.add(*line, at),
         }
     }
 
@@ -93,8 +95,7 @@ impl Index {
         let Some(word) = word else {
             return Ok(());
         };
-        self.words.add(word as u32, at)?;
-        Ok(())
+        self.words.add(word as u32, at)
     }
 
     /// Adds an item, if it is an occurrence.
@@ -108,8 +109,7 @@ impl Index {
             return Ok(());
         };
         self.add_name(meaning, *at)?;
-        self.add_word(*word, *at)?;
-        Ok(())
+        self.add_word(*word, *at)
     }
 
     /// Adds items.

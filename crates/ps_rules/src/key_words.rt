@@ -130,6 +130,5 @@ pub fn first_symbol<'n>(alloc: Global, names: &'n Names, word: &str) -> Result<S
     if word == "+" {
         return Ok(Symbol::Plus);
     }
-    let symbol = symbol_of(alloc, names, word)?;
-    Ok(symbol)
+    symbol_of(alloc, names, word)
 }

@@ -10,9 +10,15 @@ use std::alloc::Global;
 use std::marker::Model;
 
 /// A set of legend lines, by their numbers.
-#[derive(Drop)]
 pub struct LineSet {
     lines: IndexSet<u32>,
+}
+
+/// Written out, so that who owns a set calls this on each way out, instead of dropping the map's parts there.
+impl Drop for LineSet {
+    fn drop(self) {
+        let LineSet { lines: _lines } = self;
+    }
 }
 
 impl Model for LineSet {

@@ -75,8 +75,7 @@ fn name_fault(alloc: Global, rule: &SourceRule) -> Result<Option<FaultKind>, Mem
         ≡ first_fault (name_faults line (rule_shown rule.now))) }
 {
     let occurrences = Occurrences::of(alloc, rule)?;
-    let kind = fault_of_occurrences(alloc, &occurrences)?;
-    Ok(kind)
+    fault_of_occurrences(alloc, &occurrences)
 }
 
 /// The first fault of a rule among those told behind those of its names.

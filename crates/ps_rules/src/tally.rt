@@ -10,9 +10,15 @@ use std::alloc::Global;
 use std::marker::Model;
 
 /// What is found of each number: an object's, a legend line's, or a movement word's.
-#[derive(Drop)]
 pub struct Tally {
     found: IndexMap<u32, Found>,
+}
+
+/// Written out, so that who owns a tally calls this on each way out, instead of dropping the map's parts there.
+impl Drop for Tally {
+    fn drop(self) {
+        let Tally { found: _found } = self;
+    }
 }
 
 impl Model for Tally {

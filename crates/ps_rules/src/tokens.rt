@@ -1,9 +1,9 @@
 //! The words of a line of RULES, each with what it is.
 
-ghost use Rattle.std.specs.Prelude.{◌≡◌, ◌++◌, ◌∷◌, [], IfOk, OnOk};
+ghost use Rattle.std.specs.Prelude.{◌≡◌, ◌++◌, ◌∷◌, [], IfOk, OnOk, map};
 ghost use Rattle.ps_model.specs.text.LineNumbers.{HasLine, line_at};
 ghost use Rattle.ps_model.specs.rules.RuleSymbols.{symbol_of, first_symbol, tokens_of, tokens_kept};
-ghost use Rattle.ps_rules.specs.SymbolsShown.{token_shown, tokens_shown, token_of_word};
+ghost use Rattle.ps_rules.specs.SymbolsShown.{token_shown, tokens_shown, token_of_word, tokens_of_words};
 
 use crate::key_words::{first_symbol, symbol_of};
 use crate::symbols::{Symbol, Token};
@@ -34,6 +34,54 @@ fn next_token<'n>(alloc: Global, names: &'n Names, word: &Word<'_>) -> Result<To
     })
 }
 
+/// Puts the first word of a line last.
+fn push_first<'n>(
+    alloc: Global,
+    names: &'n Names,
+    word: &Word<'_>,
+    tokens: &mut Vec<Token<'n>>,
+) -> Result<(), Memory>
+    ensures { OnOk result (tokens_shown tokens.new.items
+        ≡ tokens_shown tokens.old.items ++ token_of_word (first_symbol names.entry.now) word.now ∷ []) }
+{
+    let token = first_token(alloc, names, word)?;
+    tokens.push(token)?;
+    Ok(())
+}
+
+/// Puts words of a line behind the first last.
+fn push_next<'n>(
+    alloc: Global,
+    names: &'n Names,
+    words: &[Word<'_>],
+    tokens: &mut Vec<Token<'n>>,
+) -> Result<(), Memory>
+    ensures { OnOk result (tokens_shown tokens.new.items
+        ≡ tokens_shown tokens.old.items ++ map (token_of_word (symbol_of names.entry.now)) words.now) }
+{
+    for word in words {
+        tokens.push(next_token(alloc, names, word)?)?;
+    }
+    Ok(())
+}
+
+/// The words of a line, each with what it is.
+fn tokens_of_words<'n>(
+    alloc: Global,
+    names: &'n Names,
+    words: &[Word<'_>],
+) -> Result<Vec<Token<'n>>, Memory>
+    ensures { IfOk result (λ tokens. tokens_shown tokens.items ≡ tokens_of_words names.entry.now words.now) }
+{
+    let mut tokens = Vec::new(alloc);
+    let Some((first, others)) = words.split_first() else {
+        return Ok(tokens);
+    };
+    push_first(alloc, names, first, &mut tokens)?;
+    push_next(alloc, names, others, &mut tokens)?;
+    Ok(tokens)
+}
+
 /// The words of the line of that number.
 pub fn tokens_of<'n>(
     alloc: Global,
@@ -45,14 +93,7 @@ pub fn tokens_of<'n>(
     ensures { IfOk result (λ tokens. tokens_shown tokens.items ≡ tokens_of names.entry.now (line_at source.now line)) }
 {
     let words = words(alloc, source, line, Cut::Rule)?;
-    let mut tokens = Vec::new(alloc);
-    let Some((first, others)) = words.split_first() else {
-        return Ok(tokens);
-    };
-    tokens.push(first_token(alloc, names, first)?)?;
-    for word in others {
-        tokens.push(next_token(alloc, names, word)?)?;
-    }
+    let tokens = tokens_of_words(alloc, names, &words)?;
     Ok(tokens)
 }
 

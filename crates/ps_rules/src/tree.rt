@@ -55,7 +55,6 @@ pub struct Commands {
 }
 
 /// A rule.
-#[derive(Drop)]
 pub struct SourceRule {
     /// The number of its line, from 1.
     pub line: u32,
@@ -70,6 +69,21 @@ pub struct SourceRule {
     /// It has rows on the right; without them the right is commands alone, and each cell's right is empty.
     pub rewrites: bool,
     pub commands: Commands,
+}
+
+/// Written out, so that who owns a rule calls this on each way out, instead of dropping its parts there.
+impl Drop for SourceRule {
+    fn drop(self) {
+        let SourceRule {
+            line: _,
+            late: _,
+            joined: _,
+            directions: _directions,
+            rows: _rows,
+            rewrites: _,
+            commands: _commands,
+        } = self;
+    }
 }
 
 /// A line of RULES.

@@ -55,14 +55,8 @@ fn see_item(seen: &mut Vec<u32>, item: &Item) -> Result<bool, Memory>
         return Ok(false);
     };
     match meaning {
-        Meaning::One(object) => {
-            let again = see(seen, object.0)?;
-            Ok(again)
-        }
-        Meaning::All { line: _, objects } => {
-            let again = see_objects(seen, objects.as_slice())?;
-            Ok(again)
-        }
+        Meaning::One(object) => see(seen, object.0),
+        Meaning::All { line: _, objects } => see_objects(seen, objects.as_slice()),
         Meaning::Any { .. } => Ok(false),
     }
 }
@@ -91,8 +85,7 @@ fn see_property(seen: &mut LineSet, item: &Item) -> Result<bool, Memory>
     let Some(line) = property_named(item) else {
         return Ok(false);
     };
-    let again = seen.see(line)?;
-    Ok(again)
+    seen.see(line)
 }
 
 /// Whether the items name one property twice.
@@ -116,8 +109,7 @@ fn name_twice(alloc: Global, items: &[Item]) -> Result<bool, Memory>
     if object_twice(alloc, items)? {
         return Ok(true);
     }
-    let twice = property_twice(alloc, items)?;
-    Ok(twice)
+    property_twice(alloc, items)
 }
 
 /// Whether one side of the cell names one object, or one property, twice.
@@ -128,8 +120,7 @@ fn cell_names_twice(alloc: Global, cell: &CellPair) -> Result<bool, Memory>
     if name_twice(alloc, cell.left.as_slice())? {
         return Ok(true);
     }
-    let twice = name_twice(alloc, cell.right.as_slice())?;
-    Ok(twice)
+    name_twice(alloc, cell.right.as_slice())
 }
 
 /// Whether one side of one of the cells names one object, or one property, twice.

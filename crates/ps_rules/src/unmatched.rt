@@ -38,8 +38,7 @@ fn add_line(lines: &mut LineSet, line: Option<u32>) -> Result<(), Memory>
     let Some(line) = line else {
         return Ok(());
     };
-    lines.add(line)?;
-    Ok(())
+    lines.add(line)
 }
 
 /// The lines of the properties that the items name.
@@ -81,8 +80,7 @@ fn add_cell(alloc: Global, lines: &mut LineSet, cell: &CellPair) -> Result<(), M
         ≡ (is_unmatched line (cell_shown cell.now) || is_in lines.old line)) }
 {
     let left = properties_of(alloc, cell.left.as_slice())?;
-    add_besides(lines, &left, cell.right.as_slice())?;
-    Ok(())
+    add_besides(lines, &left, cell.right.as_slice())
 }
 
 /// The properties that are unmatched in one of the cells.

@@ -4,7 +4,7 @@ use Rattle.std.proofs.Common.{append_assoc}
 use Rattle.std.specs.List.{enumerate_from}
 use Rattle.std.proofs.lemmas.List.{length-map}
 use Rattle.ps_model.specs.declared.faults.Fault.{Fault}
-use Rattle.ps_model.specs.names.Names.{Meaning, Names, Glyph}
+use Rattle.ps_model.specs.names.Names.{Meaning, Names}
 use Rattle.ps_model.specs.text.WrittenLines.{WrittenLine}
 use Rattle.ps_model.specs.names.ObjectLines.{ObjectText, object_names}
 use Rattle.ps_model.specs.names.LegendLines.{declarations}
@@ -15,7 +15,10 @@ use Rattle.ps_model.specs.names.NamesRead.{sections_of, names_of, layer_numbers,
 use Rattle.ps_model.specs.names.NameFaults.{folded_names, faults_of_sections}
 use Rattle.ps_names.specs.Known.{Named}
 use Rattle.ps_names.specs.Tables.{entries_with, with_meanings, glyph_named}
-use Rattle.ps_names.specs.Sections.{known_of, legend_of, legend_faults, declaring_faults, faults_of_whole}
+use Rattle.ps_names.specs.Sections.{known_of, legend_of, legend_with, legend_faults, declaring_faults, faults_of_whole}
+use Rattle.ps_names.specs.Parts.{layers_over, names_over, faults_over}
+use Rattle.ps_names.specs.Wholes.{no_layers}
+use Rattle.ps_laws.proofs.common.Lists.{none-before, none-behind}
 use Rattle.ps_names.proofs.tables.TableLaw.{entries-shown, glyphs-named}
 
 length-from : {A : Type 0} (number : ℕ) (xs : List A) → length (enumerate_from number xs) ≡ length xs
@@ -106,32 +109,40 @@ module _ (objects : List ObjectText) (lines layer_lines : List WrittenLine) wher
           }
       by told entries e = rw e refl
 
-  -- the faults of the whole
-  abbrev pub told_here : ℕ → List Fault
-  told_here header =
-      faults_of_whole header objects (layers_found (length objects) layers_here) (legend_of objects lines)
-      meanings_here (entries_with table_here) (layer_numbers (layers_found (length objects) layers_here))
+  -- the table, by what the code has
+  pub table-made : (known : List Named) (meanings : List (Option Meaning)) (table : List (Named × Option Meaning)) →
+      table ≡ with_meanings meanings known → known ≡ known_of objects lines → meanings ≡ meanings_here →
+      table ≡ table_here
+  table-made known meanings table t k m = t ∙ ap (λ (ms : List (Option Meaning)). with_meanings ms known) m
+      ∙ ap (with_meanings meanings_here) k
 
-  -- the faults of the whole, by what the code has
-  pub whole-here : (header : ℕ) (placed : List (Option ℕ)) (legend : List LegendName)
-      (meanings : List (Option Meaning)) (table : List (Named × Option Meaning)) (layers : List ℕ)
-      → layers ≡ layer_numbers placed → placed ≡ layers_found (length objects) layers_here →
-      legend ≡ legend_of objects lines → meanings ≡ meanings_here → table ≡ table_here
-      → faults_of_whole header objects placed legend meanings (entries_with table) layers
-      ≡ faults_of_whole header objects (layers_found (length objects) layers_here) (legend_of objects lines)
-      meanings_here (entries_with table_here) (layer_numbers (layers_found (length objects) layers_here))
-  whole-here header placed legend meanings table layers l p g m t = rw (l, p, g, m, t) refl
+  -- the faults behind those of OBJECTS and LEGEND, by what the code has
+  pub faults-made : (header : ℕ) (table : List (Named × Option Meaning))
+      (legend : List LegendName × List (Option Meaning)) → table ≡ table_here →
+      legend ≡ legend_with (legend_of objects lines) → declaring_faults objects lines ≡ [] →
+      faults_of_sections header (sections_of objects lines layer_lines)
+      ≡ faults_over header table objects legend layer_lines
+  faults-made header table legend t g none = sym (faults-here header)
+      ∙ ap (λ (before : List Fault). before ++ faults_over header table_here objects
+      (legend_with (legend_of objects lines)) layer_lines) none
+      ∙ sym (ap (λ (l : List LegendName × List (Option Meaning)). faults_over header table objects l layer_lines) g
+      ∙ ap (λ (all : List (Named × Option Meaning)). faults_over header all objects
+      (legend_with (legend_of objects lines)) layer_lines) t)
 
   -- the names, by what the code has
-  pub names-made : (table : List (Named × Option Meaning)) (layers : List ℕ) (count : ℕ) (glyphs : List Glyph) →
-      table ≡ table_here → layers ≡ layer_numbers (layers_found (length objects) layers_here)
-      → count ≡ length layers_here → glyphs ≡ filter_map glyph_named table →
-      (let names : Names = record {
-        entries = entries_with table;
-        layers = layers;
-        layer_count = count;
-        glyphs =
-            glyphs;
-      } in names)
-      ≡ names_of (sections_of objects lines layer_lines)
-  names-made table layers count glyphs t l c g = rw (g, l, c, t) names-here
+  pub names-made : (names : Names) (table : List (Named × Option Meaning)) → table ≡ table_here →
+      names ≡ names_over table objects layer_lines → names ≡ names_of (sections_of objects lines layer_lines)
+  names-made names table t e = e ∙ ap (λ (all : List (Named × Option Meaning)). names_over all objects layer_lines) t
+      ∙ names-here
+
+  -- where the whole has no fault, each object lies on a layer
+  pub all-on-layers : (header : ℕ) (table : List (Named × Option Meaning))
+      (legend : List LegendName × List (Option Meaning)) → table ≡ table_here →
+      faults_over header table objects legend layer_lines ≡ [] →
+      no_layers objects (sections_of objects lines layer_lines).object_layers ≡ []
+  all-on-layers header table legend t none =
+      ap (λ (layers : List Layer). no_layers objects (layers_found (length objects) layers)) (sym layers-same)
+      ∙ ap (λ (all : List (Named × Option Meaning)). no_layers objects
+      (layers_found (length objects) (layers_over all layer_lines))) (sym t)
+      ∙ none-before (no_layers objects (layers_found (length objects) (layers_over table layer_lines))) _
+      (none-behind (layer_faults (layers_over table layer_lines)) _ none)

@@ -1,16 +1,14 @@
-use Rattle.std.proofs.Common.{◌≡◌, ◌∙◌, ◌-◌, sym, ap, refl, rules, List, ℕ, Some}
-use Rattle.ps_model.specs.declared.faults.Fault.{Fault as TheFault}
+use Rattle.std.proofs.Common.{◌≡◌, ◌∙◌, ◌-◌, sym, ap, refl, List, ℕ}
 use Rattle.ps_model.specs.declared.texts.Cut.TheVariants.{Legend, Layers}
 use Rattle.ps_model.specs.text.Faults.{first_fault}
 use Rattle.ps_model.specs.text.LineNumbers.{lines_between}
+use Rattle.ps_model.specs.text.Lines.{Line}
 use Rattle.ps_model.specs.text.WrittenLines.{WrittenLine, written_lines}
 use Rattle.ps_model.specs.names.ObjectLines.{ObjectText, object_texts}
-use Rattle.ps_model.specs.names.NamesRead.{NameSections, sections_of, names_of}
+use Rattle.ps_model.specs.names.NamesRead.{NameSections, sections_of, names_of, names_read}
 use Rattle.ps_model.specs.names.NameFaults.{name_faults, faults_of_sections}
-use Rattle.ps_model.specs.declared.refusal.Refusal.{Refusal}
-use Rattle.ps_model.specs.declared.refusal.Refusal.TheVariants.{Refused}
 use Rattle.ps_names.specs.LinesShown.{objects_shown, lines_shown}
-use Rattle.ps_names.specs.LinesThere.{lines_at}
+use Rattle.ps_names.proofs.common.Refused.{refused-reads}
 use Rattle.ps_names.proofs.read.read_names.Goals as goal
 
 -- sections of the same parts
@@ -22,49 +20,38 @@ same-sections objects objects' legend legend' layers layers' o l y = rw (o, l, y
 pub returns-in_err-names-clause-reads : goal.returns-in_err-names-clause-reads
 returns-in_err-names-clause-reads c =
     let text : List ℕ = c.args.source.now in
-    let objects : objects_shown c.deref-4.result.now ≡ object_texts
+    let objects : objects_shown c.deref.result.now ≡ object_texts
     (lines_between text c.args.objects.start c.args.objects.end) =
-    ap objects_shown c.deref-4.ensures.value ∙ c.in_ok-objects.ensures
-    ∙ ap (λ (ns : List ℕ). object_texts (lines_at text ns)) c.deref.ensures.value
-    ∙ ap object_texts c.in_ok-object_lines.ensures.lines in
-    let legend : lines_shown c.deref-5.result.now ≡ written_lines Legend
+    ap objects_shown c.deref.ensures.value ∙ c.in_ok-objects.ensures in
+    let legend : lines_shown c.deref-2.result.now ≡ written_lines Legend
     (lines_between text c.args.legend.start c.args.legend.end) =
-    ap lines_shown c.deref-5.ensures.value ∙ c.in_ok-legend-2.ensures.lines
-    ∙ ap (λ (ns : List ℕ). written_lines Legend (lines_at text ns)) c.deref-2.ensures.value
-    ∙ ap (written_lines Legend) c.in_ok-legend.ensures.lines in
-    let layers : lines_shown c.deref-6.result.now ≡ written_lines Layers
+    ap lines_shown c.deref-2.ensures.value ∙ c.in_ok-legend.ensures.lines in
+    let layers : lines_shown c.deref-3.result.now ≡ written_lines Layers
     (lines_between text c.args.layers.start c.args.layers.end) =
-    ap lines_shown c.deref-6.ensures.value ∙ c.in_ok-layers-2.ensures.lines
-    ∙ ap (λ (ns : List ℕ). written_lines Layers (lines_at text ns)) c.deref-3.ensures.value
-    ∙ ap (written_lines Layers) c.in_ok-layers.ensures.lines in
+    ap lines_shown c.deref-3.ensures.value ∙ c.in_ok-layers.ensures.lines in
     let same = same-sections _ _ _ _ _ _ objects legend layers in
-    let fault : Refusal = c.in_err-names.field-0.0 in
-    let told : (f : TheFault) → fault ≡ Refused f →
-    first_fault (name_faults (c.args.objects.start - 1) (lines_between text c.args.objects.start c.args.objects.end)
-    (lines_between text c.args.legend.start c.args.legend.end)
-    (lines_between text c.args.layers.start c.args.layers.end)) ≡ Some f =
-    λ f e. ap (λ (s : NameSections). first_fault (faults_of_sections (c.args.objects.start - 1) s)) (sym same)
-    ∙ c.in_err-names.ensures.1.1 f e in
-    search (rules, told)
+    let header : ℕ = c.args.objects.start - 1 in
+    let object_lines : List Line = lines_between text c.args.objects.start c.args.objects.end in
+    let legend_lines : List Line = lines_between text c.args.legend.start c.args.legend.end in
+    let layer_lines : List Line = lines_between text c.args.layers.start c.args.layers.end in
+    refused-reads c.from_residual-in_err-names.result c.in_err-names.field-0.0
+    (names_read object_lines legend_lines layer_lines) (name_faults header object_lines legend_lines layer_lines)
+    c.from_residual-in_err-names.ensures.1
+    (λ f e. ap (λ (s : NameSections). first_fault (faults_of_sections header s)) (sym same)
+    ∙ c.in_err-names.ensures.1.1 f e)
 
 pub returns-clause-reads : goal.returns-clause-reads
 returns-clause-reads c =
     let text : List ℕ = c.args.source.now in
-    let objects : objects_shown c.deref-4.result.now ≡ object_texts
+    let objects : objects_shown c.deref.result.now ≡ object_texts
     (lines_between text c.args.objects.start c.args.objects.end) =
-    ap objects_shown c.deref-4.ensures.value ∙ c.in_ok-objects.ensures
-    ∙ ap (λ (ns : List ℕ). object_texts (lines_at text ns)) c.deref.ensures.value
-    ∙ ap object_texts c.in_ok-object_lines.ensures.lines in
-    let legend : lines_shown c.deref-5.result.now ≡ written_lines Legend
+    ap objects_shown c.deref.ensures.value ∙ c.in_ok-objects.ensures in
+    let legend : lines_shown c.deref-2.result.now ≡ written_lines Legend
     (lines_between text c.args.legend.start c.args.legend.end) =
-    ap lines_shown c.deref-5.ensures.value ∙ c.in_ok-legend-2.ensures.lines
-    ∙ ap (λ (ns : List ℕ). written_lines Legend (lines_at text ns)) c.deref-2.ensures.value
-    ∙ ap (written_lines Legend) c.in_ok-legend.ensures.lines in
-    let layers : lines_shown c.deref-6.result.now ≡ written_lines Layers
+    ap lines_shown c.deref-2.ensures.value ∙ c.in_ok-legend.ensures.lines in
+    let layers : lines_shown c.deref-3.result.now ≡ written_lines Layers
     (lines_between text c.args.layers.start c.args.layers.end) =
-    ap lines_shown c.deref-6.ensures.value ∙ c.in_ok-layers-2.ensures.lines
-    ∙ ap (λ (ns : List ℕ). written_lines Layers (lines_at text ns)) c.deref-3.ensures.value
-    ∙ ap (written_lines Layers) c.in_ok-layers.ensures.lines in
+    ap lines_shown c.deref-3.ensures.value ∙ c.in_ok-layers.ensures.lines in
     let same = same-sections _ _ _ _ _ _ objects legend layers in (
       c.in_ok-names.ensures.0 ∙ ap names_of same,
       (
