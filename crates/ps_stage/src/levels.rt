@@ -29,13 +29,25 @@ use std::rc::Rc;
 /// A level that is played: its entry, its board, the board that a restart goes back to, which the levels behind its
 /// turns share until a checkpoint, and the room that the last frame showed. Turns work on a board of their own, which
 /// shows the same between them, if there is one.
-#[derive(Drop)]
 pub struct PlayedLevel<B: Board> {
     entry: EntryNumber,
     board: Box<B>,
     spare: Option<Box<B>>,
     restart_board: Rc<Box<B>, Global>,
     room: Room,
+}
+
+/// Written out, so that who owns a level calls this on each way out, instead of dropping its boards there.
+impl<B: Board> Drop for PlayedLevel<B> {
+    fn drop(self) {
+        let PlayedLevel {
+            entry: _entry,
+            board: _board,
+            spare: _spare,
+            restart_board: _restart_board,
+            room: _,
+        } = self;
+    }
 }
 
 impl<B: Board> Model for PlayedLevel<B> {
@@ -385,8 +397,15 @@ impl<B: Board> PlayedLevel<B> {
 
     /// Its board, and the one for turns, are there to be used again.
     pub(crate) fn give_back(self, spares: &mut SpareBoards<B>) {
-        spares.keep_any(self.spare);
-        spares.keep(self.board);
+        let PlayedLevel {
+            entry: _entry,
+            board,
+            spare,
+            restart_board: _restart_board,
+            room: _,
+        } = self;
+        spares.keep_any(spare);
+        spares.keep(board);
     }
 
     /// Takes a turn. Where it is done and counts, the level has its board, and goes back to it at a restart where the
