@@ -1,5 +1,5 @@
 -- An element of a list, and what stands from it on.
-use Rattle.std.proofs.Common.{◌≡◌, ℕ, zero, suc, [], refl, ◌≤◌, ◌<◌, ◌-◌, ◌∙◌, sym, ap, List, ◌∷◌, length, drop, take}
+use Rattle.std.proofs.Common.{◌≡◌, ℕ, suc, ◌<◌, ◌-◌, ◌∙◌, sym, ap, List, ◌∷◌, length, drop, take}
 use Rattle.std.proofs.Common.{get_or, arith, Some}
 use Rattle.std.specs.Prelude.{slice_get}
 use Rattle.std.proofs.lemmas.Option.{slice_get_within, get_or_from_slice_get}
@@ -20,10 +20,3 @@ element-first xs k next x d less n e = drop-cons xs k d less ∙ ap (λ y. y ∷
 pub drop-got : {A : Type 0} (xs : List A) (k : ℕ) (x : A) → slice_get xs k ≡ Some x → drop k xs ≡ x ∷ drop (suc k) xs
 drop-got xs k x e = drop-cons xs k x (slice_get_within xs k x e)
     ∙ ap (λ y. y ∷ drop (suc k) xs) (get_or_from_slice_get xs k x x e)
-
--- behind the end stands nothing
-pub past-end : {A : Type 0} (xs : List A) (k : ℕ) → length xs ≤ k → drop k xs ≡ []
-past-end [] zero past = refl
-past-end [] (suc k) past = refl
-past-end (x ∷ xs) zero past = absurd (omega arith)
-past-end (x ∷ xs) (suc k) past = past-end xs k (omega arith)

@@ -1,8 +1,8 @@
 -- One name of the table more.
 use Rattle.std.proofs.Common.{◌≡◌, ℕ, zero, suc, ◌<◌, ◌≤◌, true, false, List, [], ◌∷◌, ◌++◌, length, drop, map, Option}
 use Rattle.std.proofs.Common.{None, Some, refl, ap, sym, ◌∙◌, arith, append_assoc}
-use Rattle.std.proofs.lemmas.List.{append-nil}
-use Rattle.ps_names.proofs.common.Elements.{drop-got, past-end}
+use Rattle.std.proofs.lemmas.List.{append-nil, drop_all}
+use Rattle.ps_names.proofs.common.Elements.{drop-got}
 use Rattle.std.specs.Prelude.{slice_get, slice_index_or, is_some, unwrap_or}
 use Rattle.std.specs.Option.{option_or}
 use Rattle.std.proofs.lemmas.Option.{unwrap_or-slice_get}
@@ -123,7 +123,7 @@ made-step f xs made added k next x y e n a m =
 -- all is made
 pub done : {A B : Type 0} (f : A → B) (xs : List A) (made whole : List B) (k : ℕ) → length xs ≤ k →
     made ++ map f (drop k xs) ≡ whole → made ≡ whole
-done f xs made whole k past e = sym (append-nil made) ∙ ap (λ rest. made ++ map f rest) (sym (past-end xs k past)) ∙ e
+done f xs made whole k past e = sym (append-nil made) ∙ ap (λ rest. made ++ map f rest) (sym (drop_all k xs past)) ∙ e
 
 with_glyph : (made : Option Glyph) (glyphs : List Glyph) → cons_option made glyphs ≡ option_to_list made ++ glyphs
 with_glyph None glyphs = refl
