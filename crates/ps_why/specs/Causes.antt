@@ -1,51 +1,40 @@
 -- What is told of a fault, and when that is true of the text.
-use Rattle.std.specs.Prelude.{◌≡◌, ◌≤◌, ◌<◌, ℕ, nat_eq, ◌-◌, Bool, false, true, ◌&&◌, ⊤, Option, Some, is_some}
-use Rattle.std.specs.Prelude.{IfSome, List, [], ◌∷◌, map, codes}
+use Rattle.std.specs.Prelude.{◌≡◌, ◌≤◌, ◌<◌, ℕ, nat_eq, ◌-◌, Bool, false, true, ◌&&◌, ⊤, Some, is_some}
+use Rattle.std.specs.Prelude.{List, [], ◌∷◌, ◌++◌, codes}
 use Rattle.std.specs.Prelude.{slice_get, encode_utf8, slice_index_or}
 use Rattle.std.specs.List.{IsAmong, list_any}
 use Rattle.std.specs.Map.{lookup}
 use Rattle.std.specs.Str.{bytes_eq, chars}
-use Rattle.ps_model.specs.declared.texts.Cut.{Cut}
+use Rattle.std.specs.Str.Lossy.{utf8_valid_len}
 use Rattle.ps_model.specs.declared.texts.Cut.TheVariants as cuts
 use Rattle.ps_model.specs.declared.texts.Section.{Section}
-use Rattle.ps_model.specs.declared.texts.Section.TheVariants.{Prelude, Objects, Legend, Sounds, Layers, Rules, Wins}
-use Rattle.ps_model.specs.declared.texts.Section.TheVariants.{Levels}
+use Rattle.ps_model.specs.declared.texts.Section.TheVariants.{Layers}
 use Rattle.ps_model.specs.text.LineNumbers.{line_at, HasLine}
 use Rattle.ps_model.specs.text.Lines.{Line, lines_of, folded}
-use Rattle.ps_model.specs.text.RuleWords.{words_under}
 use Rattle.ps_model.specs.text.Sections.{section_lines, rank, header_lines, has_section}
 use Rattle.ps_model.specs.text.Words.{word_texts}
 use Rattle.ps_model.specs.rules.RuleSymbols.{key_words}
-use Rattle.ps_text.specs.WordViews.{IsSliceOf, span_at}
 use Rattle.ps_text.specs.declared.cutting.Word.{Word}
 use Rattle.ps_why.specs.declared.causes.Blank.{Blank}
 use Rattle.ps_why.specs.declared.causes.Blank.TheVariants.{Space, Tab, CarriageReturn, Comment}
+use Rattle.ps_why.specs.declared.causes.Clue.{Clue}
 use Rattle.ps_why.specs.declared.causes.Hint.{Hint}
 use Rattle.ps_why.specs.declared.causes.Hint.TheVariants.{Nothing, Near, Strange, Joins}
 use Rattle.ps_why.specs.declared.causes.Cause.{Cause}
 use Rattle.ps_why.specs.declared.causes.Cause.TheVariants.{Untold, Undeclared, Meaningless, Unlayered, UnknownGlyph}
-use Rattle.ps_why.specs.declared.causes.Cause.TheVariants.{BrokenRow, LateHeader, MissingSection, Twice}
+use Rattle.ps_why.specs.declared.causes.Cause.TheVariants.{BrokenRow, LateHeader, MissingSection, Twice, Slip}
+use Rattle.ps_why.specs.declared.causes.Cause.TheVariants.{InRule, InObject, BrokenByte}
 use Rattle.ps_why.specs.declared.names.Named.{Named}
+use Rattle.ps_why.specs.declared.slips.Slip as slips
+use Rattle.ps_why.specs.Clues.{IsClue}
 use Rattle.ps_why.specs.Declarations.{is_declared, IsDeclaredAt}
+use Rattle.ps_why.specs.LineWords.{IsWordOf, texts_of}
+use Rattle.ps_why.specs.NamesShown.{is_own}
+use Rattle.ps_why.specs.ObjectCauses.{IsToldOfObject}
+use Rattle.ps_why.specs.RuleCauses.{IsToldOfRule}
+use Rattle.ps_why.specs.Slips.{section_of, has_slip}
 
 -- words ---------------------------------------------------------------------------------------------------------------
-
--- how the lines of a section are cut into words
-abbrev pub cut_of : Section → Cut
-cut_of Prelude = cuts.Blanks
-cut_of Objects = cuts.Blanks
-cut_of Legend = cuts.Legend
-cut_of Sounds = cuts.Blanks
-cut_of Layers = cuts.Layers
-cut_of Rules = cuts.Rule
-cut_of Wins = cuts.Blanks
-cut_of Levels = cuts.Blanks
-
--- the word is one of the line, where its line and its bytes say
-pub record IsWordOf (text : List ℕ) (line : ℕ) (word : Word) : Type 0 where
-  pub span : IsAmong (map (span_at (line_at text line))
-      (words_under (cut_of (line_at text line).section) (line_at text line).bytes)) word.span
-  pub bytes : IsSliceOf text word
 
 -- a key word of rules
 abbrev pub is_key_word : List ℕ → Bool
@@ -135,14 +124,16 @@ pub record IsLateHeader (text : List ℕ) (line : ℕ) (header : Word) (section 
 abbrev pub begins : Section → Line → Bool
 begins section line = line.is_header && nat_eq (rank section) (rank line.section)
 
--- a line of the text is no header
-abbrev pub IsNoHeader : List ℕ → ℕ → Type 0
-IsNoHeader text line = HasLine text line × ((line_at text line).is_header ≡ false)
-
--- no line is a header of the section, nor is that line
-pub record IsMissing (text : List ℕ) (section : Section) (like : Option ℕ) : Type 0 where
+-- no line is a header of the section
+pub record IsMissing (text : List ℕ) (section : Section) (clue : Clue) : Type 0 where
   pub missing : has_section (header_lines (lines_of text)) section ≡ false
-  pub unlike : IfSome like (IsNoHeader text)
+  pub true_clue : IsClue text clue
+
+-- the byte at that place, from 1, is the first in no whole character
+pub record IsBrokenByte (text : List ℕ) (place byte : ℕ) : Type 0 where
+  pub counted : 1 ≤ place
+  pub first : utf8_valid_len text ≡ place - 1
+  pub there : slice_get text (place - 1) ≡ Some byte
 
 -- a word of the line is declared above it
 pub record IsTwice (text : List ℕ) (line : ℕ) (word : Word) (first : Named) : Type 0 where
@@ -150,6 +141,15 @@ pub record IsTwice (text : List ℕ) (line : ℕ) (word : Word) (first : Named) 
   pub declared_there : IsDeclaredAt text first.line first.name.now
   pub above : first.line < line
   pub same : bytes_eq (folded word.text.now) (folded first.name.now) ≡ true
+
+-- a word of a line of its section that stands where it can't
+pub record IsSlip (text : List ℕ) (line : ℕ) (word : Word) (slip : slips.Slip) : Type 0 where
+  pub stands : IsWordOf text line word
+  pub own : is_own (section_of slip) (line_at text line) ≡ true
+  pub before : List (List ℕ)
+  pub behind : List (List ℕ)
+  pub parts : texts_of text line ≡ before ++ word.text.now ∷ behind
+  pub holds : has_slip slip before word.text.now behind ≡ true
 
 -- what is told of a line is true of the text
 abbrev pub IsToldAt : List ℕ → ℕ → Cause → Type 0
@@ -160,5 +160,9 @@ IsToldAt text line (Unlayered word) = IsUnlayered text line word
 IsToldAt text line (UnknownGlyph row character column) = IsUnknownGlyph text line row character column
 IsToldAt text line (BrokenRow row blank) = IsBrokenRow text line row blank
 IsToldAt text line (LateHeader header section above other) = IsLateHeader text line header section above other
-IsToldAt text line (MissingSection section like) = IsMissing text section like
+IsToldAt text line (MissingSection section clue) = IsMissing text section clue
 IsToldAt text line (Twice word first) = IsTwice text line word first
+IsToldAt text line (Slip word slip) = IsSlip text line word slip
+IsToldAt text line (InRule cause) = IsToldOfRule text line cause
+IsToldAt text line (InObject cause) = IsToldOfObject text line cause
+IsToldAt text line (BrokenByte place byte) = IsBrokenByte text place byte

@@ -1,20 +1,25 @@
 -- What is told of a fault, in words.
-use Rattle.std.specs.Prelude.{ℕ, nat_eq, nat_lt, true, if◌then◌else◌, Option, Some, None, List, [], ◌++◌, codes}
+use Rattle.std.specs.Prelude.{ℕ, nat_eq, nat_lt, true, if◌then◌else◌, List, [], ◌++◌, codes}
 use Rattle.std.specs.Prelude.{encode_utf8}
 use Rattle.std.specs.Fmt.{decimal, digits}
 use Rattle.ps_why.specs.declared.names.Named.{Named}
 use Rattle.ps_why.specs.declared.causes.Blank.{Blank}
 use Rattle.ps_why.specs.declared.causes.Blank.TheVariants.{Space, Tab, CarriageReturn, Comment}
+use Rattle.ps_why.specs.declared.causes.Clue.{Clue}
+use Rattle.ps_why.specs.declared.causes.Clue.TheVariants as clues
 use Rattle.ps_why.specs.declared.causes.Hint.{Hint}
 use Rattle.ps_why.specs.declared.causes.Hint.TheVariants.{Nothing, Near, Strange, Joins}
 use Rattle.ps_why.specs.declared.causes.Cause.{Cause}
 use Rattle.ps_why.specs.declared.causes.Cause.TheVariants.{Untold, Undeclared, Meaningless, Unlayered, UnknownGlyph}
-use Rattle.ps_why.specs.declared.causes.Cause.TheVariants.{BrokenRow, LateHeader, MissingSection, Twice}
+use Rattle.ps_why.specs.declared.causes.Cause.TheVariants.{BrokenRow, LateHeader, MissingSection, Twice, Slip}
+use Rattle.ps_why.specs.declared.causes.Cause.TheVariants.{InRule, InObject, BrokenByte}
+use Rattle.ps_why.specs.ObjectWording.{object_sentence}
+use Rattle.ps_why.specs.RuleWording.{rule_sentence}
+use Rattle.ps_why.specs.SectionNames.{section_name}
+use Rattle.ps_why.specs.SlipWords.{slip_words}
 use Rattle.std.specs.Str.{bytes_eq}
 use Rattle.ps_model.specs.text.Sections.{rank}
 use Rattle.ps_model.specs.declared.texts.Section.{Section}
-use Rattle.ps_model.specs.declared.texts.Section.TheVariants.{Prelude, Objects, Legend, Sounds, Layers, Rules, Wins}
-use Rattle.ps_model.specs.declared.texts.Section.TheVariants.{Levels}
 
 -- the zeros before the digits of a character's code, of which there are four at least
 abbrev pub zeros : ℕ → List ℕ
@@ -72,17 +77,6 @@ glyph_words character column =
 abbrev pub broken_words : List ℕ → Blank → List ℕ
 broken_words row blank = blank_words blank ++ (codes " parts the row behind `" ++ (row ++ codes "`."))
 
--- the word of a section's header
-abbrev pub section_name : Section → List ℕ
-section_name Prelude = codes "the prelude"
-section_name Objects = codes "OBJECTS"
-section_name Legend = codes "LEGEND"
-section_name Sounds = codes "SOUNDS"
-section_name Layers = codes "COLLISIONLAYERS"
-section_name Rules = codes "RULES"
-section_name Wins = codes "WINCONDITIONS"
-section_name Levels = codes "LEVELS"
-
 -- that a header stands below one that belongs below it
 abbrev pub late_words : Section → ℕ → Section → List ℕ
 late_words section above other =
@@ -91,14 +85,29 @@ late_words section above other =
     else section_name section ++ (codes " has to stand above " ++ (section_name other ++
     (codes ", which begins in line " ++ (decimal above ++ codes "."))))
 
--- that a line isn't a header, behind a blank, if there is one
-abbrev pub like_words : Option ℕ → List ℕ
-like_words None = []
-like_words (Some line) = codes " Line " ++ (decimal line ++ codes " isn't one: a header is that word alone.")
+-- that a line isn't a header, behind a blank
+abbrev pub like_words : ℕ → List ℕ
+like_words line = codes " Line " ++ (decimal line ++ codes " isn't one: a header is that word alone.")
+
+-- that a comment isn't closed, behind a blank
+abbrev pub open_words : ℕ → List ℕ
+open_words line = codes " In line " ++ (decimal line ++ codes " a `(` begins a comment that nothing closes.")
+
+-- that lines don't end at line feeds, behind a blank
+abbrev pub returns_words : ℕ → List ℕ
+returns_words place =
+    codes " No line feed ends a line here: byte " ++ (decimal place ++ codes " is a carriage return, which is a blank.")
+
+-- what a section that isn't there may come from, behind a blank
+abbrev pub clue_words : Clue → List ℕ
+clue_words clues.Nothing = []
+clue_words (clues.Like line) = like_words line
+clue_words (clues.Open line) = open_words line
+clue_words (clues.Returns place) = returns_words place
 
 -- that a section isn't there
-abbrev pub missing_words : Section → Option ℕ → List ℕ
-missing_words section like = codes "There is no header " ++ (section_name section ++ (codes "." ++ like_words like))
+abbrev pub missing_words : Section → Clue → List ℕ
+missing_words section clue = codes "There is no header " ++ (section_name section ++ (codes "." ++ clue_words clue))
 
 -- that names are one which are written otherwise
 abbrev pub case_words : List ℕ → List ℕ → List ℕ
@@ -110,6 +119,12 @@ twice_words word first =
     codes "Line " ++ (decimal first.line ++ (codes " declares `" ++ (first.name.now ++ (codes "` already" ++
     (case_words word first.name.now ++ codes ".")))))
 
+-- that a byte is in no whole character
+abbrev pub broken_byte_words : ℕ → ℕ → List ℕ
+broken_byte_words place byte =
+    codes "Byte " ++ (decimal place ++ (codes " of the text, " ++ (digits 16 true byte ++
+    codes " in hexadecimal, is in no whole character of UTF-8.")))
+
 -- what is told of a fault
 abbrev pub sentence : Cause → List ℕ
 sentence Untold = []
@@ -119,5 +134,9 @@ sentence (Unlayered word) = unlayered_words word.text.now
 sentence (UnknownGlyph row character column) = glyph_words character column
 sentence (BrokenRow row blank) = broken_words row.text.now blank
 sentence (LateHeader header section above other) = late_words section above other
-sentence (MissingSection section like) = missing_words section like
+sentence (MissingSection section clue) = missing_words section clue
 sentence (Twice word first) = twice_words word.text.now first
+sentence (Slip word slip) = slip_words slip word.text.now
+sentence (InRule cause) = rule_sentence cause
+sentence (InObject cause) = object_sentence cause
+sentence (BrokenByte place byte) = broken_byte_words place byte

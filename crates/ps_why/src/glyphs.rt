@@ -3,7 +3,8 @@
 ghost use Rattle.std.specs.Prelude.{◌≡◌, ◌<◌, false, IfOk, IfSome, length, slice_index_or, encode_utf8, ℕ, List, All};
 ghost use Rattle.std.specs.Str.{chars};
 ghost use Rattle.ps_model.specs.text.LineNumbers.{HasLine};
-ghost use Rattle.ps_why.specs.Causes.{IsToldAt, IsWordOf, byte_of};
+ghost use Rattle.ps_why.specs.Causes.{IsToldAt, byte_of};
+ghost use Rattle.ps_why.specs.LineWords.{IsWordOf};
 ghost use Rattle.ps_why.specs.Declarations.{declared, is_one_of};
 ghost use Rattle.ps_why.specs.NamesShown.{names_shown};
 

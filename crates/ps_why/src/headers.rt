@@ -4,12 +4,15 @@ ghost use Rattle.std.specs.Prelude.{◌≡◌, ◌≤◌, ◌<◌, true, false, 
 ghost use Rattle.ps_model.specs.text.LineNumbers.{HasLine, line_at};
 ghost use Rattle.ps_model.specs.text.Lines.{lines_of};
 ghost use Rattle.ps_model.specs.text.Sections.{rank, header_lines, has_section};
-ghost use Rattle.ps_why.specs.Causes.{IsToldAt, IsLaterHeader, IsNoHeader, begins};
+ghost use Rattle.ps_why.specs.Causes.{IsToldAt, IsLaterHeader, begins};
+ghost use Rattle.ps_why.specs.Clues.{IsNoHeader, IsClue};
 
-use crate::causes::Cause;
+use crate::causes::{Cause, Clue};
+use crate::comments::open_comment;
 use crate::line_words::words_of;
 use crate::names::rank;
 use crate::near::are_within_one;
+use crate::returns::lone_return;
 use ps_model::{Cut, Memory, Section};
 use ps_text::{Source, Word, same_name, words};
 use std::alloc::Global;
@@ -152,13 +155,35 @@ fn first_like(alloc: Global, source: &Source, header: &str) -> Result<Option<u32
     Ok(None)
 }
 
-/// The section that isn't there, and a line that is written much like its header.
-pub fn missing_cause<'a>(alloc: Global, source: &'a Source) -> Result<Cause<'a>, Memory>
+/// What the missing of a section may come from.
+fn clue_of(alloc: Global, text: &[u8], source: &Source, section: Section) -> Result<Clue, Memory>
+    requires { source.now ≡ text.now }
+    ensures { IfOk result (λ clue. IsClue source.now clue) }
+{
+    if let Some(line) = open_comment(text, source) {
+        return Ok(Clue::Open(line));
+    }
+    if let Some(place) = lone_return(text) {
+        return Ok(Clue::Returns(place));
+    }
+    let Some(line) = first_like(alloc, source, header_of(section))? else {
+        return Ok(Clue::Nothing);
+    };
+    Ok(Clue::Like(line))
+}
+
+/// The section that isn't there, and what that may come from.
+pub fn missing_cause<'a>(
+    alloc: Global,
+    text: &[u8],
+    source: &'a Source,
+) -> Result<Cause<'a>, Memory>
+    requires { source.now ≡ text.now }
     ensures { (line : ℕ) → IfOk result (IsToldAt source.now line) }
 {
     let Some(section) = missing_section(source) else {
         return Ok(Cause::Untold);
     };
-    let like = first_like(alloc, source, header_of(section))?;
-    Ok(Cause::MissingSection { section, like })
+    let clue = clue_of(alloc, text, source, section)?;
+    Ok(Cause::MissingSection { section, clue })
 }

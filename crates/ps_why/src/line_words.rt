@@ -1,8 +1,9 @@
 //! The words of a line, as the lines of its section are cut.
 
-ghost use Rattle.std.specs.Prelude.{◌≡◌, IfOk, All};
+ghost use Rattle.std.specs.Prelude.{◌≡◌, IfOk, All, map};
 ghost use Rattle.ps_model.specs.text.LineNumbers.{HasLine, line_at};
-ghost use Rattle.ps_why.specs.Causes.{IsWordOf, cut_of};
+ghost use Rattle.ps_text.specs.WordViews.{text_of};
+ghost use Rattle.ps_why.specs.LineWords.{IsWordOf, cut_of, texts_of};
 
 use ps_model::{Cut, Memory, Section};
 use ps_text::{Source, Word, words};
@@ -27,7 +28,8 @@ fn cut_of(section: Section) -> Cut
 /// The words of a line, from 1 to `source.lines()`.
 pub fn words_of<'a>(alloc: Global, source: &'a Source, line: u32) -> Result<Vec<Word<'a>>, Memory>
     requires { HasLine source.now line }
-    ensures { IfOk result (λ words. All (IsWordOf source.now line) words.items) }
+    ensures each { IfOk result (λ words. All (IsWordOf source.now line) words.items) }
+    ensures texts { IfOk result (λ words. map text_of words.items ≡ texts_of source.now line) }
 {
     let words = words(alloc, source, line, cut_of(source.section(line)))?;
     Ok(words)

@@ -5,7 +5,8 @@ ghost use Rattle.std.specs.List.{IsAmong};
 ghost use Rattle.std.specs.Str.{bytes_eq};
 ghost use Rattle.ps_model.specs.text.LineNumbers.{HasLine};
 ghost use Rattle.ps_model.specs.text.Lines.{folded};
-ghost use Rattle.ps_why.specs.Causes.{IsToldAt, IsWordOf};
+ghost use Rattle.ps_why.specs.Causes.{IsToldAt};
+ghost use Rattle.ps_why.specs.LineWords.{IsWordOf};
 ghost use Rattle.ps_why.specs.Declarations.{declared};
 ghost use Rattle.ps_why.specs.NamesShown.{names_shown};
 
@@ -50,14 +51,6 @@ fn twice_told<'a>(names: &[Named<'a>], word: Word<'a>, line: u32) -> Cause<'a>
     Cause::Twice { word, first }
 }
 
-/// Whether anything is told.
-fn is_told(cause: Cause<'_>) -> bool {
-    match cause {
-        Cause::Untold => false,
-        _ => true,
-    }
-}
-
 /// The first of the words that is declared above their line.
 fn first_twice<'a>(names: &[Named<'a>], words: &[Word<'a>], line: u32, count: usize) -> Cause<'a>
     ensures { (text : List ℕ) → names_shown names.now ≡ declared text → All (IsWordOf text line) words.now
@@ -65,7 +58,7 @@ fn first_twice<'a>(names: &[Named<'a>], words: &[Word<'a>], line: u32, count: us
 {
     for at in 0..words.len().min(count) {
         let cause = twice_told(names, words[at], line);
-        if is_told(cause) {
+        if cause.is_told() {
             return cause;
         }
     }

@@ -5,18 +5,66 @@ ghost use Rattle.ps_model.specs.text.LineNumbers.{HasLine};
 ghost use Rattle.ps_why.specs.Causes.{IsToldAt};
 ghost use Rattle.ps_why.specs.Shown.{TellsTruth};
 
-use crate::causes::Cause;
+use crate::barred::barred_cause;
+use crate::broken_bytes::broken_byte;
+use crate::causes::{Cause, ObjectCause, RuleCause};
+use crate::counts::counts_cause;
+use crate::found_slips::slip_cause;
 use crate::glyphs::glyph_cause;
+use crate::going_on::going_on_cause;
 use crate::headers::{late_cause, missing_cause};
 use crate::layers::unlayered_cause;
+use crate::looked_for::slips_of;
+use crate::object_causes::object_cause;
 use crate::page::{Mark, line_shown, shown};
+use crate::pairs::pair_cause;
 use crate::rule_words::meaningless_cause;
 use crate::twice::twice_cause;
+use crate::unbound::unbound_cause;
 use crate::undeclared::undeclared_cause;
 use crate::wording::sentence;
-use ps_model::{Fault, FaultKind, Memory, Refusal};
+use ps_model::{Fault, FaultKind, Memory, Refusal, Section};
 use ps_text::{Source, Word};
 use std::alloc::Global;
+
+/// The names of a cell that name one object: a word that stands there twice, or else two that LEGEND has in one line.
+fn name_twice_cause<'a>(alloc: Global, source: &'a Source, line: u32) -> Result<Cause<'a>, Memory>
+    requires { HasLine source.now line }
+    ensures { IfOk result (IsToldAt source.now line) }
+{
+    let cause = slip_cause(alloc, source, line, slips_of(FaultKind::NameTwice))?;
+    if cause.is_told() {
+        return Ok(cause);
+    }
+    pair_cause(alloc, source, line, Section::Legend)
+}
+
+/// A word of a rule that begins no comment, or else one that means nothing.
+fn unknown_word_cause<'a>(alloc: Global, source: &'a Source, line: u32) -> Result<Cause<'a>, Memory>
+    requires { HasLine source.now line }
+    ensures { IfOk result (IsToldAt source.now line) }
+{
+    let cause = slip_cause(alloc, source, line, slips_of(FaultKind::UnknownWord))?;
+    if cause.is_told() {
+        return Ok(cause);
+    }
+    meaningless_cause(alloc, source, line)
+}
+
+/// That a rule goes on in the next line, or else what is wrong with its arrow, rows and cells.
+fn shape_cause<'a>(alloc: Global, source: &'a Source, fault: Fault) -> Result<Cause<'a>, Memory>
+    requires { HasLine source.now fault.line }
+    ensures { IfOk result (IsToldAt source.now fault.line) }
+{
+    let cause = going_on_cause(alloc, source, fault.line)?;
+    if cause.is_told() {
+        return Ok(cause);
+    }
+    if fault.kind == FaultKind::RowsDiffer {
+        return counts_cause(alloc, source, fault.line);
+    }
+    slip_cause(alloc, source, fault.line, slips_of(fault.kind))
+}
 
 /// The cause of a fault at a line of the text.
 fn cause_at<'a>(
@@ -33,13 +81,21 @@ fn cause_at<'a>(
         FaultKind::UnknownName | FaultKind::UnknownWinName => undeclared_cause(
             alloc, source, fault.line,
         ),
-        FaultKind::UnknownWord => meaningless_cause(alloc, source, fault.line),
+        FaultKind::UnknownWord => unknown_word_cause(alloc, source, fault.line),
         FaultKind::NoLayer => unlayered_cause(alloc, source, fault.line),
         FaultKind::SectionOrder => late_cause(alloc, source, fault.line),
-        FaultKind::NoSection => missing_cause(alloc, source),
+        FaultKind::NoSection => missing_cause(alloc, text, source),
         FaultKind::Twice => twice_cause(alloc, source, fault.line),
         FaultKind::UnknownGlyph => glyph_cause(alloc, text, source, fault.line),
-        _ => Ok(Cause::Untold),
+        FaultKind::NameTwice => name_twice_cause(alloc, source, fault.line),
+        FaultKind::Impossible => pair_cause(alloc, source, fault.line, Section::Layers),
+        FaultKind::BadObject => object_cause(alloc, source, fault.line),
+        FaultKind::BadBracket | FaultKind::RowsDiffer | FaultKind::NothingRight => shape_cause(
+            alloc, source, fault,
+        ),
+        FaultKind::NoAggregate => barred_cause(alloc, source, fault.line),
+        FaultKind::Unbound => unbound_cause(alloc, source, fault.line),
+        _ => slip_cause(alloc, source, fault.line, slips_of(fault.kind)),
     }
 }
 
@@ -99,6 +155,25 @@ fn mark_of_character(word: Word<'_>, column: usize) -> Option<Mark> {
     None
 }
 
+/// The word of a rule that a mark stands below.
+fn marked_in_rule<'a>(cause: RuleCause<'a>) -> Word<'a> {
+    match cause {
+        RuleCause::Pair { word, .. }
+        | RuleCause::Several { word, .. }
+        | RuleCause::Unbound { word, .. }
+        | RuleCause::GoesOn { word, .. } => word,
+        RuleCause::Rows { arrow, .. } | RuleCause::Cells { arrow, .. } => arrow,
+    }
+}
+
+/// The word of an object's line that a mark stands below.
+fn marked_in_object<'a>(cause: ObjectCause<'a>) -> Word<'a> {
+    match cause {
+        ObjectCause::RowName { word } => word,
+        ObjectCause::Colourless { name, .. } | ObjectCause::ShortSprite { name, .. } => name,
+    }
+}
+
 /// What the mark of a cause stands below.
 fn mark_of(cause: Cause<'_>) -> Option<Mark> {
     match cause {
@@ -106,7 +181,14 @@ fn mark_of(cause: Cause<'_>) -> Option<Mark> {
         Cause::Undeclared { word, .. }
         | Cause::Meaningless { word, .. }
         | Cause::Unlayered { word }
-        | Cause::Twice { word, .. } => mark_of_word(word),
+        | Cause::Twice { word, .. }
+        | Cause::Slip { word, .. } => mark_of_word(word),
+        Cause::InRule(cause) => mark_of_word(marked_in_rule(cause)),
+        Cause::InObject(cause) => mark_of_word(marked_in_object(cause)),
+        Cause::BrokenByte { place, .. } => Some(Mark {
+            from: place.saturating_sub(1),
+            to: place,
+        }),
         Cause::LateHeader { header, .. } => mark_of_word(header),
         Cause::UnknownGlyph { row, column, .. } => mark_of_character(row, column),
         Cause::BrokenRow { row, .. } => mark_behind(row),
@@ -117,7 +199,7 @@ fn mark_of(cause: Cause<'_>) -> Option<Mark> {
 #[derive(Drop, Debug)]
 pub struct Told {
     /// The line that has the fault, behind its number, and below it a mark under the words that it is about, if there
-    /// are such. Each line ends with a line feed. Of bytes that are no text, nothing.
+    /// are such. Each line ends with a line feed. Of a text that is too long, nothing.
     pub line: String,
     /// A sentence or two, without a line feed. Empty where no more is told than the fault.
     pub sentence: String,
@@ -135,6 +217,23 @@ fn told_of(alloc: Global, text: &[u8], source: &Source, fault: Fault) -> Result<
     Ok(Told { line, sentence })
 }
 
+/// What is told of a text that isn't UTF-8, or of one that is too long: of that nothing.
+fn broken_told(alloc: Global, text: &[u8], fault: Fault) -> Result<Told, Memory>
+    ensures { IfOk result (λ told. TellsTruth text.now fault.line (string_bytes told.sentence)) }
+{
+    let cause = broken_byte(text);
+    if !cause.is_told() {
+        return Ok(Told {
+            line: String::new(alloc),
+            sentence: String::new(alloc),
+        });
+    }
+    let line = line_shown(alloc, text, fault.line, mark_of(cause))?;
+    let words = sentence(alloc, cause)?;
+    let sentence = shown(alloc, &words)?;
+    Ok(Told { line, sentence })
+}
+
 /// What is told of a fault of a text. The sentence is that of a cause that is true of the text.
 ///
 /// # Errors
@@ -146,9 +245,6 @@ pub fn why(alloc: Global, text: &[u8], fault: Fault) -> Result<Told, Memory>
     match Source::read(alloc, text) {
         Ok(source) => told_of(alloc, text, &source, fault),
         Err(Refusal::Memory) => Err(Memory),
-        Err(Refusal::Refused(_)) => Ok(Told {
-            line: String::new(alloc),
-            sentence: String::new(alloc),
-        }),
+        Err(Refusal::Refused(_)) => broken_told(alloc, text, fault),
     }
 }

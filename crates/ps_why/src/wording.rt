@@ -3,10 +3,15 @@
 ghost use Rattle.std.specs.Prelude.{◌≡◌, IfOk, string_bytes};
 ghost use Rattle.ps_why.specs.Wording.{zeros, code_words, sentence, hint_words, blank_words, near_words, strange_words};
 ghost use Rattle.ps_why.specs.Wording.{undeclared_words, meaningless_words, unlayered_words, glyph_words, broken_words};
-ghost use Rattle.ps_why.specs.Wording.{section_name, late_words, like_words, missing_words, case_words, twice_words};
+ghost use Rattle.ps_why.specs.Wording.{late_words, like_words, open_words, returns_words, clue_words, missing_words};
+ghost use Rattle.ps_why.specs.Wording.{case_words, twice_words, broken_byte_words};
 
-use crate::causes::{Blank, Cause, Hint};
+use crate::causes::{Blank, Cause, Clue, Hint};
 use crate::names::{Named, rank};
+use crate::object_wording::object_sentence;
+use crate::rule_wording::rule_sentence;
+use crate::section_names::section_name;
+use crate::slip_words::slip_words;
 use ps_model::{Memory, Section};
 use ps_text::Word;
 use std::alloc::Global;
@@ -131,22 +136,6 @@ fn broken_words(alloc: Global, row: &str, blank: Blank) -> Result<String, Memory
     Ok(words)
 }
 
-/// The word of a section's header.
-fn section_name(section: Section) -> &'static str
-    ensures { result.now ≡ section_name section }
-{
-    match section {
-        Section::Prelude => "the prelude",
-        Section::Objects => "OBJECTS",
-        Section::Legend => "LEGEND",
-        Section::Sounds => "SOUNDS",
-        Section::Layers => "COLLISIONLAYERS",
-        Section::Rules => "RULES",
-        Section::Wins => "WINCONDITIONS",
-        Section::Levels => "LEVELS",
-    }
-}
-
 /// That a header stands below one that belongs below it.
 fn late_words(alloc: Global, section: Section, above: u32, other: Section) -> Result<String, Memory>
     ensures { IfOk result (λ words. string_bytes words ≡ late_words section above other) }
@@ -163,23 +152,50 @@ fn late_words(alloc: Global, section: Section, above: u32, other: Section) -> Re
     Ok(words)
 }
 
-/// That a line isn't a header, behind a blank, if there is one.
-fn like_words(alloc: Global, like: Option<u32>) -> Result<String, Memory>
-    ensures { IfOk result (λ words. string_bytes words ≡ like_words like) }
+/// That a line isn't a header, behind a blank.
+fn like_words(alloc: Global, line: u32) -> Result<String, Memory>
+    ensures { IfOk result (λ words. string_bytes words ≡ like_words line) }
 {
-    let Some(line) = like else {
-        return Ok(String::new(alloc));
-    };
     let words = format!(in alloc; " Line {line} isn't one: a header is that word alone.")?;
     Ok(words)
 }
 
+/// That a comment isn't closed, behind a blank.
+fn open_words(alloc: Global, line: u32) -> Result<String, Memory>
+    ensures { IfOk result (λ words. string_bytes words ≡ open_words line) }
+{
+    let words = format!(in alloc; " In line {line} a `(` begins a comment that nothing closes.")?;
+    Ok(words)
+}
+
+/// That lines don't end at line feeds, behind a blank.
+fn returns_words(alloc: Global, place: usize) -> Result<String, Memory>
+    ensures { IfOk result (λ words. string_bytes words ≡ returns_words place) }
+{
+    let words = format!(in alloc;
+        " No line feed ends a line here: byte {place} is a carriage return, which is a blank."
+    )?;
+    Ok(words)
+}
+
+/// What a section that isn't there may come from, behind a blank.
+fn clue_words(alloc: Global, clue: Clue) -> Result<String, Memory>
+    ensures { IfOk result (λ words. string_bytes words ≡ clue_words clue) }
+{
+    match clue {
+        Clue::Nothing => Ok(String::new(alloc)),
+        Clue::Like(line) => like_words(alloc, line),
+        Clue::Open(line) => open_words(alloc, line),
+        Clue::Returns(place) => returns_words(alloc, place),
+    }
+}
+
 /// That a section isn't there.
-fn missing_words(alloc: Global, section: Section, like: Option<u32>) -> Result<String, Memory>
-    ensures { IfOk result (λ words. string_bytes words ≡ missing_words section like) }
+fn missing_words(alloc: Global, section: Section, clue: Clue) -> Result<String, Memory>
+    ensures { IfOk result (λ words. string_bytes words ≡ missing_words section clue) }
 {
     let name = section_name(section);
-    let more = like_words(alloc, like)?;
+    let more = clue_words(alloc, clue)?;
     let words = format!(in alloc; "There is no header {name}.{more}")?;
     Ok(words)
 }
@@ -205,6 +221,16 @@ fn twice_words(alloc: Global, word: &str, first: Named<'_>) -> Result<String, Me
     Ok(words)
 }
 
+/// That a byte is in no whole character.
+fn broken_byte_words(alloc: Global, place: usize, byte: u8) -> Result<String, Memory>
+    ensures { IfOk result (λ words. string_bytes words ≡ broken_byte_words place byte) }
+{
+    let words = format!(in alloc;
+        "Byte {place} of the text, {byte:X} in hexadecimal, is in no whole character of UTF-8."
+    )?;
+    Ok(words)
+}
+
 /// What is told of a fault: a sentence or two, and nothing where nothing is told.
 pub fn sentence(alloc: Global, cause: Cause<'_>) -> Result<String, Memory>
     ensures { IfOk result (λ words. string_bytes words ≡ sentence cause.entry) }
@@ -226,7 +252,11 @@ pub fn sentence(alloc: Global, cause: Cause<'_>) -> Result<String, Memory>
             other,
             ..
         } => late_words(alloc, section, above, other),
-        Cause::MissingSection { section, like } => missing_words(alloc, section, like),
+        Cause::MissingSection { section, clue } => missing_words(alloc, section, clue),
         Cause::Twice { word, first } => twice_words(alloc, word.text(), first),
+        Cause::Slip { word, slip } => slip_words(alloc, slip, word.text()),
+        Cause::InRule(cause) => rule_sentence(alloc, cause),
+        Cause::InObject(cause) => object_sentence(alloc, cause),
+        Cause::BrokenByte { place, byte } => broken_byte_words(alloc, place, byte),
     }
 }

@@ -1,6 +1,6 @@
 use Rattle.std.proofs.Common.{◌≡◌, ◌<◌, ◌∙◌, ap, rules, arith, length, All}
 use Rattle.std.specs.Str.{chars}
-use Rattle.ps_why.specs.Causes.{IsWordOf}
+use Rattle.ps_why.specs.LineWords.{IsWordOf}
 use Rattle.ps_why.specs.Declarations.{declared}
 use Rattle.ps_why.specs.NamesShown.{names_shown}
 use Rattle.ps_why.proofs.LineWords.{holds-of_first}
@@ -11,7 +11,7 @@ returns-in-Some c =
     let some : 0 < length c.in_ok-words.words.items = search (rules, arith) in
     let stands : IsWordOf c.args.source.now c.args.line c.index.result.now =
     holds-of_first (IsWordOf c.args.source.now c.args.line) c.in_ok-words.words.items c.index.result.now some
-    c.index.ensures c.in_ok-words.ensures in
+    c.index.ensures c.in_ok-words.ensures.each in
     let names : names_shown c.deref.result.now ≡ declared c.args.source.now =
     ap (λ items. names_shown items) c.deref.ensures.value ∙ c.in_ok-names.ensures in
     let characters : c.deref-2.result.now ≡ chars c.index.result.now.text.now =
@@ -21,5 +21,5 @@ returns-in-Some c =
 pub returns : goal.returns
 returns c =
     let all : All (IsWordOf c.args.text.now c.args.line) c.deref-3.result.now =
-    rw (c.deref-3.ensures.value, ← c.requires.text) c.in_ok-words.ensures in
+    rw (c.deref-3.ensures.value, ← c.requires.text) c.in_ok-words.ensures.each in
     rw c.requires.text (c.broken_cause.ensures c.args.line all)

@@ -1,0 +1,113 @@
+//! What is told of an object, in words.
+
+ghost use Rattle.std.specs.Prelude.{◌≡◌, IfOk, string_bytes};
+ghost use Rattle.ps_why.specs.ObjectWording.{row_name_words, colourless_words, why_no_row_words, no_row_words};
+ghost use Rattle.ps_why.specs.ObjectWording.{short_words, object_sentence};
+
+use crate::causes::{NoRow, ObjectCause, WhyNoRow};
+use ps_model::Memory;
+use ps_text::Word;
+use std::alloc::Global;
+
+/// That a row of a sprite is read as a name.
+fn row_name_words(alloc: Global, word: &str) -> Result<String, Memory>
+    ensures { IfOk result (λ words. string_bytes words ≡ row_name_words word.now) }
+{
+    let words = format!(in alloc;
+        "`{word}` is read as a name: a sprite has five rows of five points and digits each."
+    )?;
+    Ok(words)
+}
+
+/// That an object has no colours right below its name.
+fn colourless_words(alloc: Global, name: &str, below: Option<u32>) -> Result<String, Memory>
+    ensures { IfOk result (λ words. string_bytes words ≡ colourless_words name.now below) }
+{
+    let Some(line) = below else {
+        let words = format!(in alloc; "Below `{name}` stands no line of OBJECTS for its colours.")?;
+        return Ok(words);
+    };
+    let words = format!(in alloc;
+        "Line {line} is blank, and the colours of `{name}` stand right below its name."
+    )?;
+    Ok(words)
+}
+
+/// That a word has not five characters.
+fn length_words(alloc: Global, word: Word<'_>, count: usize) -> Result<String, Memory>
+    ensures { IfOk result (λ words. string_bytes words ≡ why_no_row_words (WhyNoRow.Length word.entry count)) }
+{
+    let text = word.text();
+    let words = format!(in alloc; ": `{text}` has {count} characters in place of five.")?;
+    Ok(words)
+}
+
+/// That a character stands in no row.
+fn character_words(alloc: Global, word: Word<'_>, character: char) -> Result<String, Memory>
+    ensures { IfOk result (λ words. string_bytes words ≡ why_no_row_words (WhyNoRow.Character word.entry character)) }
+{
+    let text = word.text();
+    let words = format!(in alloc; ": `{character}` in `{text}` is neither a point nor a digit.")?;
+    Ok(words)
+}
+
+/// Why a line is no row of a sprite.
+fn why_no_row_words(alloc: Global, why: WhyNoRow<'_>) -> Result<String, Memory>
+    ensures { IfOk result (λ words. string_bytes words ≡ why_no_row_words why.entry) }
+{
+    match why {
+        WhyNoRow::Blank => {
+            let words = String::from_str(alloc, ": it is blank.")?;
+            Ok(words)
+        }
+        WhyNoRow::Length { word, count } => length_words(alloc, word, count),
+        WhyNoRow::Character { word, character } => character_words(alloc, word, character),
+        WhyNoRow::Untold => {
+            let words = String::from_str(alloc, ".")?;
+            Ok(words)
+        }
+    }
+}
+
+/// That a line is none, behind a blank, if there is such a line.
+fn no_row_words(alloc: Global, below: Option<NoRow<'_>>) -> Result<String, Memory>
+    ensures { IfOk result (λ words. string_bytes words ≡ no_row_words below.entry) }
+{
+    let Some(no_row) = below else {
+        return Ok(String::new(alloc));
+    };
+    let line = no_row.line;
+    let why = why_no_row_words(alloc, no_row.why)?;
+    let words = format!(in alloc; " Line {line} is none{why}")?;
+    Ok(words)
+}
+
+/// That a sprite has too few rows.
+fn short_words(
+    alloc: Global,
+    name: &str,
+    rows: usize,
+    below: Option<NoRow<'_>>,
+) -> Result<String, Memory>
+    ensures { IfOk result (λ words. string_bytes words ≡ short_words name.now rows below.entry) }
+{
+    let more = no_row_words(alloc, below)?;
+    let words = format!(in alloc; "The sprite of `{name}` has {rows} of five rows.{more}")?;
+    Ok(words)
+}
+
+/// What is told of an object.
+pub fn object_sentence(alloc: Global, cause: ObjectCause<'_>) -> Result<String, Memory>
+    ensures { IfOk result (λ words. string_bytes words ≡ object_sentence cause.entry) }
+{
+    match cause {
+        ObjectCause::RowName { word } => row_name_words(alloc, word.text()),
+        ObjectCause::Colourless { name, below } => colourless_words(alloc, name.text(), below),
+        ObjectCause::ShortSprite { name, rows, below } => short_words(
+            alloc,
+            name.text(),
+            rows,
+            below,
+        ),
+    }
+}

@@ -1,0 +1,152 @@
+//! Slips in words: what stands before the word that has one, and what behind it.
+
+ghost use Rattle.std.specs.Prelude.{◌≡◌, IfOk, string_bytes};
+ghost use Rattle.ps_why.specs.SlipWords.{shape_front, shape_back, rule_front, rule_back, form_front, form_back};
+ghost use Rattle.ps_why.specs.SlipWords.{slip_front, slip_back, slip_words};
+
+use crate::slips::{FormSlip, RuleSlip, ShapeSlip, Slip};
+use ps_model::Memory;
+use std::alloc::Global;
+
+/// What stands before a word with a wrong bracket, bar or arrow.
+fn shape_front(slip: ShapeSlip) -> &'static str
+    ensures { result.now ≡ shape_front slip }
+{
+    match slip {
+        ShapeSlip::LikeArrow => "No `->` stands in the line: `",
+        ShapeSlip::NoArrow => "No `->` stands in the line, which ends behind `",
+        ShapeSlip::Nested => "Another `[` stands behind this `",
+        ShapeSlip::Unclosed => "No `]` closes this `",
+        ShapeSlip::LoneClosing => "No `[` is open before this `",
+        ShapeSlip::NothingLeft => "Nothing stands in brackets left of `",
+        ShapeSlip::NothingRight => "Nothing stands behind `",
+        ShapeSlip::SecondArrow
+        | ShapeSlip::BarOutside
+        | ShapeSlip::DirectionOutside
+        | ShapeSlip::WordOutside => "`",
+    }
+}
+
+/// What stands behind it.
+fn shape_back(slip: ShapeSlip) -> &'static str
+    ensures { result.now ≡ shape_back slip }
+{
+    match slip {
+        ShapeSlip::LikeArrow => "` isn't one.",
+        ShapeSlip::NoArrow => "`: a rule has one, and is written in one line.",
+        ShapeSlip::SecondArrow => "` stands a second time.",
+        ShapeSlip::Nested => "` before a `]`: brackets don't nest.",
+        ShapeSlip::Unclosed => "` on its side of `->`.",
+        ShapeSlip::LoneClosing => "` on its side of `->`.",
+        ShapeSlip::NothingLeft => "`.",
+        ShapeSlip::NothingRight => "`: a rule is written in one line.",
+        ShapeSlip::BarOutside => "` stands outside brackets: it parts the cells of a row.",
+        ShapeSlip::DirectionOutside =>
+            "` stands behind `->`: a rule has its directions before the first `[`.",
+        ShapeSlip::WordOutside => "` stands outside brackets.",
+    }
+}
+
+/// What stands before another word of a rule.
+fn rule_front(slip: RuleSlip) -> &'static str
+    ensures { result.now ≡ rule_front slip }
+{
+    match slip {
+        RuleSlip::Slashes => "A comment stands between `(` and `)`, and doesn't begin as `",
+        RuleSlip::LoopWords
+        | RuleSlip::MessageAlone
+        | RuleSlip::LateMove
+        | RuleSlip::Chance
+        | RuleSlip::Rigid
+        | RuleSlip::TwiceInCell => "`",
+    }
+}
+
+/// What stands behind it.
+fn rule_back(slip: RuleSlip) -> &'static str
+    ensures { result.now ≡ rule_back slip }
+{
+    match slip {
+        RuleSlip::Slashes => "`.",
+        RuleSlip::LoopWords => "` has to stand alone in its line.",
+        RuleSlip::MessageAlone =>
+            "` stands in a line without `->`: a rule has its message behind that.",
+        RuleSlip::LateMove =>
+            "` stands in the brackets of a late rule: behind the movement nothing moves.",
+        RuleSlip::Chance =>
+            "` is left out here, where nothing goes by chance: a rule says which place and direction are meant.",
+        RuleSlip::Rigid =>
+            "` is left out here: a late rule with `cancel` can take back a turn in which only a part has moved.",
+        RuleSlip::TwiceInCell => "` stands in this cell a second time.",
+    }
+}
+
+/// What stands before a word of another section.
+fn form_front(slip: FormSlip) -> &'static str
+    ensures { result.now ≡ form_front slip }
+{
+    match slip {
+        FormSlip::NoEquals | FormSlip::NoJoiner | FormSlip::EqualsAsName =>
+            "A line of LEGEND is `X = Y`, `X = Y and Z` or `X = Y or Z`: `",
+        FormSlip::LegendEnds =>
+            "A line of LEGEND is `X = Y`, `X = Y and Z` or `X = Y or Z`, and doesn't end behind `",
+        FormSlip::NoQuantifier | FormSlip::NoOn | FormSlip::FurtherWord =>
+            "A win condition is `No X`, `Some X`, `Any X` or `All X`, or that with `on Y`: `",
+        FormSlip::WinEnds =>
+            "A win condition is `No X`, `Some X`, `Any X` or `All X`, or that with `on Y`, and doesn't end behind `",
+        FormSlip::SecondName | FormSlip::ThirdName =>
+            "An object's line has its name, and perhaps a second one of one character: `",
+        FormSlip::RealTime => "`",
+    }
+}
+
+/// What stands behind it.
+fn form_back(slip: FormSlip) -> &'static str
+    ensures { result.now ≡ form_back slip }
+{
+    match slip {
+        FormSlip::NoEquals => "` stands where `=` has to.",
+        FormSlip::NoJoiner => "` stands where `and` or `or` has to.",
+        FormSlip::EqualsAsName => "` stands where a name has to.",
+        FormSlip::NoQuantifier => "` stands where one of these four has to.",
+        FormSlip::NoOn => "` stands where `on` has to.",
+        FormSlip::FurtherWord => "` is one word too many.",
+        FormSlip::SecondName => "` is its second word.",
+        FormSlip::ThirdName => "` is its third word.",
+        FormSlip::LegendEnds | FormSlip::WinEnds => "`.",
+        FormSlip::RealTime =>
+            "` is left out here, where all that happens follows a key: a rule with `again` goes on by itself.",
+    }
+}
+
+/// What stands before the word that has a slip.
+fn slip_front(slip: Slip) -> &'static str
+    ensures { result.now ≡ slip_front slip }
+{
+    match slip {
+        Slip::Shape(slip) => shape_front(slip),
+        Slip::Rule(slip) => rule_front(slip),
+        Slip::Form(slip) => form_front(slip),
+    }
+}
+
+/// What stands behind it.
+fn slip_back(slip: Slip) -> &'static str
+    ensures { result.now ≡ slip_back slip }
+{
+    match slip {
+        Slip::Shape(slip) => shape_back(slip),
+        Slip::Rule(slip) => rule_back(slip),
+        Slip::Form(slip) => form_back(slip),
+    }
+}
+
+/// What is told of a word that has a slip.
+pub fn slip_words(alloc: Global, slip: Slip, word: &str) -> Result<String, Memory>
+    ensures { IfOk result (λ words. string_bytes words ≡ slip_words slip word.now) }
+{
+    let front = slip_front(slip);
+    let back = slip_back(slip);
+    let words = format!(in alloc; "{front}{word}{back}")?;
+    Ok(words)
+}
