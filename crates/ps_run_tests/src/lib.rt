@@ -1,7 +1,7 @@
 //! Tests of runs and of what stands around them, by public calls: runs with devices, and with memory, of their own,
-//! devices by themselves, checks of texts, texts too long to lie in a file, and command lines. Games of which a text, keys
-//! and an output say all are played by `ps_cases`. They stand above the crates that they test, since a crate with tests is
-//! proved twice.
+//! devices by themselves, checks of texts, texts too long to lie in a file, and command lines. Games of which a text,
+//! keys and an output say all are played by `ps_cases`. They stand above the crates that they test, since a crate with
+//! tests is proved twice.
 #![tactic(auto)]
 
 #[cfg(test)]
