@@ -5,7 +5,7 @@ ghost use Rattle.std.specs.Prelude.{◌≡◌, ◌≤◌, false, OnOk};
 use crate::command::{Asked, read_command};
 use crate::details::{Detail, show_detail};
 use crate::explanations::explanation;
-use crate::files::read_game_file;
+use crate::files::{STANDARD_INPUT, read_game_file, read_input, read_text};
 use crate::playing::play_asked;
 use crate::stops::{Stop, stop_for, tell};
 use ps_check::{check, check_named};
@@ -48,24 +48,26 @@ fn act<R: Env + Files + AllocGlobal + Print + Eprint, I: ByteReader, O: ByteWrit
         .map_err(|_| Stop::Run(RunFault::Memory))?;
     match read_command(rt.alloc(), &words)? {
         Asked::Explanation(code) => explain(rt, code),
-        Asked::Check(path) => check_text(rt, path, Detail::Line, screen),
-        Asked::CheckWhy(path) => check_text(rt, path, Detail::Why, screen),
-        Asked::CheckAll(paths) => check_texts(rt, &paths, Detail::Line, screen),
-        Asked::CheckAllWhy(paths) => check_texts(rt, &paths, Detail::Why, screen),
+        Asked::Check(path) => check_text(rt, path, Detail::Line, keys, screen),
+        Asked::CheckWhy(path) => check_text(rt, path, Detail::Why, keys, screen),
+        Asked::CheckAll(paths) => check_texts(rt, &paths, Detail::Line, keys, screen),
+        Asked::CheckAllWhy(paths) => check_texts(rt, &paths, Detail::Why, keys, screen),
         Asked::Play(asked) => play_asked(rt, asked, keys, screen),
     }
 }
 
 /// Says on the screen whether the text of a file is a game.
-fn check_text<R: Files + AllocGlobal, O: ByteWriter>(
+fn check_text<R: Files + AllocGlobal, I: ByteReader, O: ByteWriter>(
     rt: &R,
     path: &str,
     detail: Detail,
+    input: &mut I,
     screen: &mut O,
 ) -> Result<(), Stop>
+    requires heard { (I.state input.old).has_failed ≡ false }
     requires well { (O.state screen.old).has_failed ≡ false }
 {
-    let text = read_game_file(rt, path).map_err(|error| stop_for(error, Stop::Game))?;
+    let text = read_text(rt, path, input)?;
     if check(rt.alloc(), &text, screen)? {
         return Ok(());
     }
@@ -74,33 +76,42 @@ fn check_text<R: Files + AllocGlobal, O: ByteWriter>(
 }
 
 /// Says of each of several files on the screen whether its text is a game. It is well where all are.
-fn check_texts<R: Files + AllocGlobal + Eprint, O: ByteWriter>(
+fn check_texts<R: Files + AllocGlobal + Eprint, I: ByteReader, O: ByteWriter>(
     rt: &R,
     paths: &[&str],
     detail: Detail,
+    input: &mut I,
     screen: &mut O,
 ) -> Result<(), Stop>
+    requires heard { (I.state input.old).has_failed ≡ false }
     requires well { (O.state screen.old).has_failed ≡ false }
 {
     let mut all = true;
     for path in paths {
-        let accepted = check_one(rt, *path, detail, screen)?;
+        let accepted = check_one(rt, *path, detail, input, screen)?;
         all = all && accepted;
     }
     if all { Ok(()) } else { Err(Stop::NotAccepted) }
 }
 
 /// Says of one of several files whether its text is a game, and answers that. A file that can't be read is told of on
-/// standard error, and holds none.
-fn check_one<R: Files + AllocGlobal + Eprint, O: ByteWriter>(
+/// standard error, and holds none; standard input that can't be read ends the check.
+fn check_one<R: Files + AllocGlobal + Eprint, I: ByteReader, O: ByteWriter>(
     rt: &R,
     path: &str,
     detail: Detail,
+    input: &mut I,
     screen: &mut O,
 ) -> Result<bool, Stop>
+    requires heard { (I.state input.old).has_failed ≡ false }
     requires well { (O.state screen.old).has_failed ≡ false }
+    ensures heard { OnOk result ((I.state input.new).has_failed ≡ false) }
     ensures well { OnOk result ((O.state screen.new).has_failed ≡ false) }
 {
+    if path == STANDARD_INPUT {
+        let text = read_input(rt.alloc(), input)?;
+        return check_bytes(rt.alloc(), path, &text, detail, screen);
+    }
     match read_game_file(rt, path) {
         Ok(text) => check_bytes(rt.alloc(), path, &text, detail, screen),
         Err(error) => {

@@ -10,7 +10,7 @@ use std::convert::AsStr;
 /// A game that is to be played.
 #[derive(Clone, Copy)]
 pub struct Play<'w> {
-    /// The file with the game's text.
+    /// The file with the game's text, or `-` for standard input.
     pub game: &'w str,
     /// The file with the keys; standard input, where none is named.
     pub keys: Option<&'w str>,
@@ -106,7 +106,9 @@ fn asked_check<'w>(
 /// `GAME`.
 fn game_argument(alloc: Global) -> Result<Arg<'static>, AllocError> {
     Arg::new(alloc, "GAME")
-        .help("The text of a game, which is played: frames go to standard output")
+        .help(
+            "The text of a game, or - for standard input; it is played: frames go to standard output",
+        )
         .action(ArgAction::Set)
         .required_unless_present("explain")
 }

@@ -1,16 +1,58 @@
-//! The files of games.
+//! The texts of games.
 
-use ps_model::TEXT_LIMIT;
+ghost use Rattle.std.specs.Prelude.{◌≡◌, false, OnOk};
+
+use crate::stops::{Stop, stop_for};
+use ps_devices::ByteReader;
+use ps_model::{CALL_LIMIT, TEXT_LIMIT};
+use std::alloc::Global;
 use std::io::Read;
 use std::rt::Files;
 use std::{fs, io};
 
-/// How many bytes of a game are read at most: one more than a game may have, so that a longer one is known.
-const MOST_READ: u64 = TEXT_LIMIT as u64 + 1;
+/// How many bytes of a text are read: one more than a game may have, so that a longer one is known.
+const MOST_READ: usize = TEXT_LIMIT + 1;
+
+/// The name of standard input, where a file's is asked for.
+pub const STANDARD_INPUT: &str = "-";
 
 /// The first bytes of a file, at most `MOST_READ`.
 pub fn read_game_file<R: Files + AllocGlobal>(rt: &R, path: &str) -> io::Result<Vec<u8>> {
     let mut text = Vec::new(rt.alloc());
-    fs::open(rt, path)?.take(MOST_READ).read_to_end(&mut text)?;
+    fs::open(rt, path)?
+        .take(MOST_READ as u64)
+        .read_to_end(&mut text)?;
     Ok(text)
+}
+
+/// What a reader has left. Of more than `MOST_READ` bytes no more pieces are read.
+pub fn read_input<I: ByteReader>(alloc: Global, input: &mut I) -> Result<Vec<u8>, Stop>
+    requires heard { (I.state input.old).has_failed ≡ false }
+    ensures heard { OnOk result ((I.state input.new).has_failed ≡ false) }
+{
+    let mut text = Vec::new(alloc);
+    let mut piece = [0u8; CALL_LIMIT];
+    while text.len() < MOST_READ {
+        let count = input.read_some(&mut piece).map_err(|_| Stop::Game)?;
+        if count == 0 {
+            return Ok(text);
+        }
+        text.extend_from_slice(&piece[..count])?;
+    }
+    Ok(text)
+}
+
+/// The text of a file, or what a reader has left, where the name is that of standard input.
+pub fn read_text<R: Files + AllocGlobal, I: ByteReader>(
+    rt: &R,
+    path: &str,
+    input: &mut I,
+) -> Result<Vec<u8>, Stop>
+    requires heard { (I.state input.old).has_failed ≡ false }
+    ensures heard { OnOk result ((I.state input.new).has_failed ≡ false) }
+{
+    if path == STANDARD_INPUT {
+        return read_input(rt.alloc(), input);
+    }
+    read_game_file(rt, path).map_err(|error| stop_for(error, Stop::Game))
 }

@@ -3,7 +3,7 @@
 ghost use Rattle.std.specs.Prelude.{◌≡◌, false};
 
 use crate::command::Play;
-use crate::files::read_game_file;
+use crate::files::read_text;
 use crate::stops::{Stop, stop_for};
 use ps_devices::{ByteReader, ByteWriter, FromStd};
 use ps_run::{RunFault, run};
@@ -11,7 +11,8 @@ use ps_view::{Lent, Size, Viewed};
 use std::fs;
 use std::rt::Files;
 
-/// Plays a game: on the screen as it is, or in a view of that size, in which the board stays in place.
+/// Plays a game: on the screen as it is, or in a view of that size, in which the board stays in place. Where its text
+/// comes from standard input, the keys are what stands behind it there, unless a file has them.
 pub fn play_asked<R: Files + AllocGlobal, I: ByteReader, O: ByteWriter>(
     rt: &R,
     asked: Play<'_>,
@@ -21,7 +22,7 @@ pub fn play_asked<R: Files + AllocGlobal, I: ByteReader, O: ByteWriter>(
     requires heard { (I.state keys.old).has_failed ≡ false }
     requires well { (O.state screen.old).has_failed ≡ false }
 {
-    let text = read_game_file(rt, asked.game).map_err(|error| stop_for(error, Stop::Game))?;
+    let text = read_text(rt, asked.game, keys)?;
     match asked.size {
         None => play_from(rt, &text, asked.keys, keys, screen),
         Some(size) => play_in_view(rt, &text, asked.keys, size, keys, screen),

@@ -1,6 +1,6 @@
 //! Command lines and what they ask for, and the sentences of faults.
 
-use crate::games::PUSHED;
+use crate::games::{PUSHED, PUSHING};
 use crate::machine::{Kept, Machine};
 use crate::watched::Watched;
 use ps_command::run_command_line;
@@ -129,8 +129,13 @@ struct Outcome {
 
 /// Does what a command line asks for, with the key `d` from standard input.
 fn obey(rt: &(impl Abort + AllocGlobal), words: &[&str]) -> Outcome {
+    obey_with(rt, words, b"d")
+}
+
+/// Does what a command line asks for, with these bytes from standard input.
+fn obey_with(rt: &(impl Abort + AllocGlobal), words: &[&str], input: &[u8]) -> Outcome {
     let machine = Machine::new(rt.alloc(), words);
-    let mut keys = Watched::new(MemoryReader::new(b"d", 1, None));
+    let mut keys = Watched::new(MemoryReader::new(input, 1, None));
     let screen = MemoryWriter::new(rt.alloc(), 1000, CALL_LIMIT);
     let mut screen = screen.expect(rt, "memory for the screen");
     let status = run_command_line(&machine, &mut keys, &mut screen);
@@ -245,6 +250,36 @@ fn checks_many_files(rt: HostRuntime) {
         assert_eq!(rt; outcome.reads, 0);
         assert_eq!(rt; outcome.screen.bytes(), shown.as_bytes());
         assert_eq!(rt; outcome.kept.complained.as_str(), complained);
+        assert!(rt; outcome.kept.printed.is_empty());
+    }
+}
+
+/// The words of command lines that name standard input as the text of a game, what is shown where that is the game of
+/// the other tests, and the files that are opened.
+const INPUT_LINES: [(&[&str], &str, &str); 4] = [
+    (&["ps_play", "--check", "-"], CHECKED, ""),
+    (
+        &["ps_play", "-"],
+        "= T\n# level 1\n#P*O#\n\n* end of keys\n",
+        "",
+    ),
+    (&["ps_play", "-", "--keys", "a.keys"], QUIT, "a.keys\n"),
+    (
+        &["ps_play", "--check", "a.game", "-"],
+        "a.game: ok: objects 9, layers 4, rules 1, levels 1\n-: ok: objects 9, layers 4, rules 1, levels 1\n",
+        "a.game\n",
+    ),
+];
+
+/// Of a game that stands on standard input all of it is read before keys are.
+#[test]
+fn reads_a_game_from_standard_input(rt: HostRuntime) {
+    for (words, shown, opened) in INPUT_LINES {
+        let outcome = obey_with(&rt, words, PUSHING);
+        assert_eq!(rt; outcome.status, 0);
+        assert_eq!(rt; outcome.screen.bytes(), shown.as_bytes());
+        assert_eq!(rt; outcome.kept.opened.as_str(), opened);
+        assert!(rt; outcome.kept.complained.is_empty());
         assert!(rt; outcome.kept.printed.is_empty());
     }
 }
