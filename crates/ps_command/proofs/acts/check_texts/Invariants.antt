@@ -1,4 +1,4 @@
-use Rattle.std.proofs.Common.{◌≡◌, ◌×◌, false}
+use Rattle.std.proofs.Common.{◌≡◌, false}
 use Rattle.ps_command.proofs.acts.check_texts.Given as goal
 
 -- the input and the screen are well
