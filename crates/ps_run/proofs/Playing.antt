@@ -49,7 +49,8 @@ two_up a b c first second = omega arith
 -- texts counted one after the other
 pub counted_twice :
     (before now later : WriterState) (first second whole : List ℕ) (count more : ℕ) →
-    HasCounted before now first count → HasCounted now later second more → whole ≡ first ++ second → HasCounted before later whole (count + more)
+    HasCounted before now first count → HasCounted now later second more → whole ≡ first ++ second →
+    HasCounted before later whole (count + more)
 counted_twice before now later first second whole count more one other same =
     let long : length whole ≡ length first + length second = ap length same ∙ length-append first second in
     record {

@@ -27,4 +27,4 @@ returns c =
     turned_as _ _ _ _ _ _ _ c.self.view_is
     (turned_in c.self.inside.game c.self.inside.plain.now c.self.inside.late.now _ _ c.args.key _ _ _ c.self.invariant.0
     (turned_there _ _ _ _ _ _ _ c.in-Err-Elsewhere.entry _ _ (sym c.self.invariant.0) keyed
-        c.in_ok-go_on.ensures.begun))
+    c.in_ok-go_on.ensures.begun))
