@@ -10,7 +10,7 @@ use Rattle.ps_program.specs.declared.rows.CompiledRow.{CompiledRow}
 use Rattle.ps_places.specs.Lines.{cell_meaning, part_meaning}
 use Rattle.ps_places.specs.RowPlaces.{parts_meaning, row_meaning}
 use Rattle.ps_engine.specs.Choosing.{rows_meaning}
-use Rattle.ps_engine.specs.OneCell.{one_cell, one_part, rows_parts}
+use Rattle.ps_engine.specs.OnePart.{one_part, rows_parts}
 
 -- a grid as it was
 abbrev pub unchanged : Grid → Rewritten
@@ -83,7 +83,7 @@ attempt_written direction rows rewrites commands g queue [] r does some made = a
 attempt_written direction rows rewrites commands g queue (first ∷ others) r does some made =
     attempt_walked direction rows rewrites commands g queue (first ∷ others) first others r refl does made
 
--- what the only part of rows means, and the only cell
+-- what the only part of rows means
 pub rows_by_parts : (table : Option (List ℕ)) (rows : List CompiledRow) →
     rows_meaning table rows ≡ map (parts_meaning table) (rows_parts rows)
 rows_by_parts table [] = refl
@@ -94,11 +94,6 @@ pub only_part_meant : (table : Option (List ℕ)) (rows : List CompiledRow) (par
     rows_parts rows ≡ one_part part →
     rows_meaning table rows ≡ (part_meaning table part ∷ []) ∷ []
 only_part_meant table rows part only = rows_by_parts table rows ∙ ap (map (parts_meaning table)) only
-
-pub only_cell_meant : (table : Option (List ℕ)) (rows : List CompiledRow) (cell : CompiledCell) →
-    rows_parts rows ≡ one_cell cell →
-    rows_meaning table rows ≡ ((cell_meaning table cell ∷ []) ∷ []) ∷ []
-only_cell_meant table rows cell only = rows_by_parts table rows ∙ ap (map (parts_meaning table)) only
 
 -- one row has combinations where it has places
 pub some_alone : (ps : List (List ℕ)) → ps ≢ [] → combinations (ps ∷ []) ≢ []

@@ -7,8 +7,6 @@ pub mod Combinations
 pub mod AskedRows
 pub mod Sequences
 pub mod AsTheyAre
-pub mod OneByOne
-pub mod RowsWritten
 pub mod LeftAsIs
 pub mod WrittenOnce
 pub mod WritersAside

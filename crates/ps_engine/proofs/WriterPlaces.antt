@@ -45,7 +45,11 @@ use Rattle.ps_engine.specs.Writing.{AreWithin, is_written, start_column, start_r
 use Rattle.ps_engine.proofs.WrittenOnce.{StandsAside, applied_along, fits_within, places_from, target_fits, target_of}
 use Rattle.ps_engine.proofs.WritersAside.{cells_aside, written_twice}
 use Rattle.ps_places.proofs.PlacesWritten.{nothing_behind}
-use Rattle.ps_engine.proofs.OneByOne.{no_places}
+
+-- a row without combinations has no places
+no_places : (ps : List (List ℕ)) → map alone ps ++ [] ≡ [] → ps ≡ []
+no_places [] e = refl
+no_places (p ∷ ps) e = absurd (cc)
 
 -- one row alone -------------------------------------------------------------------------------------------------------
 

@@ -1,7 +1,7 @@
 pub mod Choices
 pub mod Choosing
 pub mod RulesInRoom
-pub mod OneCell
+pub mod OnePart
 pub mod Rooms
 pub mod Writing
 pub mod Watching

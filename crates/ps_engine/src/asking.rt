@@ -27,7 +27,7 @@ fn row_has_place<B: Scan>(board: &B, row: &CompiledRow, room: &mut RoomFor<B>) -
 }
 
 /// Whether each row of a rule has a place on the board as it is: whether the rule has a combination.
-fn rows_have_places<'r, B: Scan>(
+pub fn rows_have_places<'r, B: Scan>(
     board: &B,
     rule: &CompiledRule<'r>,
     rooms: &mut [RoomFor<B>],

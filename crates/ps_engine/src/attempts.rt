@@ -7,9 +7,8 @@ ghost use Rattle.ps_engine.specs.Choices.{behind, choices_of, chosen};
 ghost use Rattle.ps_engine.specs.Choosing.{ArePlaced, HaveLinesOf, rows_meaning};
 ghost use Rattle.ps_engine.specs.RulesInRoom.{rule_meaning};
 
-use crate::asking::attempt_commands;
+use crate::asking::{attempt_commands, rows_have_places};
 use crate::lent_queue::LentQueue;
-use crate::one_cell::{attempt_cell, only_cell};
 use crate::one_part::{attempt_part, only_part};
 use crate::walking::walk;
 use crate::writing::attempt_writer;
@@ -92,7 +91,7 @@ pub fn is_idle<'r, B: Scan>(board: &B, rule: &CompiledRule<'r>, rooms: &mut [Roo
     ensures idle { result ≡ true → combinations_on (B.grid board.now) (rule_meaning (B.table board.now) rule.now) ≡ [] }
     ensures long { length rooms.new ≡ length rooms.old }
 {
-    lacks_needed(board, rule) || !choose_first(board, rule, rooms)
+    lacks_needed(board, rule) || !rows_have_places(board, rule, rooms)
 }
 
 /// An attempt of a rule that rewrites cells, its combinations walked one after the other: each is applied if every row
@@ -147,9 +146,6 @@ pub fn attempt<'r, B: Scan>(
         return false;
     }
     let rows = rule.rows.as_slice();
-    if let Some(cell) = only_cell(rows) {
-        return attempt_cell(rule, cell, board, queue);
-    }
     if let Some(part) = only_part(rows) {
         return attempt_part(rule, part, board, queue, rooms);
     }

@@ -5,7 +5,6 @@ mod asking;
 mod attempts;
 mod kept_board;
 mod lent_queue;
-mod one_cell;
 mod one_part;
 mod programs;
 mod rooms;

@@ -5,7 +5,7 @@ ghost use Rattle.std.specs.Prelude.{◌≡◌, ◌≤◌, IfSome, length, true};
 ghost use Rattle.ps_model.specs.board.Attempts.{Result as Meant, State, attempt};
 ghost use Rattle.ps_match.specs.InRoom.{sides_of};
 ghost use Rattle.ps_laws.specs.WholeRows.{HasCells};
-ghost use Rattle.ps_engine.specs.OneCell.{one_part, rows_parts};
+ghost use Rattle.ps_engine.specs.OnePart.{one_part, rows_parts};
 ghost use Rattle.ps_engine.specs.RulesInRoom.{rule_meaning};
 
 use crate::attempts::attempt_rows;

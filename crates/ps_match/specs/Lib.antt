@@ -3,3 +3,4 @@ pub mod Together
 pub mod Touches
 pub mod Nowhere
 pub mod Topics
+pub mod ScannedRows

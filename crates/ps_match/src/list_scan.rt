@@ -3,7 +3,7 @@
 use crate::fitting::fits_cell;
 use crate::rewriting::rewrite_row;
 use crate::scan::Scan;
-use crate::scanning::scan_row;
+use crate::scanning::{scan_row, scan_rows};
 use crate::topics::Topics;
 use crate::writing::write_cell;
 use ps_board::{Board, Columns, ListBoard, ManyWords, WORDS_LIMIT};
@@ -21,6 +21,15 @@ impl Scan for ListBoard {
 
     fn scan(&self, mask: &CellMask, row: u32) -> Columns<ManyWords<WORDS_LIMIT>> {
         scan_row(self, mask, row)
+    }
+
+    fn scan_rows(
+        &self,
+        mask: &CellMask,
+        first: u32,
+        found: &mut [Columns<ManyWords<WORDS_LIMIT>>],
+    ) {
+        scan_rows(self, mask, first, found);
     }
 
     /// Never: to know it, this board would have to look at each cell.

@@ -1,6 +1,6 @@
 //! What a board does for a rule.
 
-ghost use Rattle.std.specs.Prelude.{◌≡◌, ◌<◌, slice_get, true};
+ghost use Rattle.std.specs.Prelude.{◌≡◌, ◌+◌, ◌<◌, ◌≤◌, length, slice_get, true};
 ghost use Rattle.ps_model.specs.board.Places.{fits_there};
 ghost use Rattle.ps_model.specs.board.Attempts.{Rewritten, rewritten_cell};
 ghost use Rattle.ps_program.specs.ProgramShown.{mask_shown, write_shown};
@@ -9,6 +9,7 @@ ghost use Rattle.ps_model.specs.meaning.Compiled.{cell_written};
 ghost use Rattle.ps_match.specs.InRoom.{meaning_of_mask, meaning_of_write, sides_of, write_in_room};
 ghost use Rattle.ps_match.specs.Together.{is_on_row, rewritten_where};
 ghost use Rattle.ps_match.specs.Nowhere.{HasMovesIn, HasRowsIn, IsNowhere};
+ghost use Rattle.ps_match.specs.ScannedRows.{AreRowsScanned};
 ghost use Rattle.ps_match.specs.Topics.{DifferOnlyAbout};
 
 use crate::topics::Topics;
@@ -28,6 +29,13 @@ pub trait Scan: Board {
     fn scan(&self, mask: &CellMask, row: u32) -> Columns<Self::Words>
         requires { row < (Self.grid self.now).height }
         ensures { result ≡ row_fits (Self.grid self.now) (meaning_of_mask (mask_shown mask.now)) row };
+
+    /// The columns whose cells fit a mask, of as many rows of the board as there is room for, the first one and those
+    /// below it.
+    fn scan_rows(&self, mask: &CellMask, first: u32, found: &mut [Columns<Self::Words>])
+        requires { first + length found.old ≤ (Self.grid self.now).height }
+        ensures found { AreRowsScanned (Self.grid self.now) (meaning_of_mask (mask_shown mask.now)) first found.new }
+        ensures long { length found.new ≡ length found.old };
 
     /// Whether the board knows that no cell has an object on its layer. Where some cell has it, the answer is no; where
     /// none has, it may be no too, as a board needn't look for it.

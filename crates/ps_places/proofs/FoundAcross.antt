@@ -1,10 +1,9 @@
 -- Positions of parts that go right, row by row of the board.
-use Rattle.std.proofs.Common.{◌≡◌, ◌≢◌, ◌∙◌, ℕ, ◌+◌, ◌*◌, ◌<◌, ◌≤◌, ◌&&◌, ◌⊎◌, inl, inr, Bool, true, false, Option}
-use Rattle.std.proofs.Common.{List, [], ◌∷◌, length, get_or, refl, sym, ap, arith}
-use Rattle.std.specs.Prelude.{nat_le, slice_get, slice_index_or, slice_set}
-use borrow.Rule.Slice.PartMut.{put_mid}
+use Rattle.std.proofs.Common.{◌≡◌, ◌≢◌, ◌∙◌, ℕ, ◌+◌, ◌*◌, ◌<◌, ◌≤◌, ◌&&◌, ◌||◌, inl, inr, Bool, true, false, Option}
+use Rattle.std.proofs.Common.{List, [], ◌∷◌, length, get_or, refl, sym, ap, ap₂, arith}
+use Rattle.std.specs.Prelude.{nat_eq, nat_le, slice_get, slice_set}
 use Rattle.std.proofs.Math.Bool.{and-false}
-use Rattle.std.proofs.lemmas.Bool.{cases_eq}
+use Rattle.std.proofs.lemmas.Bool.{and_parts, cases_eq, cases_lt}
 use Rattle.std.proofs.lemmas.Bool.Decides.{nat_tests}
 use Rattle.std.proofs.lemmas.List.{get_or-set_same, get_or-set_other}
 use Rattle.std.proofs.lemmas.Option.{slice_get-get_or}
@@ -15,56 +14,17 @@ use Rattle.ps_program.specs.declared.cells.CompiledCell.{CompiledCell}
 use Rattle.ps_program.specs.declared.rows.Axis.TheVariants.{Right}
 use Rattle.ps_program.specs.ProgramShown.{mask_shown}
 use Rattle.ps_match.specs.InRoom.{meaning_of_mask}
-use Rattle.ps_board.specs.ColumnSets.{both_columns, column_at, columns_below, no_columns, set_columns, with_column}
-use Rattle.ps_board.proofs.ColumnLaws.{none_in, with_here, with_other}
+use Rattle.ps_board.specs.ColumnSets.{both_columns, column_at, set_columns}
+use Rattle.ps_board.proofs.ColumnLaws.{column_at-beyond, column_at-where, none_in}
+use Rattle.ps_board.proofs.Taken.{taken_out}
 use Rattle.ps_board.proofs.PassedColumns.{no_cell}
-use Rattle.ps_places.specs.Candidates.{BeginsOnlyOn}
-use Rattle.ps_places.specs.FoundStarts.{BeginInSets, BeginsNowhere, HasNoWay, HaveWaysOnlyOn, IsLineFound, begins_on}
-use Rattle.ps_places.specs.FoundStarts.{part_of, set_of}
+use Rattle.ps_places.specs.FoundStarts.{AreTakenOver, BeginsNowhere, IsPartFound, begins_on, set_of}
+use Rattle.ps_places.specs.PartStarts.{AreStarts, columns_on, is_start}
+use Rattle.ps_places.specs.RowsFound.{AreRowsBelow}
 use Rattle.ps_places.specs.Lines.{part_fits}
 use Rattle.ps_places.specs.Starts.{AreWhere}
 use Rattle.ps_places.proofs.CellByCell.{fits_not, moved_on}
-use Rattle.ps_places.proofs.LineSets.{none_has, sets_kept, sets_written}
-use Rattle.ps_places.proofs.OnlyOn.{missing, not_left_out}
-
--- rows on which a part begins nowhere ---------------------------------------------------------------------------------
-
-pub ways-init : (g : Grid) (table : Option (List ℕ)) (parts : List (List CompiledCell)) (rows : List Bool)
-    {limit : ℕ} → IsGrid g → g.height ≤ limit → rows ≡ columns_below limit → HaveWaysOnlyOn g table Right parts rows
-ways-init g table parts rows {limit} grid room is =
-    record {
-      at = λ row low out. let clash : true ≡ false =
-          not_left_out g limit rows row grid room is low out in absurd (cc);
-    }
-
-pub nowhere_by : (g : Grid) (table : Option (List ℕ)) (part : List CompiledCell) (row : ℕ) (own : List Bool) →
-    BeginsOnlyOn g table Right part own → row < g.height → column_at own row ≡ false →
-    BeginsNowhere g table Right part row
-nowhere_by g table part row own only low out =
-    record {
-      at = λ x within.
-          ap (λ (b : Bool). nat_le (x + length part) g.width && b) (only.at row x low (λ e. absurd (cc)) out)
-          ∙ and-false (nat_le (x + length part) g.width);
-    }
-
-ways_by : (g : Grid) (table : Option (List ℕ)) (parts : List (List CompiledCell)) (number row : ℕ)
-    (part : List CompiledCell) (rows own : List Bool) → number < length parts →
-    part ≡ part_of parts number → BeginsOnlyOn g table Right part own → HaveWaysOnlyOn g table Right parts rows →
-    row < g.height →
-    (column_at rows row ≡ false) ⊎ (column_at own row ≡ false) → HasNoWay g table Right parts row
-ways_by g table parts number row part rows own within e only have low (inl out) = have.at row low out
-ways_by g table parts number row part rows own within e only have low (inr out) =
-    record { number = number; within = within; nowhere = rw (← e) (nowhere_by g table part row own only low out) }
-
-pub ways-more : (g : Grid) (table : Option (List ℕ)) (parts : List (List CompiledCell)) (number : ℕ)
-    (part : List CompiledCell) (rows own both : List Bool) → IsGrid g → number < length parts →
-    part ≡ part_of parts number → BeginsOnlyOn g table Right part own → both ≡ both_columns rows own →
-    HaveWaysOnlyOn g table Right parts rows → HaveWaysOnlyOn g table Right parts both
-ways-more g table parts number part rows own both grid within e only is have =
-    record {
-      at = λ row low out. ways_by g table parts number row part rows own within e only have low
-          (missing rows own both row is (omega (arith, low, grid.rows)) out);
-    }
+use Rattle.ps_places.proofs.LineSets.{other_place}
 
 -- a part that goes right has room where it fits -----------------------------------------------------------------------
 
@@ -96,100 +56,109 @@ pub begins-are : (g : Grid) (table : Option (List ℕ)) (part : List CompiledCel
 begins-are g table part row columns grid low some are =
     record { at = λ x within. are.at x within ∙ fits_with_room g table part row x grid low some }
 
--- the parts of a row, one after the other -----------------------------------------------------------------------------
-
-pub begun-init : (g : Grid) (table : Option (List ℕ)) (parts : List (List CompiledCell)) (row : ℕ)
-    (set : ℕ → List Bool) → BeginInSets g table Right parts row set 0
-begun-init g table parts row set = record { at = λ number low. absurd (omega arith) }
-
-pub begun-none : (g : Grid) (table : Option (List ℕ)) (parts : List (List CompiledCell)) (row number : ℕ)
-    (part : List CompiledCell) (columns : List Bool) → IsGrid g → row < g.height → number < length parts →
-    part ≡ part_of parts number → 0 < length (part_of parts number) →
-    AreWhere (part_fits g table Right row part) columns → set_columns columns ≡ [] → HasNoWay g table Right parts row
-begun-none g table parts row number part columns grid low within e some are none =
-    let begins : AreWhere (begins_on g table Right row part) columns =
-    begins-are g table part row columns grid low (rw e some) are in
+-- a row that isn't one of those on which a part begins
+pub nowhere_in : (g : Grid) (table : Option (List ℕ)) (part : List CompiledCell) (rows : List Bool)
+    (starts : List (List Bool)) (row : ℕ) → AreStarts g table Right part rows starts → row < g.height →
+    column_at rows row ≡ false → BeginsNowhere g table Right part row
+nowhere_in g table part rows starts row are low out =
     record {
-      number = number;
-      within = within;
-      nowhere =
-          rw (← e) (record { at = λ x near. sym (begins.at x near) ∙ none_in columns x none near });
+      at = λ x near.
+          ap (λ (b : Bool). nat_le (x + length part) g.width && b)
+          (sym ((are.each row low).at x near)
+          ∙ ap (λ (b : Bool). b && column_at (columns_on starts row) x) out)
+          ∙ and-false (nat_le (x + length part) g.width);
     }
 
-begun_by : (g : Grid) (table : Option (List ℕ)) (parts : List (List CompiledCell)) (row number : ℕ)
-    (sets : List (List Bool)) (columns : List Bool) → number < length sets →
-    AreWhere (begins_on g table Right row (part_of parts number)) columns →
-    BeginInSets g table Right parts row (λ n. slice_index_or sets n []) number → (n : ℕ) → n < number + 1 →
-    (n ≡ number) ⊎ (n ≢ number) → AreWhere (begins_on g table Right row (part_of parts n))
-    (slice_index_or (slice_set sets number columns) n [])
-begun_by g table parts row number sets columns within are begun n low (inl same) =
-    rw (same, get_or-set_same sets number columns [] within) are
-begun_by g table parts row number sets columns within are begun n low (inr other) =
-    rw (get_or-set_other sets number n columns [] other) (begun.at n (omega arith))
+-- the sets taken over on some lines, but for those that are left ------------------------------------------------------
 
-pub begun-more : (g : Grid) (table : Option (List ℕ)) (parts : List (List CompiledCell)) (row number : ℕ)
-    (part : List CompiledCell) (sets : List (List Bool)) (columns : List Bool) → IsGrid g → row < g.height →
-    number < length sets → part ≡ part_of parts number → 0 < length (part_of parts number) →
-    AreWhere (part_fits g table Right row part) columns →
-    BeginInSets g table Right parts row (λ n. slice_index_or sets n []) number →
-    BeginInSets g table Right parts row (λ n. slice_index_or (slice_set sets number columns) n []) (number + 1)
-begun-more g table parts row number part sets columns grid low within e some are begun =
-    let begins : AreWhere (begins_on g table Right row part) columns =
-    begins-are g table part row columns grid low (rw e some) are in
+pub record AreTakenBut (rows : List Bool) (columns : List (List Bool)) (lines : List Bool) (count number : ℕ)
+    (old new : List (List Bool)) (left : List Bool) : Type 0 where
+  pub taken : (row x : ℕ) → row < SIDE_LIMIT → column_at lines row ≡ true → column_at left row ≡ false →
+      column_at (set_of new count row number) x ≡ is_start rows columns row x
+  pub others : (row other : ℕ) → other < count → other ≢ number → set_of new count row other ≡ set_of old count row other
+
+pub taken-init : (rows : List Bool) (columns : List (List Bool)) (lines : List Bool) (count number : ℕ)
+    (old : List (List Bool)) → AreTakenBut rows columns lines count number old old lines
+taken-init rows columns lines count number old =
     record {
-      at = λ n below. begun_by g table parts row number sets columns within (rw (← e) begins) begun n below
-          (cases_eq n number);
+      taken = λ row x low on off. let clash : true ≡ false = sym on ∙ off in absurd (cc);
+      others = λ row other low apart. refl;
     }
 
--- the lines of the board, one after the other -------------------------------------------------------------------------
-
-pub not_a_line : (g : Grid) (table : Option (List ℕ)) (parts : List (List CompiledCell)) (starts : List (List Bool))
-    (rows lines : List Bool) → lines ≡ no_columns →
-    HaveWaysOnlyOn g table Right parts rows → (row : ℕ) → row < g.height → column_at rows row ≡ false →
-    IsLineFound g table Right parts starts lines (length parts) row
-not_a_line g table parts starts rows lines none have row low out =
+pub taken-more : (rows : List Bool) (columns : List (List Bool)) (lines : List Bool) (count number : ℕ)
+    (old now : List (List Bool)) (left next set : List Bool) (row : ℕ) →
+    number < count → row * count + number < length now → set_columns left ≡ row ∷ set_columns next →
+    ((x : ℕ) → column_at set x ≡ is_start rows columns row x) →
+    AreTakenBut rows columns lines count number old now left →
+    AreTakenBut rows columns lines count number old (slice_set now (row * count + number) set) next
+taken-more rows columns lines count number old now left next set row one room taken is before =
     record {
-      found = λ is. let clash : false ≡ true = sym (none_has lines row none) ∙ is in absurd (cc);
-      none = λ off. have.at row low out;
+      taken = λ line x low on off. elim (cases_eq line row) [
+        | inl same ↦
+            rw same (ap (λ (s : List Bool). column_at s x)
+            (get_or-set_same now (row * count + number) set [] room) ∙ is x)
+        | inr apart ↦
+            let t : nat_eq line row ≡ false = grind (arith, nat_tests, apart) in
+            ap (λ (s : List Bool). column_at s x)
+            (get_or-set_other now (row * count + number) (line * count + number) set []
+            (other_place count line row number number one one (inl apart)))
+            ∙ before.taken line x low on
+            (taken_out left next row line taken low ∙ ap₂ (λ (a b : Bool). a || b) t off)
+      ];
+      others = λ line other low apart.
+          get_or-set_other now (row * count + number) (line * count + other) set []
+          (other_place count line row other number low one (inr apart))
+          ∙ before.others line other low apart;
     }
 
-pub line_here : (g : Grid) (table : Option (List ℕ)) (parts : List (List CompiledCell)) (starts sets : List (List Bool))
-    (lines more : List Bool) (row k : ℕ) (found : Bool) → row < SIDE_LIMIT →
-    k ≡ length parts → length sets ≡ length parts → row * length parts + length parts ≤ length starts →
-    more ≡ with_column lines row found →
-    (found ≡ true → BeginInSets g table Right parts row (λ n. slice_index_or sets n []) (length parts)) →
-    (found ≡ false → HasNoWay g table Right parts row) →
-    IsLineFound g table Right parts (put_mid (row * length parts) k starts sets) more (length parts) row
-line_here g table parts starts sets lines more row k found low e long room is some none =
-    let here : column_at more row ≡ found = ap (λ (cs : List Bool). column_at cs row) is
-    ∙ with_here lines row found low in
+pub taken-all : (rows : List Bool) (columns : List (List Bool)) (lines : List Bool) (count number : ℕ)
+    (old new : List (List Bool)) (left : List Bool) → AreRowsBelow lines SIDE_LIMIT → set_columns left ≡ [] →
+    AreTakenBut rows columns lines count number old new left → AreTakenOver rows columns lines count number old new
+taken-all rows columns lines count number old new left low none before =
     record {
-      found = λ yes.
-          let begun : BeginInSets g table Right parts row (λ n. slice_index_or sets n []) (length parts) =
-          some (sym here ∙ yes) in
-          record {
-            at = λ number within. rw (sets_written starts sets (length parts) row k number e long room within)
-                (begun.at number within);
-          };
-      none = λ no. none (sym here ∙ no);
+      taken = λ row x on. before.taken row x (low row on) on (none_in left row none (low row on));
+      others = before.others;
     }
 
-pub line_still : (g : Grid) (table : Option (List ℕ)) (parts : List (List CompiledCell))
-    (starts sets : List (List Bool)) (lines more : List Bool) (row k x : ℕ) (found : Bool) → x < SIDE_LIMIT →
-    k ≡ length parts → length sets ≡ length parts → row * length parts + length parts ≤ length starts →
-    more ≡ with_column lines row found → x ≢ row →
-    IsLineFound g table Right parts starts lines (length parts) x →
-    IsLineFound g table Right parts (put_mid (row * length parts) k starts sets) more (length parts) x
-line_still g table parts starts sets lines more row k x found low e long room is other line =
-    let here : column_at more x ≡ column_at lines x = ap (λ (cs : List Bool). column_at cs x) is
-    ∙ with_other lines row x found low other in
+-- a part that goes right is found on the rows on which it begins
+pub found-across : (g : Grid) (table : Option (List ℕ)) (part : List CompiledCell) (within rows lines : List Bool)
+    (columns : List (List Bool)) (count number : ℕ) (old new : List (List Bool)) → IsGrid g → 0 < length part →
+    ((x : ℕ) → column_at within x ≡ true → x < g.height) → AreStarts g table Right part rows columns →
+    lines ≡ both_columns within rows → AreTakenOver rows columns lines count number old new →
+    IsPartFound g table Right part within count number old new lines
+found-across g table part within rows lines columns count number old new grid some inside are is over =
     record {
-      found = λ yes.
-          let begun : BeginInSets g table Right parts x (set_of starts (length parts) x) (length parts) =
-          line.found (sym here ∙ yes) in
-          record {
-            at = λ number within. rw (sets_kept starts sets
-                (length parts) row k x number e long room within other) (begun.at number within);
-          };
-      none = λ no. line.none (sym here ∙ no);
-    }
+      begins = λ row on.
+          let low : row < g.height = inside row (from_both row on).0 in
+          begins-are g table part row (set_of new count row number) grid low some
+          (record { at = λ x near. over.taken row x on ∙ (are.each row low).at x near });
+      inside = λ row on. (from_both row on).0;
+      none = λ row on out.
+          let low : row < g.height = inside row on in
+          nowhere_in g table part rows columns row are low
+          (sym (ap (λ (b : Bool). b && column_at rows row) on) ∙ sym (both_of row (omega (arith, low, grid.rows))) ∙ out);
+      others = over.others;
+    } where
+      both_of : (row : ℕ) → row < SIDE_LIMIT → column_at lines row ≡ (column_at within row && column_at rows row)
+      both_of row low = ap (λ (cs : List Bool). column_at cs row) is
+          ∙ column_at-where (λ y. column_at within y && column_at rows y) row low
+
+      from_both : (row : ℕ) → column_at lines row ≡ true →
+          (column_at within row ≡ true) × (column_at rows row ≡ true)
+      from_both row on = elim (cases_lt row SIDE_LIMIT) [
+        | inl low ↦ and_parts (column_at within row) (column_at rows row) (sym (both_of row low) ∙ on)
+        | inr far ↦
+            let clash : false ≡ true = sym (ap (λ (cs : List Bool). column_at cs row) is
+            ∙ column_at-beyond (λ y. column_at within y && column_at rows y) row far) ∙ on in absurd (cc)
+      ]
+
+-- lines that are of a board have room for their sets
+pub lines_below : (g : Grid) (within rows lines : List Bool) → IsGrid g →
+    ((x : ℕ) → column_at within x ≡ true → x < g.height) → lines ≡ both_columns within rows →
+    AreRowsBelow lines SIDE_LIMIT
+lines_below g within rows lines grid inside is row on = elim (cases_lt row SIDE_LIMIT) [
+  | inl low ↦ low
+  | inr far ↦
+      let clash : false ≡ true = sym (ap (λ (cs : List Bool). column_at cs row) is
+      ∙ column_at-beyond (λ y. column_at within y && column_at rows y) row far) ∙ on in absurd (cc)
+]

@@ -12,15 +12,15 @@ use Rattle.ps_program.specs.declared.cells.CompiledCell.{CompiledCell}
 use Rattle.ps_program.specs.declared.rows.Axis.TheVariants.{Down}
 use Rattle.ps_board.specs.ColumnSets.{both_columns, column_at, columns_below, either_columns, no_columns, set_columns}
 use Rattle.ps_board.specs.ColumnSets.{with_column}
-use Rattle.ps_board.proofs.ColumnLaws.{column_at-all, column_at-beyond, column_at-where, first_in, none_in}
+use Rattle.ps_board.proofs.ColumnLaws.{column_at-beyond, column_at-where, first_in, none_in}
 use Rattle.ps_board.proofs.ColumnLaws.{with_here, with_other}
 use Rattle.ps_board.proofs.Taken.{passed-init, taken_gone, taken_out}
 use Rattle.ps_places.specs.Candidates.{BeginsOnlyOn}
-use Rattle.ps_places.specs.FoundStarts.{AreLinesFound, BeginInSets, HasNoWay, IsLineFound, IsPartFound, IsRowAdded}
-use Rattle.ps_places.specs.FoundStarts.{begins_on, part_of, set_of, with_row}
+use Rattle.ps_places.specs.FoundStarts.{IsPartFound, IsRowAdded, begins_on, set_of, with_row}
+use Rattle.ps_places.specs.PartStarts.{AreStarts, columns_on}
 use Rattle.ps_places.specs.Lines.{part_fits}
 use Rattle.ps_places.specs.Starts.{AreWhere, begins_down}
-use Rattle.ps_places.proofs.LineSets.{apart, none_has}
+use Rattle.ps_places.proofs.LineSets.{none_has, other_place}
 
 -- a row added to the sets of some columns -----------------------------------------------------------------------------
 
@@ -51,20 +51,6 @@ not_left : (set left : List Bool) (k x : ℕ) → set_columns set ≡ k ∷ set_
 not_left set left k x is low other =
     let no : nat_eq x k ≡ false = grind (arith, nat_tests, other) in
     taken_out set left k x is low ∙ ap (λ (b : Bool). b || column_at left x) no
-
--- a place of another line or another part is another place
-pub other_place : (count x k i number : ℕ) → i < count → number < count → (x ≢ k) ⊎ (i ≢ number) →
-    x * count + i ≢ k * count + number
-other_place count x k i number low within other e = elim (cases_eq x k) [
-  | inl same ↦
-      let here : i ≡ number = let there : k * count + i ≡ k * count + number = rw (← same) (rw (← same) at e) in
-      omega arith in
-      elim other [ inl n ↦ n same | inr n ↦ n here ]
-  | inr elsewhere ↦ elim (apart count k x i low elsewhere) [
-    | inl before ↦ omega arith
-    | inr behind ↦ omega arith
-  ]
-]
 
 done_by : (old now : List (List Bool)) (count number : ℕ) (columns found left rest set : List Bool) (row k x : ℕ) →
     k * count + number < length now → number < count → x < SIDE_LIMIT →
@@ -165,15 +151,26 @@ init_by : (left wants : Bool) → (left ≡ false → wants ≡ false) → (left
 init_by true wants e = refl
 init_by false wants e = sym (e refl)
 
+-- a part begins nowhere on a row that isn't one of those on which it begins
+not_there : (g : Grid) (table : Option (List ℕ)) (part : List CompiledCell) (rows : List Bool)
+    (columns : List (List Bool)) (x y : ℕ) → IsGrid g → AreStarts g table Down part rows columns → y < g.height →
+    column_at rows y ≡ false → begins_down g table part y x ≡ false
+not_there g table part rows columns x y grid are low out = elim (cases_lt x SIDE_LIMIT) [
+  | inl near ↦ sym ((are.each y low).at x near) ∙ ap (λ (b : Bool). b && column_at (columns_on columns y) x) out
+  | inr far ↦
+      let off : nat_lt x g.width ≡ false = grind (arith, nat_tests, far, grid.columns) in
+      ap (λ (b : Bool). b && (nat_le (y + length part) g.height && part_fits g table Down x part y)) off
+]
+
 pub gathering-init : (g : Grid) (table : Option (List ℕ)) (part : List CompiledCell) (within : List Bool)
-    (count number : ℕ) (old : List (List Bool)) (found rows below left : List Bool) → IsGrid g →
+    (count number : ℕ) (old columns : List (List Bool)) (found rows below left : List Bool) → IsGrid g →
     0 < length part → found ≡ no_columns → below ≡ columns_below g.height → left ≡ both_columns rows below →
-    BeginsOnlyOn g table Down part rows →
+    AreStarts g table Down part rows columns →
     IsGathering g table part within count number old old found left
-gathering-init g table part within count number old found rows below left grid some none b e only =
+gathering-init g table part within count number old columns found rows below left grid some none b e are =
     let passed = passed-init (λ y. (x : ℕ) → begins_down g table part y x ≡ false)
     rows below left g.height grid.rows b e
-    (λ y low out x. room_by g table part rows x y (nat_le (y + length part) g.height) refl only low out) in
+    (λ y low out x. not_there g table part rows columns x y grid are low out) in
     record {
       all = λ x y low near.
           ap (λ (b : Bool). (b && column_at (set_of old count x number) y) ||
@@ -293,7 +290,7 @@ pub gathered-down : (g : Grid) (table : Option (List ℕ)) (part : List Compiled
     (count number : ℕ) (old now : List (List Bool)) (found left : List Bool) → IsGrid g →
     ((x : ℕ) → column_at within x ≡ true → x < g.width) → set_columns left ≡ [] →
     IsGathering g table part within count number old now found left →
-    IsPartFound g table part within count number old now found
+    IsPartFound g table Down part within count number old now found
 gathered-down g table part within count number old now found left grid narrow none gathering =
     record {
       begins = λ x is.
@@ -317,87 +314,4 @@ gathered-down g table part within count number old now found left grid narrow no
                 ∙ ap (λ (b : Bool). b && column_at (set_of now count x number) y) out;
           };
       others = gathering.others;
-    }
-
--- the parts, one after the other --------------------------------------------------------------------------------------
-
-below_width : (width : ℕ) (lines : List Bool) (x : ℕ) → width ≤ SIDE_LIMIT → lines ≡ columns_below width →
-    column_at lines x ≡ nat_lt x width
-below_width width lines x few e =
-    ap (λ (cs : List Bool). column_at cs x) e ∙ column_at-all (λ y. nat_lt y width) x
-    (λ far. let out : nat_lt x width ≡ false = grind (arith, nat_tests, far, few) in out)
-
-pub lines-init : (g : Grid) (table : Option (List ℕ)) (parts : List (List CompiledCell)) (starts : List (List Bool))
-    (lines : List Bool) → IsGrid g → lines ≡ columns_below g.width →
-    AreLinesFound g table Down parts starts lines 0
-lines-init g table parts starts lines grid e =
-    record {
-      each = λ x low.
-          record {
-            found = λ is. record { at = λ number few. absurd (omega arith) };
-            none = λ out.
-                let across : nat_lt x g.width ≡ true = grind (arith, nat_tests, low) in
-                let clash : true ≡ false = sym across ∙ sym (below_width g.width lines x grid.columns e) ∙ out in
-                absurd (cc);
-          };
-      below = λ x is. let across : nat_lt x g.width ≡ true = sym (below_width g.width lines x grid.columns e) ∙ is in
-          grind (arith, nat_tests, across);
-    }
-
--- nothing is left to be found
-pub lines-none : (g : Grid) (table : Option (List ℕ)) (parts : List (List CompiledCell)) (starts : List (List Bool))
-    (lines : List Bool) (number : ℕ) → IsGrid g → set_columns lines ≡ [] →
-    AreLinesFound g table Down parts starts lines number → AreLinesFound g table Down parts starts lines (length parts)
-lines-none g table parts starts lines number grid none are =
-    record {
-      each = λ x low.
-          record {
-            found = λ is. let clash : false ≡ true = sym (none_in lines x none (omega (arith, low, grid.columns)))
-                ∙ is in absurd (cc);
-            none = (are.each x low).none;
-          };
-      below = are.below;
-    }
-
-begin_by : (g : Grid) (table : Option (List ℕ)) (parts : List (List CompiledCell)) (number x : ℕ)
-    (part : List CompiledCell) (old new : List (List Bool)) (lines found : List Bool) → number < length parts →
-    part ≡ part_of parts number → column_at found x ≡ true →
-    BeginInSets g table Down parts x (set_of old (length parts) x) number →
-    IsPartFound g table part lines (length parts) number old new found → (n : ℕ) → n < number + 1 →
-    (n ≡ number) ⊎ (n ≢ number) →
-    AreWhere (begins_on g table Down x (part_of parts n)) (set_of new (length parts) x n)
-begin_by g table parts number x part old new lines found low e is begun one n few (inl same) =
-    rw (same, ← e) (one.begins x is)
-begin_by g table parts number x part old new lines found low e is begun one n few (inr other) =
-    rw (one.others x n (omega arith) other) (begun.at n (omega arith))
-
-no_way_by : (g : Grid) (table : Option (List ℕ)) (parts : List (List CompiledCell)) (number x : ℕ)
-    (part : List CompiledCell) (old new : List (List Bool)) (lines found : List Bool) (b : Bool) →
-    column_at lines x ≡ b → number < length parts → part ≡ part_of parts number → column_at found x ≡ false →
-    IsLineFound g table Down parts old lines number x →
-    IsPartFound g table part lines (length parts) number old new found → HasNoWay g table Down parts x
-no_way_by g table parts number x part old new lines found true t low e out line one =
-    record { number = number; within = low; nowhere = rw (← e) (one.none x t out) }
-no_way_by g table parts number x part old new lines found false t low e out line one = line.none t
-
-pub lines-more : (g : Grid) (table : Option (List ℕ)) (parts : List (List CompiledCell)) (number : ℕ)
-    (part : List CompiledCell) (old new : List (List Bool)) (lines found : List Bool) → number < length parts →
-    part ≡ part_of parts number → AreLinesFound g table Down parts old lines number →
-    IsPartFound g table part lines (length parts) number old new found →
-    AreLinesFound g table Down parts new found (number + 1)
-lines-more g table parts number part old new lines found low e are one =
-    record {
-      each = λ x across.
-          record {
-            found = λ is.
-                let begun : BeginInSets g table Down parts x (set_of old (length parts) x) number =
-                (are.each x across).found (one.inside x is) in
-                record {
-                  at = λ n few. begin_by g table parts number x part old new lines found low e is begun one n few
-                      (cases_eq n number);
-                };
-            none = λ out. no_way_by g table parts number x part old new lines found (column_at lines x) refl low e out
-                (are.each x across) one;
-          };
-      below = λ x is. are.below x (one.inside x is);
     }

@@ -1,26 +1,28 @@
 -- Where a part begins, as it is found row by row of the board.
-use Rattle.std.proofs.Common.{◌≡◌, ◌≢◌, ◌∙◌, ℕ, ◌+◌, ◌<◌, ◌≤◌, ◌&&◌, not, Bool, true, false, Option, List, [], length}
-use Rattle.std.proofs.Common.{refl, sym, ap, ap₂, arith}
-use Rattle.std.specs.Prelude.{nat_le, nat_lt, slice_set}
+use Rattle.std.proofs.Common.{◌≡◌, ◌∙◌, ℕ, ◌+◌, ◌<◌, ◌≤◌, ◌&&◌, ◌||◌, ◌⊎◌, inl, inr, not, Bool, true, false}
+use Rattle.std.proofs.Common.{Option, List, [], ◌∷◌, length, refl, sym, ap, ap₂, arith}
+use Rattle.std.specs.Prelude.{nat_eq, nat_le, nat_lt, if◌then◌else◌}
 use Rattle.std.proofs.Math.Bool.{and-false}
 use Rattle.std.proofs.lemmas.Bool.Decides.{nat_tests}
-use Rattle.std.proofs.lemmas.List.{get_or-set_same, get_or-set_other}
-use Rattle.std.proofs.lemmas.Bool.{not-true}
+use Rattle.std.proofs.lemmas.Bool.{cases_eq, cases_lt, not-false, not-true}
 use Rattle.ps_model.specs.declared.limits.TheConstants.{SIDE_LIMIT}
 use Rattle.ps_model.specs.board.Grid.{Grid}
-use Rattle.ps_board.specs.ColumnSets.{column_at, no_columns, set_columns, with_column}
-use Rattle.ps_board.proofs.ColumnLaws.{none_in, with_here, with_other}
+use Rattle.ps_board.specs.ColumnSets.{both_columns, column_at, columns_below, columns_without, no_columns, set_columns}
+use Rattle.ps_board.specs.ColumnSets.{with_column}
+use Rattle.ps_board.proofs.ColumnLaws.{below_at, column_at-beyond, column_at-where, first_in, none_in, with_here, with_other}
+use Rattle.ps_board.proofs.Taken.{first_least, in_both, taken_out, was_in}
 use Rattle.ps_program.specs.declared.cells.CompiledCell.{CompiledCell}
 use Rattle.ps_program.specs.declared.rows.Axis.{Axis}
 use Rattle.ps_program.specs.declared.rows.Axis.TheVariants.{Down, Right}
 use Rattle.ps_places.specs.Candidates.{BeginsOnlyOn}
 use Rattle.ps_places.specs.Lines.{part_fits}
-use Rattle.ps_places.specs.PartStarts.{IsRowFound, begins_at, columns_on}
+use Rattle.ps_places.specs.PartStarts.{AreStarts, begins_at, columns_on, is_start}
+use Rattle.ps_places.specs.RowsFound.{AreRowsBegun, AreRowsBelow, BeginBetween, rows_with_room}
 use Rattle.ps_places.specs.Starts.{AreWhere}
 use Rattle.ps_places.proofs.LineSets.{none_has}
 
 -- a row on which the part doesn't begin
-not_begun : (g : Grid) (table : Option (List ℕ)) (axis : Axis) (part : List CompiledCell) (own : List Bool)
+pub not_begun : (g : Grid) (table : Option (List ℕ)) (axis : Axis) (part : List CompiledCell) (own : List Bool)
     (row x : ℕ) →
     BeginsOnlyOn g table axis part own → row < g.height → column_at own row ≡ false → begins_at g table axis part row x
     ≡ false
@@ -37,55 +39,200 @@ not_begun g table Down part own row x only low out = by (nat_le (row + length pa
       ∙ and-false (nat_lt x g.width)
 not_begun g table Right part own row x only low out = only.at row x low (λ e. absurd (cc)) out
 
-pub row_not_found : (g : Grid) (table : Option (List ℕ)) (axis : Axis) (part : List CompiledCell) (own rows : List Bool)
-    (starts : List (List Bool)) →
-    rows ≡ no_columns → BeginsOnlyOn g table axis part own → (row : ℕ) → row < g.height → column_at own row ≡ false →
-    IsRowFound g table axis part rows starts row
-row_not_found g table axis part own rows starts none only row low out =
-    let off : column_at rows row ≡ false = none_has rows row none in
+-- rows that were looked at together -------------------------------------------------------------------------------------
+
+-- those of a set that aren't below a number are none: all are below it
+pub all_below : (rows others : List Bool) (end count : ℕ) → others ≡ columns_without rows (columns_below end) →
+    set_columns others ≡ [] → count ≤ SIDE_LIMIT → AreRowsBelow rows count → AreRowsBelow rows end
+all_below rows others end count is none few below row on =
+    let near : row < SIDE_LIMIT = omega (arith, below row on, few) in
+    by (nat_lt row end) refl
+    (sym (column_at-where (λ y. column_at rows y && not (column_at (columns_below end) y)) row near)
+    ∙ ap (λ (cs : List Bool). column_at cs row) (sym is) ∙ none_in others row none near) where
+      by : (here : Bool) → nat_lt row end ≡ here →
+          (column_at rows row && not (column_at (columns_below end) row)) ≡ false → row < end
+      by true t out = grind (arith, nat_tests, t)
+      by false t out =
+          let clash : true ≡ false =
+          sym (ap₂ (λ (a b : Bool). a && not b) on
+          (below_at end row (omega (arith, below row on, few)) ∙ t)) ∙ out in absurd (cc)
+
+-- the rows that aren't left are told of
+pub record AreBegunBut (rows : List Bool) (starts : List (List Bool)) (begun left : List Bool) : Type 0 where
+  pub within : (row : ℕ) → row < SIDE_LIMIT → column_at left row ≡ true → column_at rows row ≡ true
+  pub inside : (row : ℕ) → column_at begun row ≡ true → column_at rows row ≡ true
+  pub some : (row : ℕ) → column_at begun row ≡ true → 0 < length (set_columns (columns_on starts row))
+  pub none : (row : ℕ) → row < SIDE_LIMIT → column_at rows row ≡ true → column_at left row ≡ false →
+      column_at begun row ≡ false → set_columns (columns_on starts row) ≡ []
+
+pub begun-init : (rows none : List Bool) (starts : List (List Bool)) → none ≡ no_columns →
+    AreBegunBut rows starts none rows
+begun-init rows none starts is =
     record {
-      at = λ x near. ap (λ (b : Bool). b && column_at (columns_on starts row) x) off
-          ∙ sym (not_begun g table axis part own row x only low out);
-      some = λ on. let clash : false ≡ true = sym off ∙ on in absurd (cc);
+      within = λ row low on. on;
+      inside = λ row on. let clash : false ≡ true = sym (none_has none row is) ∙ on in absurd (cc);
+      some = λ row on. let clash : false ≡ true = sym (none_has none row is) ∙ on in absurd (cc);
+      none = λ row low on off out. let clash : true ≡ false = sym on ∙ off in absurd (cc);
     }
 
--- a row that was looked at
-looked_at : (g : Grid) (table : Option (List ℕ)) (axis : Axis) (part : List CompiledCell) (row : ℕ)
-    (columns : List Bool) (empty : Bool) →
-    (empty ≡ true → set_columns columns ≡ []) → AreWhere (begins_at g table axis part row) columns → (x : ℕ) →
-    x < SIDE_LIMIT →
-    (not empty && column_at columns x) ≡ begins_at g table axis part row x
-looked_at g table axis part row columns true none are x low = sym (none_in columns x (none refl) low) ∙ are.at x low
-looked_at g table axis part row columns false none are x low = are.at x low
+-- a row that is in a set with one more is that one, or was in it before
+more_has : (begun more : List Bool) (row other : ℕ) (b : Bool) → more ≡ with_column begun row b →
+    column_at more other ≡ true → ((other ≡ row) × (b ≡ true)) ⊎ (column_at begun other ≡ true)
+more_has begun more row other b is on = elim (cases_lt other SIDE_LIMIT) [
+  | inl low ↦ elim (cases_eq other row) [
+    | inl same ↦
+        let here : column_at more row ≡ b = ap (λ (cs : List Bool). column_at cs row) is
+        ∙ with_here begun row b (rw (← same) low) in
+        inl (same, sym here ∙ ap (column_at more) (sym same) ∙ on)
+    | inr apart ↦ inr (sym (ap (λ (cs : List Bool). column_at cs other) is ∙ with_other begun row other b low apart)
+        ∙ on)
+  ]
+  | inr far ↦
+      let clash : false ≡ true = sym (ap (λ (cs : List Bool). column_at cs other) is
+      ∙ column_at-beyond (λ y. if nat_eq y row then b else column_at begun y) other far) ∙ on in
+      absurd (cc)
+]
 
-pub row_found : (g : Grid) (table : Option (List ℕ)) (axis : Axis) (part : List CompiledCell)
-    (rows more columns : List Bool) (starts : List (List Bool)) (row : ℕ)
-    (empty : Bool) → row < SIDE_LIMIT → row < length starts → more ≡ with_column rows row (not empty) →
-    (empty ≡ true → set_columns columns ≡ []) →
-    (empty ≡ false → 0 < length (set_columns columns)) → AreWhere (begins_at g table axis part row) columns →
-    IsRowFound g table axis part more (slice_set starts row columns) row
-row_found g table axis part rows more columns starts row empty low inside is none some are =
-    let on : column_at more row ≡ not empty = ap (λ (cs : List Bool). column_at cs row) is
-    ∙ with_here rows row (not empty) low in
-    let set : columns_on (slice_set starts row columns) row ≡ columns = get_or-set_same starts row columns [] inside in
+pub begun-more : (rows begun more left next : List Bool) (starts : List (List Bool)) (row : ℕ) (empty : Bool) →
+    set_columns left ≡ row ∷ set_columns next → more ≡ with_column begun row (not empty) →
+    (empty ≡ true → set_columns (columns_on starts row) ≡ []) →
+    (empty ≡ false → 0 < length (set_columns (columns_on starts row))) →
+    AreBegunBut rows starts begun left → AreBegunBut rows starts more next
+begun-more rows begun more left next starts row empty taken is none some before =
+    let first = first_in left row (set_columns next) taken in
     record {
-      at = λ x near.
-          ap₂ (λ (b : Bool) (cs : List Bool). b && column_at cs x) on set
-          ∙ looked_at g table axis part row columns empty none are x near;
-      some = λ has. rw set (some (not-true empty (sym on ∙ has)));
+      within = λ other low on. before.within other low (was_in left next row other taken low on);
+      inside = λ other on. elim (more_has begun more row other (not empty) is on) [
+        | inl here ↦ rw here.0 (before.within row first.1 first.0)
+        | inr earlier ↦ before.inside other earlier
+      ];
+      some = λ other on. elim (more_has begun more row other (not empty) is on) [
+        | inl here ↦ rw here.0 (some (not-true empty here.1))
+        | inr earlier ↦ before.some other earlier
+      ];
+      none = λ other low on off out. elim (cases_eq other row) [
+        | inl same ↦
+            let here : column_at more row ≡ not empty = ap (λ (cs : List Bool). column_at cs row) is
+            ∙ with_here begun row (not empty) first.1 in
+            let no : not empty ≡ false = sym here ∙ ap (column_at more) (sym same) ∙ out in
+            rw same (none (not-false empty no))
+        | inr apart ↦
+            let t : nat_eq other row ≡ false = grind (arith, nat_tests, apart) in
+            before.none other low on
+            (taken_out left next row other taken low ∙ ap₂ (λ (a b : Bool). a || b) t off)
+            (sym (ap (λ (cs : List Bool). column_at cs other) is
+            ∙ with_other begun row other (not empty) low apart) ∙ out)
+      ];
     }
 
-pub row_kept : (g : Grid) (table : Option (List ℕ)) (axis : Axis) (part : List CompiledCell)
-    (rows more columns : List Bool) (starts : List (List Bool)) (row other : ℕ)
-    (b : Bool) → other < SIDE_LIMIT → more ≡ with_column rows row b → other ≢ row →
-    IsRowFound g table axis part rows starts other →
-    IsRowFound g table axis part more (slice_set starts row columns) other
-row_kept g table axis part rows more columns starts row other b low is apart found =
-    let on : column_at more other ≡ column_at rows other = ap (λ (cs : List Bool). column_at cs other) is
-    ∙ with_other rows row other b low apart in
-    let set : columns_on (slice_set starts row columns) other ≡ columns_on starts other =
-    get_or-set_other starts row other columns [] apart in
+pub begun-all : (rows begun left : List Bool) (starts : List (List Bool)) → set_columns left ≡ [] →
+    AreBegunBut rows starts begun left → AreRowsBegun rows starts begun
+begun-all rows begun left starts none before =
     record {
-      at = λ x near. ap₂ (λ (t : Bool) (cs : List Bool). t && column_at cs x) on set ∙ found.at x near;
-      some = λ has. rw set (found.some (sym on ∙ has));
+      inside = before.inside;
+      some = before.some;
+      none = λ row low on out. before.none row low on (none_in left row none low) out;
     }
+
+-- a row without room, or on which the part doesn't begin
+module _ (g : Grid) (table : Option (List ℕ)) (axis : Axis) (part : List CompiledCell)
+    (own below rows : List Bool) (count : ℕ) (few : g.height ≤ SIDE_LIMIT)
+    (many : count ≡ rows_with_room axis g.height (length part)) (low : below ≡ columns_below count)
+    (both : rows ≡ both_columns own below) (only : BeginsOnlyOn g table axis part own) (some : 0 < length part) where
+  no_room : (axis' : Axis) (row x : ℕ) → count ≡ rows_with_room axis' g.height (length part) → row < g.height →
+      count ≤ row → begins_at g table axis' part row x ≡ false
+  no_room Right row x is near far = absurd (omega (arith, is, near, far))
+  no_room Down row x is near far =
+      let past : g.height < row + length part = omega (arith, is, near, far) in
+      let off : nat_le (row + length part) g.height ≡ false = grind (arith, nat_tests, past) in
+      ap (λ (b : Bool). nat_lt x g.width && (b && part_fits g table Down x part row)) off
+      ∙ and-false (nat_lt x g.width)
+
+  outside : (row x : ℕ) (here within : Bool) → row < g.height → column_at own row ≡ here → nat_lt row count ≡ within →
+      column_at rows row ≡ false → begins_at g table axis part row x ≡ false
+  outside row x false within near o t out = not_begun g table axis part own row x only near o
+  outside row x true false near o t out =
+      let far : count ≤ row = grind (arith, nat_tests, t) in no_room axis row x many near far
+  outside row x true true near o t out =
+      let clash : true ≡ false =
+      sym (in_both own below rows count row low both (omega (arith, near, few))
+      ∙ ap₂ (λ (a b : Bool). a && b) o t) ∙ out in absurd (cc)
+
+  below_by : (row : ℕ) (here : Bool) → nat_lt row count ≡ here → (column_at own row && nat_lt row count) ≡ true →
+      row < count
+  below_by row true t on = grind (arith, nat_tests, t)
+  below_by row false t on =
+      let clash : false ≡ true = sym (ap (λ (b : Bool). column_at own row && b) t ∙ and-false (column_at own row))
+      ∙ on in absurd (cc)
+
+  pub rows_below : AreRowsBelow rows count
+  rows_below row on = elim (cases_lt row SIDE_LIMIT) [
+    | inl near ↦ below_by row (nat_lt row count) refl
+        (sym (in_both own below rows count row low both near) ∙ on)
+    | inr far ↦
+        let clash : false ≡ true = sym (ap (λ (cs : List Bool). column_at cs row) both
+        ∙ column_at-beyond (λ y. column_at own y && column_at below y) row far) ∙ on in absurd (cc)
+  ]
+
+  count_low : (axis' : Axis) → count ≡ rows_with_room axis' g.height (length part) → count ≤ g.height
+  count_low Right is = omega (arith, is)
+  count_low Down is = omega (arith, is, some)
+
+  told : (starts : List (List Bool)) (begun : List Bool) (row x : ℕ) (on was : Bool) → row < g.height →
+      x < SIDE_LIMIT → ((r : ℕ) → column_at rows r ≡ true → AreWhere (begins_at g table axis part r) (columns_on starts r)) →
+      AreRowsBegun rows starts begun → column_at begun row ≡ on → column_at rows row ≡ was →
+      (on && column_at (columns_on starts row) x) ≡ begins_at g table axis part row x
+  told starts begun row x true was near low begin are o r = (begin row (are.inside row o)).at x low
+  told starts begun row x false false near low begin are o r =
+      sym (outside row x (column_at own row) (nat_lt row count) near refl refl r)
+  told starts begun row x false true near low begin are o r =
+      sym (sym ((begin row r).at x low)
+      ∙ none_in (columns_on starts row) x (are.none row (omega (arith, near, few)) r o) low)
+
+  pub starts_found : (starts : List (List Bool)) (begun : List Bool) →
+      ((row : ℕ) → column_at rows row ≡ true → AreWhere (begins_at g table axis part row) (columns_on starts row)) →
+      AreRowsBegun rows starts begun → AreStarts g table axis part begun starts
+  starts_found starts begun begin are =
+      record {
+        each = λ row near. record {
+          at = λ x low. told starts begun row x (column_at begun row) (column_at rows row) near low begin are refl refl;
+          some = are.some row;
+        };
+        below = λ row on. let high : row < count = rows_below row (are.inside row on) in
+            omega (arith, high, count_low axis many);
+      }
+
+  -- there is no such row
+  pub no_starts : (starts : List (List Bool)) → set_columns rows ≡ [] → AreStarts g table axis part rows starts
+  no_starts starts none =
+      let empty : (row : ℕ) → column_at rows row ≡ true → ⊥ =
+      λ row on. let high : row < count = rows_below row on in
+      let clash : false ≡ true = sym (none_in rows row none (omega (arith, high, count_low axis many, few))) ∙ on in
+      absurd (cc) in
+      starts_found starts rows (λ row on. absurd (empty row on))
+      (record {
+        inside = λ row on. on;
+        some = λ row on. absurd (empty row on);
+        none = λ row low on out. absurd (empty row on);
+      })
+
+  -- the rows between the first one and the end
+  pub starts_between : (starts : List (List Bool)) (begun left : List Bool) (first end : ℕ) →
+      set_columns rows ≡ first ∷ set_columns left → AreRowsBelow rows end →
+      BeginBetween g table axis part first end starts → AreRowsBegun rows starts begun →
+      AreStarts g table axis part begun starts
+  starts_between starts begun left first end taken high between are =
+      starts_found starts begun
+      (λ row on. elim (cases_lt row first) [
+        | inl less ↦
+            let clash : false ≡ true = sym (first_least rows first row (set_columns left) taken less) ∙ on in absurd (cc)
+        | inr from ↦ between row from (high row on)
+      ]) are
+
+-- the columns kept of a row on which a part begins
+pub kept_where : (g : Grid) (table : Option (List ℕ)) (axis : Axis) (part : List CompiledCell)
+    (rows columns : List Bool) (starts : List (List Bool)) (row : ℕ) → AreStarts g table axis part rows starts →
+    row < g.height → ((x : ℕ) → column_at columns x ≡ is_start rows starts row x) →
+    AreWhere (begins_at g table axis part row) columns
+kept_where g table axis part rows columns starts row are low kept =
+    record { at = λ x near. kept x ∙ (are.each row low).at x near }

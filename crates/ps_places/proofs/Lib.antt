@@ -16,6 +16,7 @@ pub mod FoundPlaces
 pub mod LineSets
 pub mod FoundAcross
 pub mod FoundDown
+pub mod FoundLines
 pub mod Untouched
 pub mod WrittenToItself
 pub mod SpacedWays

@@ -5,12 +5,10 @@ use Rattle.std.specs.Prelude.{nat_eq, if◌then◌else◌, slice_index_or}
 use borrow.Rule.Slice.PartMut.{put_mid}
 use Rattle.std.proofs.Math.Nat.{add-mul, mul-le-mul_right}
 use Rattle.std.proofs.lemmas.Bool.{cases_eq, cases_lt}
-use Rattle.std.proofs.lemmas.Bool.Decides.{nat_tests}
 use Rattle.std.proofs.lemmas.List.{length-take-le, get_or_append_left, get_or-append_right, get_or-take, get_or-drop}
 use Rattle.ps_model.specs.declared.limits.TheConstants.{SIDE_LIMIT}
 use Rattle.ps_board.specs.ColumnSets.{column_at, no_columns, with_column}
-use Rattle.ps_board.proofs.ColumnLaws.{column_at-all, column_at-beyond, column_at-where, with_here, with_other}
-use Rattle.ps_places.specs.FoundStarts.{set_of}
+use Rattle.ps_board.proofs.ColumnLaws.{column_at-all, column_at-beyond, with_other}
 
 -- a set of lines with a line more has lines below a number
 with_by : (lines : List Bool) (row count x : ℕ) (b : Bool) → row < count →
@@ -41,21 +39,6 @@ line_room count row most low =
     (let next : row + 1 ≤ most = omega arith in next) in
     omega arith
 
-pub sets_written : (starts sets : List (List Bool)) (count row k i : ℕ) → k ≡ count → length sets ≡ count →
-    row * count + count ≤ length starts → i < count →
-    set_of (put_mid (row * count) k starts sets) count row i ≡ slice_index_or sets i []
-sets_written starts sets count row k i e long room low =
-    let start : ℕ = row * count in
-    let rest : List (List Bool) = drop k (drop start starts) in
-    let within : start ≤ length starts = omega arith in
-    let front : length (take start starts) ≡ start = length-take-le start starts within in
-    let place : start ≤ start + i = omega arith in
-    let inside : i < length sets = omega arith in
-    let back : start + i - start ≡ i = omega arith in
-    get_or-append_right (take start starts) (sets ++ rest) start (start + i) [] front place
-    ∙ ap (λ (n : ℕ). get_or (sets ++ rest) n []) back
-    ∙ get_or_append_left sets rest [] i inside
-
 kept_by : (starts sets : List (List Bool)) (start k place : ℕ) → length sets ≡ k → start + k ≤ length starts →
     (place < start) ⊎ (start + k ≤ place) →
     slice_index_or (put_mid start k starts sets) place [] ≡ slice_index_or starts place []
@@ -85,9 +68,16 @@ apart count row x i low other = elim (cases_lt x row) [
       line_room count row x (let next : row < x = omega (arith, more, other) in next) in inr (omega arith)
 ]
 
-pub sets_kept : (starts sets : List (List Bool)) (count row k x i : ℕ) → k ≡ count → length sets ≡ count →
-    row * count + count ≤ length starts → i < count → x ≢ row →
-    set_of (put_mid (row * count) k starts sets) count x i ≡ set_of starts count x i
-sets_kept starts sets count row k x i e long room low other =
-    kept_by starts sets (row * count) k (x * count + i) (long ∙ sym e) (rw e room)
-    (rw e (apart count row x i low other))
+-- a place of another line or another part is another place
+pub other_place : (count x k i number : ℕ) → i < count → number < count → (x ≢ k) ⊎ (i ≢ number) →
+    x * count + i ≢ k * count + number
+other_place count x k i number low within other e = elim (cases_eq x k) [
+  | inl same ↦
+      let here : i ≡ number = let there : k * count + i ≡ k * count + number = rw (← same) (rw (← same) at e) in
+      omega arith in
+      elim other [ inl n ↦ n same | inr n ↦ n here ]
+  | inr elsewhere ↦ elim (apart count k x i low elsewhere) [
+    | inl before ↦ omega arith
+    | inr behind ↦ omega arith
+  ]
+]

@@ -17,7 +17,7 @@ use Rattle.ps_program.specs.ProgramShown.{mask_shown}
 use Rattle.ps_match.specs.InRoom.{meaning_of_mask}
 use Rattle.ps_board.specs.ColumnSets.{column_at, set_columns, no_columns, columns_below, both_columns, columns_behind}
 use Rattle.ps_board.specs.ColumnSets.{row_fits}
-use Rattle.ps_board.proofs.ColumnLaws.{column_at-where, column_at-all, none_in}
+use Rattle.ps_board.proofs.ColumnLaws.{column_at-where, column_at-all, columns-agree, none_in}
 use Rattle.ps_board.proofs.PassedColumns.{no_cell}
 use Rattle.ps_places.specs.Lines.{part_fits, part_meaning}
 use Rattle.ps_places.specs.Starts.{AreWhere, begins_down}
@@ -61,6 +61,24 @@ cell_off g mask row index x grid far =
     ap (λ (n : ℕ). fits_there (meaning_of_mask (mask_shown mask)) (slice_get g.cells n))
     (sym (moved_on x g.height row index))
     ∙ ap (fits_there (meaning_of_mask (mask_shown mask))) (no_cell g row (x + index) grid.cells far)
+
+-- the first cell alone
+pub across-first : (g : Grid) (table : Option (List ℕ)) (part : List CompiledCell) (row : ℕ) (c : CompiledCell)
+    (scan : List Bool) → IsGrid g → slice_get part 0 ≡ Some c → 0 < length part →
+    scan ≡ row_fits g (meaning_of_mask (mask_shown c.mask)) row → AreLeftAcross g table part row scan 1
+across-first g table part row c scan grid e h is =
+    record {
+      at = λ x low.
+          let all : length part - 0 ≡ length part = omega arith in
+          let here : x * g.height + row ≡ x * g.height + row + 0 * g.height = omega arith in
+          ap (λ (b : Bool). b && rest_across g table part row 1 x)
+          (ap (λ (cs : List Bool). column_at cs x) is ∙ in_row g (meaning_of_mask (mask_shown c.mask)) row x grid
+          ∙ ap (λ (n : ℕ). fits_there (meaning_of_mask (mask_shown c.mask)) (slice_get g.cells n)) here)
+          ∙ sym (fits_from-by g table part (λ k. x * g.height + row + k * g.height) (length part) 0 c
+          (cell_across g c.mask row 0 x) e h refl)
+          ∙ ap (λ (n : ℕ). fits_along g (part_meaning table part)
+          (map (λ k. x * g.height + row + k * g.height) (range_with_len 0 n))) all;
+    }
 
 none_across : (g : Grid) (table : Option (List ℕ)) (part : List CompiledCell) (row x : ℕ) → IsGrid g →
     0 < length part → g.width ≤ x → rest_across g table part row 0 x ≡ false
@@ -195,6 +213,48 @@ scanned_down g mask row index below x scan is here low =
     ∙ column_at-where (λ y. fits_there (meaning_of_mask (mask_shown mask)) (slice_get g.cells (y * g.height + below)))
     x low
     ∙ ap (λ (n : ℕ). fits_there (meaning_of_mask (mask_shown mask)) (slice_get g.cells n)) same
+
+-- the first cell alone
+and_turn : (inside fits room rest : Bool) → (inside ≡ false → fits ≡ false) →
+    (fits && (room && rest)) ≡ (inside && (room && (fits && rest)))
+and_turn true true room rest out = refl
+and_turn true false room rest out = sym (and-false room)
+and_turn false fits room rest out = ap (λ (b : Bool). b && (room && rest)) (out refl)
+
+pub down-first : (g : Grid) (table : Option (List ℕ)) (part : List CompiledCell) (row : ℕ) (c : CompiledCell)
+    (scan : List Bool) → IsGrid g → slice_get part 0 ≡ Some c → 0 < length part →
+    scan ≡ row_fits g (meaning_of_mask (mask_shown c.mask)) row → AreLeftDown g table part row scan 1
+down-first g table part row c scan grid e h is =
+    record {
+      at = λ x low.
+          let all : length part - 0 ≡ length part = omega arith in
+          let here : x * g.height + row ≡ x * g.height + row + 0 * 1 = omega arith in
+          let meaning : CellMeaning = meaning_of_mask (mask_shown c.mask) in
+          let room : Bool = nat_le (row + length part) g.height in
+          let fits : Bool = fits_there meaning (slice_get g.cells (x * g.height + row)) in
+          ap (λ (b : Bool). b && (room && rest_down g table part row 1 x))
+          (ap (λ (cs : List Bool). column_at cs x) is ∙ in_row g meaning row x grid)
+          ∙ and_turn (nat_lt x g.width) fits room (rest_down g table part row 1 x)
+          (λ off. let far : g.width ≤ x = grind (arith, nat_tests, off) in
+          ap (fits_there meaning) (no_cell g row x grid.cells far))
+          ∙ ap (λ (b : Bool). nat_lt x g.width && (room && b))
+          (ap (λ (n : ℕ). fits_there meaning (slice_get g.cells n) && rest_down g table part row 1 x) here
+          ∙ sym (fits_from-by g table part (λ k. x * g.height + row + k * 1) (length part) 0 c
+          (cell_down g c.mask row 0 x) e h refl)
+          ∙ ap (λ (n : ℕ). fits_along g (part_meaning table part)
+          (map (λ k. x * g.height + row + k * 1) (range_with_len 0 n))) all);
+    }
+
+-- a row's scan moved by no column
+pub not_moved : (g : Grid) (meaning : CellMeaning) (row : ℕ) →
+    columns_behind (row_fits g meaning row) 0 ≡ row_fits g meaning row
+not_moved g meaning row =
+    columns-agree (λ x. column_at (row_fits g meaning row) (x + 0))
+    (λ x. fits_there meaning (slice_get g.cells (x * g.height + row)))
+    (λ x low.
+    let same : x + 0 ≡ x = omega arith in
+    ap (column_at (row_fits g meaning row)) same
+    ∙ column_at-where (λ y. fits_there meaning (slice_get g.cells (y * g.height + row))) x low)
 
 pub down-more : (g : Grid) (table : Option (List ℕ)) (part : List CompiledCell) (row index below : ℕ) (c : CompiledCell)
     (columns scan more : List Bool) →

@@ -250,13 +250,3 @@ pub begun-below : (g : Grid) (table : Option (List ℕ)) (part : List CompiledCe
     g.height ≤ row → none ≡ no_columns → AreWhere (begins_down g table part row) none
 begun-below g table part row none some far e =
     record { at = λ x low. none_has none x e ∙ sym (below_edge g table part x row some far) }
-
-pub begun-out : (g : Grid) (table : Option (List ℕ)) (part : List CompiledCell) (row : ℕ) (rows none : List Bool) →
-    BeginsOnlyOn g table Down part rows → row < g.height → column_at rows row ≡ false → none ≡ no_columns →
-    AreWhere (begins_down g table part row) none
-begun-out g table part row rows none only low out e =
-    record {
-      at = λ x near.
-          none_has none x e ∙ sym (room_by g table part rows x row (nat_le
-          (row + length part) g.height) refl only low out);
-    }

@@ -16,14 +16,14 @@ use Rattle.ps_match.proofs.RowWritten.{lt_next}
 use Rattle.ps_program.specs.declared.cells.CompiledCell.{CompiledCell}
 use Rattle.ps_program.specs.declared.rows.Axis.{Axis}
 use Rattle.ps_program.specs.declared.rows.Axis.TheVariants.{Down, Right}
-use Rattle.ps_places.specs.Candidates.{BeginsOnlyOn}
 use Rattle.ps_places.specs.FoundStarts.{BeginsNowhere, begins_on}
-use Rattle.ps_places.specs.Lines.{part_fits}
+use Rattle.ps_places.specs.Lines.{line_long, part_fits}
+use Rattle.ps_places.specs.PartStarts.{AreStarts, begins_at, columns_on, is_start}
 use Rattle.ps_places.specs.PartTargets.{AreKept, AreTargets, IsRowKept, IsRowOfTargets, has_partner, is_apart}
 use Rattle.ps_places.specs.PartTargets.{is_kept, is_paired, is_target, other_part, own_part, target_at}
 use Rattle.ps_places.specs.Starts.{AreWhere, begins_down}
 use Rattle.ps_places.proofs.AnyOf.{any-alike, any-either, all}
-use Rattle.ps_places.proofs.FoundAcross.{begins-are, nowhere_by}
+use Rattle.ps_places.proofs.FoundAcross.{begins-are, nowhere_in}
 use Rattle.ps_places.proofs.FoundDown.{below_edge}
 use Rattle.ps_places.proofs.LineSets.{none_has}
 use Rattle.ps_places.proofs.OnlyOn.{missing}
@@ -93,12 +93,13 @@ no_second g table axis false first second line position none low =
     ap (λ (b : Bool). b && has_partner g table axis false first second line position) (none.at position low)
 
 pub across-init : (g : Grid) (table : Option (List ℕ)) (leads : Bool) (first second : List CompiledCell)
-    (rows fronts backs both : List Bool) (starts : List (List Bool)) → IsGrid g →
-    BeginsOnlyOn g table Right first fronts →
-    BeginsOnlyOn g table Right second backs → both ≡ both_columns fronts backs → rows ≡ no_columns →
+    (rows fronts backs both : List Bool) (starts front_sets back_sets : List (List Bool)) → IsGrid g →
+    AreStarts g table Right first fronts front_sets →
+    AreStarts g table Right second backs back_sets → both ≡ both_columns fronts backs → rows ≡ no_columns →
     (row : ℕ) → row < g.height → column_at both row ≡ false →
     IsRowOfTargets g table Right leads first second rows starts row
-across-init g table leads first second rows fronts backs both starts grid firsts seconds is e row low out =
+across-init g table leads first second rows fronts backs both starts front_sets back_sets grid firsts seconds is e row
+    low out =
     record {
       at = λ x near.
           not_kept rows starts row e x
@@ -107,9 +108,9 @@ across-init g table leads first second rows fronts backs both starts grid firsts
       by : (x : ℕ) → x < SIDE_LIMIT → (column_at fronts row ≡ false) ⊎ (column_at backs row ≡ false) →
           target_at g table Right leads first second row x ≡ false
       by x near (inl none) = no_first g table Right leads first second row x
-          (nowhere_by g table first row fronts firsts low none) near
+          (nowhere_in g table first fronts front_sets row firsts low none) near
       by x near (inr none) = no_second g table Right leads first second row x
-          (nowhere_by g table second row backs seconds low none) near
+          (nowhere_in g table second backs back_sets row seconds low none) near
 
 pairs_by : (leads : Bool) (size : ℕ) (fronts backs : List Bool) (f h : ℕ → Bool) (x : ℕ) → x < SIDE_LIMIT →
     AreWhere f fronts → AreWhere h backs →

@@ -6,8 +6,8 @@ use Rattle.ps_model.specs.board.Grid.{Grid}
 use Rattle.ps_board.specs.ColumnSets.{column_at, no_columns, with_column}
 use Rattle.ps_program.specs.declared.cells.CompiledCell.{CompiledCell}
 use Rattle.ps_program.specs.declared.rows.Axis.{Axis}
-use Rattle.ps_program.specs.declared.rows.Axis.TheVariants.{Down}
 use Rattle.ps_places.specs.Lines.{line_count, line_long, part_fits}
+use Rattle.ps_places.specs.PartStarts.{is_start}
 use Rattle.ps_places.specs.Starts.{AreWhere}
 
 -- a part begins at a position of a line: it has room there to the line's end, and fits
@@ -53,11 +53,6 @@ pub record AreLinesFound (g : Grid) (table : Option (List ℕ)) (axis : Axis) (p
   pub each : (line : ℕ) → line < line_count axis g → IsLineFound g table axis parts starts lines count line
   pub below : (line : ℕ) → column_at lines line ≡ true → line < line_count axis g
 
--- other rows of the board than those of a set have a part that begins nowhere
-pub record HaveWaysOnlyOn (g : Grid) (table : Option (List ℕ)) (axis : Axis) (parts : List (List CompiledCell))
-    (rows : List Bool) : Type 0 where
-  pub at : (row : ℕ) → row < line_count axis g → column_at rows row ≡ false → HasNoWay g table axis parts row
-
 -- the set of a column with a row added, if the column is one of these: in place of what stood there, where nothing was
 -- found yet
 abbrev pub with_row : List Bool → List Bool → ℕ → List Bool → ℕ → List Bool
@@ -71,11 +66,18 @@ pub record IsRowAdded (old : List (List Bool)) (count number : ℕ) (columns fou
       ≡ with_row columns found row (set_of old count x number) x
   pub others : (x other : ℕ) → other < count → other ≢ number → set_of new count x other ≡ set_of old count x other
 
--- a part that goes down begins in columns of a set at the positions of its sets, if the column is found, and else
--- nowhere; the columns found are of those, and no other set changes
-pub record IsPartFound (g : Grid) (table : Option (List ℕ)) (part : List CompiledCell) (within : List Bool)
-    (count number : ℕ) (old new : List (List Bool)) (found : List Bool) : Type 0 where
-  pub begins : (x : ℕ) → column_at found x ≡ true → AreWhere (begins_on g table Down x part) (set_of new count x number)
+-- a part begins on lines of a set at the positions of its sets, if the line is found, and else nowhere; the lines found
+-- are of those, and no other set changes
+pub record IsPartFound (g : Grid) (table : Option (List ℕ)) (axis : Axis) (part : List CompiledCell)
+    (within : List Bool) (count number : ℕ) (old new : List (List Bool)) (found : List Bool) : Type 0 where
+  pub begins : (x : ℕ) → column_at found x ≡ true → AreWhere (begins_on g table axis x part) (set_of new count x number)
   pub inside : (x : ℕ) → column_at found x ≡ true → column_at within x ≡ true
-  pub none : (x : ℕ) → column_at within x ≡ true → column_at found x ≡ false → BeginsNowhere g table Down part x
+  pub none : (x : ℕ) → column_at within x ≡ true → column_at found x ≡ false → BeginsNowhere g table axis part x
   pub others : (x other : ℕ) → other < count → other ≢ number → set_of new count x other ≡ set_of old count x other
+
+-- the sets of a part on some lines are those that are kept of the rows with these numbers, and no other set changes
+pub record AreTakenOver (rows : List Bool) (columns : List (List Bool)) (lines : List Bool) (count number : ℕ)
+    (old new : List (List Bool)) : Type 0 where
+  pub taken : (row x : ℕ) → column_at lines row ≡ true →
+      column_at (set_of new count row number) x ≡ is_start rows columns row x
+  pub others : (row other : ℕ) → other < count → other ≢ number → set_of new count row other ≡ set_of old count row other

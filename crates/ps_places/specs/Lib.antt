@@ -10,6 +10,7 @@ pub mod Candidates
 pub mod CellCandidates
 pub mod Spaced
 pub mod PartStarts
+pub mod RowsFound
 pub mod LeavingAlone
 pub mod WrittenTogether
 pub mod PartTargets

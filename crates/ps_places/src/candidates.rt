@@ -10,7 +10,7 @@ use ps_program::{Axis, CellMask, CompiledCell};
 
 /// The rows of the board, as a set of their numbers, whose cells may fit a mask: those that may have each object that
 /// it needs, and each motion that it asks for.
-pub fn rows_of_mask<B: Scan>(board: &B, mask: &CellMask) -> Columns<B::Words>
+fn rows_of_mask<B: Scan>(board: &B, mask: &CellMask) -> Columns<B::Words>
     ensures { FitsOnlyOn (B.grid board.now) mask.now result }
 {
     recall_shape(board);

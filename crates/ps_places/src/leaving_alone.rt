@@ -37,7 +37,7 @@ fn lie_alone(part: &[CompiledCell], distance: usize) -> bool
 }
 
 /// The columns of a row of the board that are kept, if it is one of these rows.
-fn kept_on_row<W: ColumnWords>(rows: Columns<W>, starts: &[Columns<W>], row: u32) -> Columns<W>
+pub fn kept_on_row<W: ColumnWords>(rows: Columns<W>, starts: &[Columns<W>], row: u32) -> Columns<W>
     ensures { (x : ℕ) → column_at result x ≡ is_start rows starts.now row x }
 {
     if !rows.has(row) {

@@ -14,6 +14,5 @@ mod starts;
 mod targets;
 mod ways;
 
-pub use candidates::rows_of_mask;
 pub use room::{RoomFor, RowRoom};
 pub use starts::find_starts;

@@ -1,20 +1,103 @@
 //! Where one part of a row of a rule begins as the board is, row by row of the board.
 
-ghost use Rattle.std.specs.Prelude.{◌≡◌, ◌≢◌, ◌<◌, ◌≤◌, ◌∷◌, [], length};
+ghost use Rattle.std.specs.Prelude.{◌≡◌, ◌≢◌, ◌+◌, ◌<◌, ◌≤◌, ◌∷◌, [], length, replicate};
 ghost use Rattle.ps_model.specs.declared.limits.TheConstants.{SIDE_LIMIT};
 ghost use Rattle.ps_model.specs.board.Places.{places};
-ghost use Rattle.ps_board.specs.ColumnSets.{set_columns};
+ghost use Rattle.ps_board.specs.ColumnSets.{no_columns, set_columns};
 ghost use Rattle.ps_program.specs.Axes.{direction_of};
 ghost use Rattle.ps_laws.specs.WholeRows.{HasCells};
 ghost use Rattle.ps_places.specs.Lines.{part_meaning};
+ghost use Rattle.ps_program.specs.declared.rows.Axis.TheVariants.{Down, Right};
 ghost use Rattle.ps_places.specs.PartStarts.{AreStarts, begins_at};
 ghost use Rattle.ps_places.specs.Starts.{AreWhere};
+ghost use Rattle.ps_places.specs.RowsFound.{AreBothBehind, AreRowsBegun, AreRowsBelow, BeginBetween, BeginOnRows};
+ghost use Rattle.ps_places.specs.RowsFound.{rows_with_room};
 
 use crate::candidates::rows_of_part;
 use crate::columns::{columns_across, columns_down};
 use crate::room::RowRoom;
 use ps_match::{ColumnWords, Columns, Scan, recall_shape};
+use ps_model::SIDE_LIMIT;
 use ps_program::{Axis, CompiledCell};
+
+/// Keeps of each set the columns that are in the set at the same place of others too, which are moved so many columns
+/// to the left.
+fn keep_behind<W: ColumnWords>(kept: &mut [Columns<W>], others: &[Columns<W>], steps: u32)
+    requires { length others.now ≡ length kept.old }
+    ensures kept { AreBothBehind kept.old others.now steps kept.new }
+    ensures long { length kept.new ≡ length kept.old }
+{
+    for place in 0..kept.len() {
+        kept[place] = kept[place].both(others[place].behind(steps));
+    }
+}
+
+/// Where a part begins: the rows of the board that have a place, and the columns of each.
+#[derive(Drop)]
+pub struct PartStarts<'s, S> {
+    pub rows: S,
+    pub columns: &'s [S],
+}
+
+/// Makes each set empty.
+fn clear<W: ColumnWords>(sets: &mut [Columns<W>])
+    ensures { sets.new ≡ replicate (length sets.old) no_columns }
+{
+    sets.fill(Columns::none());
+}
+
+/// Finds the columns in which a part begins that goes right, of the first row and as many below it as there is room
+/// for. What is in `scanned` afterwards is anything.
+fn find_across<B: Scan>(
+    board: &B,
+    part: &[CompiledCell],
+    first: u32,
+    starts: &mut [Columns<B::Words>],
+    scanned: &mut [Columns<B::Words>],
+)
+    requires whole { HasCells part.now }
+    requires rows { first + length starts.old ≤ (B.grid board.now).height }
+    requires room { length scanned.old ≡ length starts.old }
+    ensures begun { BeginOnRows (B.grid board.now) (B.table board.now) Right part.now first starts.new }
+    ensures long { length starts.new ≡ length starts.old }
+{
+    recall_shape(board);
+    board.scan_rows(&part[0].mask, first, starts);
+    for number in 1..part.len() {
+        if SIDE_LIMIT as usize <= number {
+            clear(starts);
+            return;
+        }
+        board.scan_rows(&part[number].mask, first, scanned);
+        keep_behind(starts, scanned, number as u32);
+    }
+}
+
+/// Finds the columns in which a part begins that goes down, of the first row and as many below it as there is room for,
+/// all of which are rows of the board on which the part may begin.
+fn find_down<B: Scan>(
+    board: &B,
+    part: &[CompiledCell],
+    first: u32,
+    starts: &mut [Columns<B::Words>],
+    scanned: &mut [Columns<B::Words>],
+)
+    requires whole { HasCells part.now }
+    requires rows { first + length starts.old + length part.now ≤ (B.grid board.now).height + 1 }
+    requires room { length scanned.old ≡ length starts.old }
+    ensures begun { BeginOnRows (B.grid board.now) (B.table board.now) Down part.now first starts.new }
+    ensures long { length starts.new ≡ length starts.old }
+{
+    recall_shape(board);
+    board.scan_rows(&part[0].mask, first, starts);
+    for number in 1..part.len() {
+        if SIDE_LIMIT as usize <= number {
+            return;
+        }
+        board.scan_rows(&part[number].mask, first + number as u32, scanned);
+        keep_behind(starts, scanned, 0);
+    }
+}
 
 /// The columns of a row of the board in which a part begins.
 fn starts_on_row<B: Scan>(
@@ -33,27 +116,111 @@ fn starts_on_row<B: Scan>(
     }
 }
 
-/// Finds the columns of each row of the board in which a part begins, and answers the rows that have one.
-fn find_rows<B: Scan>(
+/// How many rows of a board there are, from its first on, on which a part of so many cells has room.
+fn rows_with_room(axis: Axis, height: u32, cells: usize) -> u32
+    requires { height ≤ SIDE_LIMIT }
+    ensures { result ≡ rows_with_room axis height cells }
+{
+    match axis {
+        Axis::Right => height,
+        Axis::Down => {
+            if height as usize + 1 < cells {
+                return 0;
+            }
+            height + 1 - cells as u32
+        }
+    }
+}
+
+/// A number above all of a set of rows, of which this is the first, and which are below a count. It is at most twice as
+/// far away as need be.
+fn end_of<W: ColumnWords>(rows: Columns<W>, first: u32, count: u32) -> u32
+    requires first { first < count }
+    requires few { count ≤ SIDE_LIMIT }
+    requires below { AreRowsBelow rows count }
+    ensures rows { AreRowsBelow rows result }
+    ensures first { first < result }
+    ensures below { result ≤ count }
+{
+    if rows.not_below(first + 1).is_empty() {
+        return first + 1;
+    }
+    let mut end = count;
+    while first < end / 2 && rows.not_below(end / 2).is_empty() {
+        end /= 2;
+    }
+    end
+}
+
+/// Finds the columns in which a part begins, of the rows from the first one to the end, on all of which it has room.
+fn find_between<B: Scan>(
+    board: &B,
+    axis: Axis,
+    part: &[CompiledCell],
+    first: u32,
+    end: u32,
+    starts: &mut [Columns<B::Words>],
+    scanned: &mut [Columns<B::Words>],
+)
+    requires whole { HasCells part.now }
+    requires some { first < end }
+    requires rows { end ≤ rows_with_room axis (B.grid board.now).height (length part.now) }
+    requires room { SIDE_LIMIT ≤ length starts.old }
+    requires scanned { SIDE_LIMIT ≤ length scanned.old }
+    ensures begun { BeginBetween (B.grid board.now) (B.table board.now) axis part.now first end starts.new }
+    ensures long { length starts.new ≡ length starts.old }
+{
+    recall_shape(board);
+    if end == first + 1 {
+        starts[first as usize] = starts_on_row(board, axis, part, first);
+        return;
+    }
+    let starts = &mut starts[first as usize..end as usize];
+    let scanned = &mut scanned[first as usize..end as usize];
+    match axis {
+        Axis::Down => find_down(board, part, first, starts, scanned),
+        Axis::Right => find_across(board, part, first, starts, scanned),
+    }
+}
+
+/// Those of some rows whose sets have a column.
+fn rows_begun<W: ColumnWords>(rows: Columns<W>, starts: &[Columns<W>]) -> Columns<W>
+    requires { SIDE_LIMIT ≤ length starts.now }
+    ensures { AreRowsBegun rows starts.now result }
+{
+    let mut begun = Columns::none();
+    let mut left = rows;
+    while let Some(row) = left.take_first() {
+        begun = begun.with(row, !starts[row as usize].is_empty());
+    }
+    begun
+}
+
+/// Finds the columns of each row of the board in which a part begins, and answers the rows that have one. What is in
+/// `scanned` afterwards is anything.
+pub fn find_rows<B: Scan>(
     board: &B,
     axis: Axis,
     part: &[CompiledCell],
     starts: &mut [Columns<B::Words>],
+    scanned: &mut [Columns<B::Words>],
 ) -> Columns<B::Words>
     requires whole { HasCells part.now }
     requires room { SIDE_LIMIT ≤ length starts.old }
+    requires scanned { SIDE_LIMIT ≤ length scanned.old }
     ensures starts { AreStarts (B.grid board.now) (B.table board.now) axis part.now result starts.new }
     ensures long { length starts.new ≡ length starts.old }
 {
     let (_width, height) = board.size();
-    let mut left = rows_of_part(board, axis, part).both(Columns::below(height));
-    let mut rows = Columns::none();
-    while let Some(row) = left.take_first() {
-        let columns = starts_on_row(board, axis, part, row);
-        starts[row as usize] = columns;
-        rows = rows.with(row, !columns.is_empty());
-    }
-    rows
+    let count = rows_with_room(axis, height, part.len());
+    let rows = rows_of_part(board, axis, part).both(Columns::below(count));
+    let mut left = rows;
+    let Some(first) = left.take_first() else {
+        return rows;
+    };
+    let end = end_of(rows, first, count);
+    find_between(board, axis, part, first, end, starts, scanned);
+    rows_begun(rows, starts)
 }
 
 impl<W: ColumnWords> RowRoom<Columns<W>> {
@@ -74,6 +241,12 @@ impl<W: ColumnWords> RowRoom<Columns<W>> {
             0 < length (set_columns result) → places (B.grid board.now) (direction_of axis) (meant ∷ []) ≢ [] }
     {
         recall_shape(board);
-        find_rows(board, axis, part, self.starts.as_mut_slice())
+        find_rows(
+            board,
+            axis,
+            part,
+            self.starts.as_mut_slice(),
+            self.scanned.as_mut_slice(),
+        )
     }
 }

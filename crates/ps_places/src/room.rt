@@ -12,17 +12,39 @@ use std::alloc::Global;
 
 /// Room for a row of a rule: the positions of its parts on each line of the board, and the place that is chosen. It is
 /// made once and serves one row after the other.
-#[derive(Drop)]
 pub struct RowRoom<S> {
     /// The lines on which each part of the row may lie; on others it has no place.
     pub(crate) lines: S,
     /// Line by line, the positions of each part.
     pub(crate) starts: Vec<S>,
+    /// Room for where the first of two parts begins, and the second, row by row of the board.
+    pub(crate) fronts: Vec<S>,
+    pub(crate) backs: Vec<S>,
+    /// Room for what one cell of a part fits, while the part is looked for.
+    pub(crate) scanned: Vec<S>,
     /// The line of the place that is chosen.
     pub(crate) line: u8,
     /// The positions of the parts there.
     pub(crate) way: [u8; PART_LIMIT as usize],
     ghost long: { vec_len starts ≡ PART_LIMIT * SIDE_LIMIT },
+    ghost fronts_long: { vec_len fronts ≡ SIDE_LIMIT },
+    ghost backs_long: { vec_len backs ≡ SIDE_LIMIT },
+    ghost scanned_long: { vec_len scanned ≡ SIDE_LIMIT },
+}
+
+/// Written out, so that who owns a room calls this on each way out, instead of dropping its lists there.
+impl<S: Drop> Drop for RowRoom<S> {
+    fn drop(self) {
+        let RowRoom {
+            lines: _lines,
+            starts: _starts,
+            fronts: _fronts,
+            backs: _backs,
+            scanned: _scanned,
+            line: _,
+            way: _,
+        } = self;
+    }
 }
 
 /// Room for a row of a rule on boards of a kind.
@@ -32,9 +54,15 @@ impl<W: ColumnWords> RowRoom<Columns<W>> {
     /// Room for any row on any board. `Memory` if there is none.
     pub fn try_new(alloc: Global) -> Result<RowRoom<Columns<W>>, Memory> {
         let starts = Vec::from_elem(alloc, Columns::none(), (PART_LIMIT * SIDE_LIMIT) as usize)?;
+        let fronts = Vec::from_elem(alloc, Columns::none(), SIDE_LIMIT as usize)?;
+        let backs = Vec::from_elem(alloc, Columns::none(), SIDE_LIMIT as usize)?;
+        let scanned = Vec::from_elem(alloc, Columns::none(), SIDE_LIMIT as usize)?;
         Ok(RowRoom {
             lines: Columns::none(),
             starts,
+            fronts,
+            backs,
+            scanned,
             line: 0,
             way: [0; PART_LIMIT as usize],
         })

@@ -3,86 +3,23 @@
 ghost use Rattle.std.specs.Prelude.{◌≡◌, ◌*◌, ◌<◌, ◌≤◌, ℕ, if◌then◌else◌, [], All, false, length, slice_index_or, true};
 ghost use Rattle.ps_model.specs.declared.limits.TheConstants.{SIDE_LIMIT};
 ghost use Rattle.ps_model.specs.board.Places.{places};
-ghost use Rattle.ps_board.specs.ColumnSets.{column_at, no_columns};
+ghost use Rattle.ps_board.specs.ColumnSets.{column_at, columns_below, no_columns};
 ghost use Rattle.ps_program.specs.Axes.{direction_of};
 ghost use Rattle.ps_laws.specs.WholeRows.{HasCells};
 ghost use Rattle.ps_program.specs.declared.rows.Axis.TheVariants.{Down, Right};
-ghost use Rattle.ps_places.specs.FoundStarts.{AreLinesFound, BeginInSets, HasNoWay, HaveWaysOnlyOn};
-ghost use Rattle.ps_places.specs.FoundStarts.{IsPartFound, IsRowAdded};
+ghost use Rattle.ps_places.specs.FoundStarts.{AreLinesFound, AreTakenOver, IsPartFound, IsRowAdded};
+ghost use Rattle.ps_places.specs.Lines.{line_count};
+ghost use Rattle.ps_places.specs.PartStarts.{AreStarts};
+ghost use Rattle.ps_places.specs.RowsFound.{AreRowsBelow};
 ghost use Rattle.ps_places.specs.RowPlaces.{all_places, row_meaning};
 ghost use Rattle.ps_places.specs.Starts.{HasLinesOf};
 
-use crate::candidates::rows_of_part;
-use crate::columns::{columns_across, columns_down};
+use crate::leaving_alone::kept_on_row;
+use crate::part_starts::{PartStarts, find_rows};
 use crate::room::RoomFor;
 use ps_match::{ColumnWords, Columns, Scan, recall_shape};
 use ps_program::{Axis, CompiledCell, CompiledRow};
 use ps_text::List;
-
-/// The rows of the board on which each part may begin that goes right.
-fn rows_of_all<B: Scan>(board: &B, parts: &[List<CompiledCell>]) -> Columns<B::Words>
-    ensures { HaveWaysOnlyOn (B.grid board.now) (B.table board.now) Right parts.now result }
-{
-    recall_shape(board);
-    let mut rows = Columns::all();
-    for part in parts {
-        if rows.is_empty() {
-            return rows;
-        }
-        rows = rows.both(rows_of_part(board, Axis::Right, part.as_slice()));
-    }
-    rows
-}
-
-/// Finds the positions of each part on a row of the board. Answers whether each part has one.
-fn find_on_row<B: Scan>(
-    board: &B,
-    parts: &[List<CompiledCell>],
-    row: u32,
-    sets: &mut [Columns<B::Words>],
-) -> bool
-    requires row { row < (B.grid board.now).height }
-    requires whole { All HasCells parts.now }
-    requires long { length sets.old ≡ length parts.now }
-    ensures found { let begun = BeginInSets (B.grid board.now) (B.table board.now) Right parts.now row in
-        result ≡ true → begun (λ number. slice_index_or sets.new number []) (length parts.now) }
-    ensures none { result ≡ false → HasNoWay (B.grid board.now) (B.table board.now) Right parts.now row }
-    ensures long { length sets.new ≡ length sets.old }
-{
-    recall_shape(board);
-    for number in 0..parts.len() {
-        let columns = columns_across(board, parts[number].as_slice(), row);
-        if columns.is_empty() {
-            return false;
-        }
-        sets[number] = columns;
-    }
-    true
-}
-
-/// Finds the positions of parts that go right, and answers the lines on which each part has one.
-fn find_across<B: Scan>(
-    board: &B,
-    parts: &[List<CompiledCell>],
-    starts: &mut [Columns<B::Words>],
-) -> Columns<B::Words>
-    requires whole { All HasCells parts.now }
-    requires room { SIDE_LIMIT * length parts.now ≤ length starts.old }
-    ensures lines { let count = length parts.now in
-        AreLinesFound (B.grid board.now) (B.table board.now) Right parts.now starts.new result count }
-    ensures long { length starts.new ≡ length starts.old }
-{
-    let (_width, height) = board.size();
-    let count = parts.len();
-    let mut left = rows_of_all(board, parts).both(Columns::below(height));
-    let mut lines = Columns::none();
-    while let Some(row) = left.take_first() {
-        let at = row as usize * count;
-        let found = find_on_row(board, parts, row, &mut starts[at..at + count]);
-        lines = lines.with(row, found);
-    }
-    lines
-}
 
 /// A set, if it is known; no position, if what stands there is not.
 fn set_before<W: ColumnWords>(starts: &[Columns<W>], at: usize, known: bool) -> Columns<W>
@@ -116,82 +53,156 @@ fn add_row<W: ColumnWords>(
     }
 }
 
-/// Finds the positions of a part that goes down in some columns, and answers the columns in which it has one.
-fn find_part_down<B: Scan>(
+/// Takes over the positions of a part that goes down, of which it is known where it begins row by row of the board, in
+/// some columns, and answers the columns in which it has one.
+fn take_down<B: Scan>(
     board: &B,
     part: &[CompiledCell],
+    begun: &PartStarts<'_, Columns<B::Words>>,
     within: Columns<B::Words>,
     starts: &mut [Columns<B::Words>],
     count: usize,
     number: usize,
 ) -> Columns<B::Words>
     requires whole { HasCells part.now }
+    requires begun { let b = begun.now in
+        AreStarts (B.grid board.now) (B.table board.now) Down part.now b.rows b.columns.now }
     requires one { number < count }
     requires room { SIDE_LIMIT * count ≤ length starts.old }
     requires inside { (x : ℕ) → column_at within x ≡ true → x < (B.grid board.now).width }
     ensures found { let grid = B.grid board.now in
-        IsPartFound grid (B.table board.now) part.now within count number starts.old starts.new result }
+        IsPartFound grid (B.table board.now) Down part.now within count number starts.old starts.new result }
     ensures long { length starts.new ≡ length starts.old }
 {
     let (_width, height) = board.size();
-    let mut left = rows_of_part(board, Axis::Down, part).both(Columns::below(height));
+    let mut left = begun.rows.both(Columns::below(height));
     let mut found = Columns::none();
     while let Some(row) = left.take_first() {
-        let columns = columns_down(board, part, row).both(within);
+        let columns = kept_on_row(begun.rows, begun.columns, row).both(within);
         add_row(starts, count, number, columns, found, row);
         found = found.either(columns);
     }
     found
 }
 
-/// Finds the positions of parts that go down, and answers the lines on which each part has one.
-fn find_down<B: Scan>(
-    board: &B,
-    parts: &[List<CompiledCell>],
-    starts: &mut [Columns<B::Words>],
-) -> Columns<B::Words>
-    requires whole { All HasCells parts.now }
-    requires room { SIDE_LIMIT * length parts.now ≤ length starts.old }
-    ensures lines { let count = length parts.now in
-        AreLinesFound (B.grid board.now) (B.table board.now) Down parts.now starts.new result count }
+/// Makes the sets of a part on some lines those that are kept of the rows with these numbers.
+fn take_rows<W: ColumnWords>(
+    begun: &PartStarts<'_, Columns<W>>,
+    lines: Columns<W>,
+    starts: &mut [Columns<W>],
+    count: usize,
+    number: usize,
+)
+    requires one { number < count }
+    requires room { SIDE_LIMIT * count ≤ length starts.old }
+    requires lines { AreRowsBelow lines SIDE_LIMIT }
+    ensures taken { let b = begun.now in
+        AreTakenOver b.rows b.columns.now lines count number starts.old starts.new }
     ensures long { length starts.new ≡ length starts.old }
 {
-    let (width, _height) = board.size();
-    let count = parts.len();
-    let mut lines = Columns::below(width);
-    for number in 0..count {
-        if lines.is_empty() {
-            return lines;
-        }
-        lines = find_part_down(
-            board,
-            parts[number].as_slice(),
-            lines,
-            starts,
-            count,
-            number,
-        );
+    let mut left = lines;
+    while let Some(row) = left.take_first() {
+        starts[row as usize * count + number] = kept_on_row(begun.rows, begun.columns, row);
     }
+}
+
+/// Takes over the positions of a part that goes right, of which it is known where it begins row by row of the board, on
+/// some rows, and answers the rows on which it has one.
+fn take_across<B: Scan>(
+    board: &B,
+    part: &[CompiledCell],
+    begun: &PartStarts<'_, Columns<B::Words>>,
+    within: Columns<B::Words>,
+    starts: &mut [Columns<B::Words>],
+    count: usize,
+    number: usize,
+) -> Columns<B::Words>
+    requires whole { HasCells part.now }
+    requires begun { let b = begun.now in
+        AreStarts (B.grid board.now) (B.table board.now) Right part.now b.rows b.columns.now }
+    requires one { number < count }
+    requires room { SIDE_LIMIT * count ≤ length starts.old }
+    requires inside { (x : ℕ) → column_at within x ≡ true → x < (B.grid board.now).height }
+    ensures found { let grid = B.grid board.now in
+        IsPartFound grid (B.table board.now) Right part.now within count number starts.old starts.new result }
+    ensures long { length starts.new ≡ length starts.old }
+{
+    recall_shape(board);
+    let lines = within.both(begun.rows);
+    take_rows(begun, lines, starts, count, number);
     lines
 }
 
-/// Finds the positions of parts that lie along an axis, and answers the lines on which each part has one.
+/// Takes over the positions of a part, of which it is known where it begins row by row of the board, on some lines, and
+/// answers the lines on which it has one.
+fn take_part<B: Scan>(
+    board: &B,
+    axis: Axis,
+    part: &[CompiledCell],
+    begun: &PartStarts<'_, Columns<B::Words>>,
+    within: Columns<B::Words>,
+    starts: &mut [Columns<B::Words>],
+    count: usize,
+    number: usize,
+) -> Columns<B::Words>
+    requires whole { HasCells part.now }
+    requires begun { let b = begun.now in
+        AreStarts (B.grid board.now) (B.table board.now) axis part.now b.rows b.columns.now }
+    requires one { number < count }
+    requires room { SIDE_LIMIT * count ≤ length starts.old }
+    requires inside { (x : ℕ) → column_at within x ≡ true → x < line_count axis (B.grid board.now) }
+    ensures found { let grid = B.grid board.now in
+        IsPartFound grid (B.table board.now) axis part.now within count number starts.old starts.new result }
+    ensures long { length starts.new ≡ length starts.old }
+{
+    match axis {
+        Axis::Down => take_down(board, part, begun, within, starts, count, number),
+        Axis::Right => take_across(board, part, begun, within, starts, count, number),
+    }
+}
+
+/// All lines of a board along an axis.
+fn all_lines<B: Scan>(board: &B, axis: Axis) -> Columns<B::Words>
+    ensures { result ≡ columns_below (line_count axis (B.grid board.now)) }
+{
+    let (width, height) = board.size();
+    match axis {
+        Axis::Down => Columns::below(width),
+        Axis::Right => Columns::below(height),
+    }
+}
+
+/// Finds the positions of parts that lie along an axis, and answers the lines on which each part has one. What is in
+/// `columns` and `scanned` afterwards is anything.
 fn find_lines<B: Scan>(
     board: &B,
     axis: Axis,
     parts: &[List<CompiledCell>],
     starts: &mut [Columns<B::Words>],
+    columns: &mut [Columns<B::Words>],
+    scanned: &mut [Columns<B::Words>],
 ) -> Columns<B::Words>
     requires whole { All HasCells parts.now }
     requires room { SIDE_LIMIT * length parts.now ≤ length starts.old }
+    requires columns { SIDE_LIMIT ≤ length columns.old }
+    requires scanned { SIDE_LIMIT ≤ length scanned.old }
     ensures lines { let count = length parts.now in
         AreLinesFound (B.grid board.now) (B.table board.now) axis parts.now starts.new result count }
     ensures long { length starts.new ≡ length starts.old }
 {
-    match axis {
-        Axis::Down => find_down(board, parts, starts),
-        Axis::Right => find_across(board, parts, starts),
+    recall_shape(board);
+    let count = parts.len();
+    let mut lines = all_lines(board, axis);
+    for number in 0..count {
+        if lines.is_empty() {
+            return lines;
+        }
+        let part = parts[number].as_slice();
+        let rows = find_rows(board, axis, part, columns, scanned);
+        let begun = PartStarts { rows, columns };
+        lines = take_part(board, axis, part, &begun, lines, starts, count, number);
     }
+    lines
 }
 
 /// Finds where the parts of a row fit on a board, all lines of it. No memory is taken.
@@ -203,5 +214,12 @@ pub fn find_starts<B: Scan>(board: &B, row: &CompiledRow, room: &mut RoomFor<B>)
 {
     recall_shape(board);
     let parts = row.parts.as_slice();
-    room.lines = find_lines(board, row.axis, parts, room.starts.as_mut_slice());
+    room.lines = find_lines(
+        board,
+        row.axis,
+        parts,
+        room.starts.as_mut_slice(),
+        room.fronts.as_mut_slice(),
+        room.scanned.as_mut_slice(),
+    );
 }

@@ -5,13 +5,13 @@ ghost use Rattle.std.specs.Prelude.{◌≡◌, ℕ, ◌+◌, ◌<◌, ◌≤◌,
 ghost use Rattle.ps_model.specs.declared.limits.TheConstants.{SIDE_LIMIT};
 ghost use Rattle.ps_laws.specs.WholeRows.{HasCells};
 ghost use Rattle.ps_program.specs.declared.rows.Axis.TheVariants.{Down, Right};
-ghost use Rattle.ps_places.specs.Candidates.{BeginsOnlyOn};
 ghost use Rattle.ps_places.specs.FoundStarts.{part_of};
+ghost use Rattle.ps_places.specs.PartStarts.{AreStarts};
 ghost use Rattle.ps_places.specs.PartTargets.{AreTargets, IsReach, IsRowKept, is_paired, is_target};
 ghost use Rattle.ps_places.specs.Starts.{AreWhere, begins_down};
 
-use crate::candidates::rows_of_part;
-use crate::columns::{columns_across, columns_down};
+use crate::leaving_alone::kept_on_row;
+use crate::part_starts::{PartStarts, find_rows};
 use crate::room::RowRoom;
 use ps_match::{ColumnWords, Columns, Scan, recall_shape};
 use ps_model::SIDE_LIMIT;
@@ -89,55 +89,55 @@ fn keep_row<W: ColumnWords>(
 /// Finds the targets of parts that go right, and answers the rows of the board that have one.
 fn find_across<B: Scan>(
     board: &B,
+    leads: bool,
     first: &[CompiledCell],
     second: &[CompiledCell],
-    leads: bool,
-    size: u32,
+    fronts: &PartStarts<'_, Columns<B::Words>>,
+    backs: &PartStarts<'_, Columns<B::Words>>,
     starts: &mut [Columns<B::Words>],
 ) -> Columns<B::Words>
     requires first { HasCells first.now }
     requires second { HasCells second.now }
-    requires size { size ≡ length first.now }
-    requires short { size < SIDE_LIMIT }
+    requires short { length first.now < SIDE_LIMIT }
+    requires fronts { let f = fronts.now in
+        AreStarts (B.grid board.now) (B.table board.now) Right first.now f.rows f.columns.now }
+    requires backs { let b = backs.now in
+        AreStarts (B.grid board.now) (B.table board.now) Right second.now b.rows b.columns.now }
     requires room { SIDE_LIMIT ≤ length starts.old }
     ensures targets { let grid = B.grid board.now in
         AreTargets grid (B.table board.now) Right leads first.now second.now result starts.new }
     ensures long { length starts.new ≡ length starts.old }
 {
     let (_width, height) = board.size();
-    let fronts_on = rows_of_part(board, Axis::Right, first);
-    let backs_on = rows_of_part(board, Axis::Right, second);
-    let mut left = fronts_on.both(backs_on).both(Columns::below(height));
+    let size = first.len() as u32;
+    let mut left = fronts.rows.both(backs.rows).both(Columns::below(height));
     let mut rows = Columns::none();
     while let Some(row) = left.take_first() {
-        let fronts = columns_across(board, first, row);
-        let backs = columns_across(board, second, row);
-        let columns = paired(leads, size, fronts, backs);
+        let front = kept_on_row(fronts.rows, fronts.columns, row);
+        let back = kept_on_row(backs.rows, backs.columns, row);
+        let columns = paired(leads, size, front, back);
         rows = keep_row(starts, rows, row, columns);
     }
     rows
 }
 
-/// The columns of a row of the board where a part begins that goes down; `rows` are the only ones of the board on
-/// which it may. Below the board it begins nowhere.
+/// The columns of a row of the board where a part begins that goes down. Below the board it begins nowhere.
 fn columns_begun<B: Scan>(
     board: &B,
     part: &[CompiledCell],
-    rows: Columns<B::Words>,
+    starts: &PartStarts<'_, Columns<B::Words>>,
     row: u32,
 ) -> Columns<B::Words>
     requires part { HasCells part.now }
-    requires rows { BeginsOnlyOn (B.grid board.now) (B.table board.now) Down part.now rows }
+    requires starts { let s = starts.now in
+        AreStarts (B.grid board.now) (B.table board.now) Down part.now s.rows s.columns.now }
     ensures { AreWhere (begins_down (B.grid board.now) (B.table board.now) part.now row) result }
 {
     let (_width, height) = board.size();
     if height <= row {
         return Columns::none();
     }
-    if !rows.has(row) {
-        return Columns::none();
-    }
-    columns_down(board, part, row)
+    kept_on_row(starts.rows, starts.columns, row)
 }
 
 /// Finds the targets of the second of two parts that go down, and answers the rows of the board that have one. It is
@@ -146,26 +146,29 @@ fn find_below<B: Scan>(
     board: &B,
     first: &[CompiledCell],
     second: &[CompiledCell],
-    size: u32,
+    fronts: &PartStarts<'_, Columns<B::Words>>,
+    backs: &PartStarts<'_, Columns<B::Words>>,
     starts: &mut [Columns<B::Words>],
 ) -> Columns<B::Words>
     requires first { HasCells first.now }
     requires second { HasCells second.now }
-    requires size { size ≡ length first.now }
-    requires short { size < SIDE_LIMIT }
+    requires short { length first.now < SIDE_LIMIT }
+    requires fronts { let f = fronts.now in
+        AreStarts (B.grid board.now) (B.table board.now) Down first.now f.rows f.columns.now }
+    requires backs { let b = backs.now in
+        AreStarts (B.grid board.now) (B.table board.now) Down second.now b.rows b.columns.now }
     requires room { SIDE_LIMIT ≤ length starts.old }
     ensures targets { let grid = B.grid board.now in
         AreTargets grid (B.table board.now) Down false first.now second.now result starts.new }
     ensures long { length starts.new ≡ length starts.old }
 {
     let (_width, height) = board.size();
-    let fronts_on = rows_of_part(board, Axis::Down, first);
-    let backs_on = rows_of_part(board, Axis::Down, second);
+    let size = first.len() as u32;
     let mut seen = Columns::none();
     let mut rows = Columns::none();
     for row in size..height {
-        seen = seen.either(columns_begun(board, first, fronts_on, row - size));
-        let columns = columns_begun(board, second, backs_on, row).both(seen);
+        seen = seen.either(columns_begun(board, first, fronts, row - size));
+        let columns = columns_begun(board, second, backs, row).both(seen);
         rows = keep_row(starts, rows, row, columns);
     }
     rows
@@ -177,28 +180,31 @@ fn find_above<B: Scan>(
     board: &B,
     first: &[CompiledCell],
     second: &[CompiledCell],
-    size: u32,
+    fronts: &PartStarts<'_, Columns<B::Words>>,
+    backs: &PartStarts<'_, Columns<B::Words>>,
     starts: &mut [Columns<B::Words>],
 ) -> Columns<B::Words>
     requires first { HasCells first.now }
     requires second { HasCells second.now }
-    requires size { size ≡ length first.now }
-    requires short { size < SIDE_LIMIT }
+    requires short { length first.now < SIDE_LIMIT }
+    requires fronts { let f = fronts.now in
+        AreStarts (B.grid board.now) (B.table board.now) Down first.now f.rows f.columns.now }
+    requires backs { let b = backs.now in
+        AreStarts (B.grid board.now) (B.table board.now) Down second.now b.rows b.columns.now }
     requires room { SIDE_LIMIT ≤ length starts.old }
     ensures targets { let grid = B.grid board.now in
         AreTargets grid (B.table board.now) Down true first.now second.now result starts.new }
     ensures long { length starts.new ≡ length starts.old }
 {
     let (_width, height) = board.size();
-    let fronts_on = rows_of_part(board, Axis::Down, first);
-    let backs_on = rows_of_part(board, Axis::Down, second);
+    let size = first.len() as u32;
     let mut seen = Columns::none();
     let mut rows = Columns::none();
     let mut row = height;
     while 0 < row {
         row -= 1;
-        seen = seen.either(columns_begun(board, second, backs_on, row + size));
-        let columns = columns_begun(board, first, fronts_on, row).both(seen);
+        seen = seen.either(columns_begun(board, second, backs, row + size));
+        let columns = columns_begun(board, first, fronts, row).both(seen);
         rows = keep_row(starts, rows, row, columns);
     }
     rows
@@ -224,15 +230,25 @@ impl<W: ColumnWords> RowRoom<Columns<W>> {
         let parts = row.parts.as_slice();
         let first = parts[0].as_slice();
         let second = parts[1].as_slice();
-        let starts = self.starts.as_mut_slice();
         if SIDE_LIMIT as usize <= first.len() {
             return Columns::none();
         }
-        let size = first.len() as u32;
+        let scanned = self.scanned.as_mut_slice();
+        let fronts_on = find_rows(board, row.axis, first, self.fronts.as_mut_slice(), scanned);
+        let backs_on = find_rows(board, row.axis, second, self.backs.as_mut_slice(), scanned);
+        let fronts = PartStarts {
+            rows: fronts_on,
+            columns: self.fronts.as_slice(),
+        };
+        let backs = PartStarts {
+            rows: backs_on,
+            columns: self.backs.as_slice(),
+        };
+        let starts = self.starts.as_mut_slice();
         match row.axis {
-            Axis::Down if leads => find_above(board, first, second, size, starts),
-            Axis::Down => find_below(board, first, second, size, starts),
-            Axis::Right => find_across(board, first, second, leads, size, starts),
+            Axis::Down if leads => find_above(board, first, second, &fronts, &backs, starts),
+            Axis::Down => find_below(board, first, second, &fronts, &backs, starts),
+            Axis::Right => find_across(board, leads, first, second, &fronts, &backs, starts),
         }
     }
 

@@ -10,6 +10,7 @@ pub mod Tables
 pub mod Rests
 pub mod Whole
 pub mod Scans
+pub mod RowsKept
 pub mod Rows
 pub mod Alike
 pub mod RowSets

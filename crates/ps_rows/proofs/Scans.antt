@@ -233,7 +233,7 @@ module _ (table : List ℕ) (width height layers : ℕ) (words : List (List Bool
 
 -- a whole mask --------------------------------------------------------------------------------------------------------
 
-and4 : (a b c d : Bool) → ((a && b) && (c && d)) ≡ (a && (b && (c && d)))
+pub and4 : (a b c d : Bool) → ((a && b) && (c && d)) ≡ (a && (b && (c && d)))
 and4 true b c d = refl
 and4 false b c d = refl
 
@@ -258,7 +258,7 @@ free_within g full needed barred is = λ x off low.
     (both_at full needed x low ∙ ap (λ (b : Bool). b && column_at needed x) none)
 
 -- those of a set that have one object of each list, and the motions
-and3 : (a b c : Bool) → ((a && b) && c) ≡ (a && (b && c))
+pub and3 : (a b c : Bool) → ((a && b) && c) ≡ (a && (b && c))
 and3 true b c = refl
 and3 false b c = refl
 

@@ -2,6 +2,7 @@ pub mod Planes
 pub mod Members
 pub mod Showing
 pub mod RowTests
+pub mod RowsKept
 pub mod Sameness
 pub mod RowIndex
 pub mod RowChanges

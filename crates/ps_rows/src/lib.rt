@@ -16,6 +16,7 @@ mod row_history;
 mod row_scan;
 mod sameness;
 mod scanning;
+mod scanning_rows;
 mod topics;
 
 pub use ps_board::{Board, History};

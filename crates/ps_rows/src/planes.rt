@@ -1,7 +1,7 @@
 //! Planes of rows, each row a set of columns, as one flat list of sets, with an index of their rows.
 
 ghost use Rattle.std.specs.Prelude.{◌≡◌, ◌+◌, ◌*◌, ◌/◌, ◌%◌, ◌^◌, ◌<◌, ◌≤◌, ℕ, ◌∷◌, [], IfOk, false, find, length};
-ghost use Rattle.std.specs.Prelude.{nat_eq, nat_lt, replicate, slice_set, true, vec_len};
+ghost use Rattle.std.specs.Prelude.{nat_eq, nat_lt, replicate, slice_index_or, slice_set, true, vec_len};
 ghost use Rattle.std.specs.List.{list_any};
 ghost use Rattle.ps_model.specs.board.Movement.{is_number};
 ghost use Rattle.ps_model.specs.declared.limits.TheConstants.{SIDE_LIMIT};
@@ -57,7 +57,7 @@ pub fn is_chosen(chosen: Option<u32>, plane: u32) -> bool
 }
 
 /// Clears all rows.
-fn clear<W: ColumnWords>(words: &mut [Columns<W>])
+pub fn clear<W: ColumnWords>(words: &mut [Columns<W>])
     ensures { words.new ≡ replicate (length words.old) no_columns }
 {
     words.fill(Columns::none());
@@ -134,6 +134,18 @@ impl<W: ColumnWords> Planes<W> {
         ensures { result ≡ row_of self.now.words.items (plane * self.now.height + row) }
     {
         plane_row(self.words.as_slice(), self.height, plane, row)
+    }
+
+    /// The columns of so many rows that a plane has, of the first row and those below it.
+    pub fn rows(&self, plane: u32, first: u32, count: usize) -> &[Columns<W>]
+        requires rows { first + count ≤ self.now.height }
+        requires plane { (plane + 1) * self.now.height ≤ vec_len self.now.words }
+        ensures rows { let p = self.now in (k : ℕ) → k < count →
+            slice_index_or result.now k [] ≡ row_of p.words.items (plane * p.height + (first + k)) }
+        ensures long { length result.now ≡ count }
+    {
+        let start = plane as usize * self.height as usize + first as usize;
+        &self.words[start..start + count]
     }
 
     /// The rows of a plane that may have a column.

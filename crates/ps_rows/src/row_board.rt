@@ -1,8 +1,8 @@
 //! A board of rows of bits.
 
-ghost use Rattle.std.specs.Prelude.{◌≡◌, ◌+◌, ◌*◌, ◌/◌, ◌^◌, ◌<◌, ◌≤◌, ◌&&◌, ℕ, IfOk, IfSome, Some, List};
+ghost use Rattle.std.specs.Prelude.{◌≡◌, ◌+◌, ◌*◌, ◌/◌, ◌^◌, ◌<◌, ◌≤◌, ◌&&◌, ℕ, IfOk, IfSome, Some, List, []};
 ghost use Rattle.std.specs.Prelude.{false, length, nat_eq, nat_lt, true};
-ghost use Rattle.std.specs.Prelude.{option_map, slice_get, vec_len};
+ghost use Rattle.std.specs.Prelude.{option_map, slice_get, slice_index_or, vec_len};
 ghost use Rattle.ps_model.specs.board.Movement.{is_number};
 ghost use Rattle.ps_model.specs.declared.limits.TheConstants.{LAYER_LIMIT, SIDE_LIMIT};
 ghost use Rattle.ps_board.specs.ColumnSets.{columns_below, no_columns};
@@ -115,6 +115,17 @@ impl<W: ColumnWords> RowBoard<W> {
         ensures { result ≡ row_of self.now.planes.words.items (plane * self.now.planes.height + row) }
     {
         self.planes.row(plane, row)
+    }
+
+    /// The columns of so many rows that a plane has, of the first row and those below it.
+    pub(crate) fn plane_rows(&self, plane: u32, first: u32, count: usize) -> &[Columns<W>]
+        requires plane { plane < motions_from self.now.members.table.items self.now.layers }
+        requires rows { first + count ≤ self.now.planes.height }
+        ensures rows { let p = self.now.planes in (k : ℕ) → k < count →
+            slice_index_or result.now k [] ≡ row_of p.words.items (plane * p.height + (first + k)) }
+        ensures long { length result.now ≡ count }
+    {
+        self.planes.rows(plane, first, count)
     }
 
     /// The rows of a plane that may have a column.

@@ -26,6 +26,11 @@ impl<W: ColumnWords> Scan for RowBoard<W> {
         self.mask_row(mask, row)
     }
 
+    /// The planes that the mask asks about are joined, each in all these rows in one go.
+    fn scan_rows(&self, mask: &CellMask, first: u32, found: &mut [Columns<W>]) {
+        self.mask_rows(mask, first, found);
+    }
+
     fn lacks(&self, object: &LayeredObject) -> bool {
         if !self.is_on(object.object.0, object.layer.0) {
             return true;

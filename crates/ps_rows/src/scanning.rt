@@ -19,7 +19,7 @@ use ps_program::CellMask;
 use ps_text::List;
 
 /// Whether a mask has no lists and no motions.
-fn asks_no_more(mask: &CellMask) -> bool
+pub(crate) fn asks_no_more(mask: &CellMask) -> bool
     ensures lists { result ≡ true → (mask_shown mask.now).one_of ≡ [] }
     ensures motions { result ≡ true → (mask_shown mask.now).motions ≡ [] }
 {
@@ -130,7 +130,7 @@ impl<W: ColumnWords> RowBoard<W> {
     ///
     /// Few masks ask for either, so that this is apart from what all of them need.
     #[inline(never)]
-    fn narrowed_row(&self, mask: &CellMask, row: u32, columns: Columns<W>) -> Columns<W>
+    pub(crate) fn narrowed_row(&self, mask: &CellMask, row: u32, columns: Columns<W>) -> Columns<W>
         requires { row < self.now.planes.height }
         ensures inside { let asked = narrowed (mask_shown mask.now) in
             IsPartOf (⟦<RowBoard<W> as Board>⟧.grid self.now) row columns result asked }

@@ -87,3 +87,7 @@ loop-number-preserved g c =
       left = left_more c.args.rooms.now c.loop-number.rooms n before c.first_place.new.self (n + 1)
           (omega arith) c.loop-number.invariant.left;
     }
+
+pub returns-clause-started : goal.returns-clause-started
+returns-clause-started g c = λ e k row room low is there.
+    c.loop-number.invariant.started k row room (omega (arith, low, c.loop-number-test.false)) is there

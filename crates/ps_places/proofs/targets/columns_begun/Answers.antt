@@ -1,7 +1,8 @@
-use Rattle.std.proofs.Common.{◌≡◌, ◌≤◌, ◌<◌, false, rules}
+use Rattle.std.proofs.Common.{◌≤◌, ◌<◌, rules}
 use Rattle.ps_model.specs.board.Grid.{Grid}
-use Rattle.ps_board.specs.ColumnSets.{column_at}
-use Rattle.ps_places.proofs.TargetColumns.{begun-below, begun-out}
+use Rattle.ps_program.specs.declared.rows.Axis.TheVariants.{Down}
+use Rattle.ps_places.proofs.TargetColumns.{begun-below}
+use Rattle.ps_places.proofs.FoundRows.{kept_where}
 use Rattle.ps_places.proofs.targets.columns_begun.Goals as goal
 
 pub returns-then-height-row : goal.returns-then-height-row
@@ -11,10 +12,10 @@ returns-then-height-row g c =
     begun-below grid (g.B.Board.table c.args.board.now) c.args.part.now c.args.row c.none.result c.requires.part far
     c.none.ensures
 
-pub returns-then-not-has : goal.returns-then-not-has
-returns-then-not-has g c =
+pub returns : goal.returns
+returns g c =
     let grid : Grid = g.B.Board.grid c.args.board.now in
     let low : c.args.row < grid.height = search rules in
-    let out : column_at c.args.rows c.args.row ≡ false = search rules in
-    begun-out grid (g.B.Board.table c.args.board.now) c.args.part.now c.args.row c.args.rows
-    c.none-then-not-has.result c.requires.rows low out c.none-then-not-has.ensures
+    let starts = c.args.starts.now in
+    kept_where grid (g.B.Board.table c.args.board.now) Down c.args.part.now starts.rows c.kept_on_row.result
+    starts.columns.now c.args.row c.requires.starts low c.kept_on_row.ensures

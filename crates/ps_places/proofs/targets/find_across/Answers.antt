@@ -1,4 +1,4 @@
-use Rattle.std.proofs.Common.{◌≡◌, ◌∙◌, ◌<◌, ◌≤◌, ℕ, Option, List, refl, ap, arith}
+use Rattle.std.proofs.Common.{◌≡◌, ◌∙◌, ◌<◌, ◌≤◌, ℕ, Option, List, length, refl, ap, arith}
 use Rattle.ps_model.specs.declared.limits.TheConstants.{SIDE_LIMIT}
 use Rattle.ps_model.specs.board.Grid.{Grid}
 use Rattle.ps_program.specs.declared.rows.Axis.TheVariants.{Right}
@@ -6,6 +6,7 @@ use Rattle.ps_board.specs.ColumnSets.{columns_below}
 use Rattle.ps_board.proofs.Taken.{below-init, below-more, passed-all, passed-changed, passed-init, taken_below}
 use Rattle.ps_places.specs.PartTargets.{IsRowOfTargets}
 use Rattle.ps_places.proofs.TargetRows.{across-init, across-targets, kept-none, row-here, row-other}
+use Rattle.ps_places.proofs.FoundRows.{kept_where}
 use Rattle.ps_places.proofs.targets.find_across.Goals as goal
 
 pub loop-row-init : goal.loop-row-init
@@ -14,6 +15,8 @@ loop-row-init g c =
     let table : Option (List ℕ) = g.B.Board.table c.args.board.now in
     let below : c.below.result ≡ columns_below grid.height = c.below.ensures
     ∙ ap columns_below c.size-width.ensures.height in
+    let fronts = c.args.fronts.now in
+    let backs = c.args.backs.now in
     record {
       low = below-init c.both.result c.below.result c.both-left.result grid.height below c.both-left.ensures;
       done =
@@ -22,23 +25,11 @@ loop-row-init g c =
           c.both.result c.below.result c.both-left.result grid.height c.size-width.ensures.shape.rows below
           c.both-left.ensures
           (across-init grid table c.args.leads c.args.first.now c.args.second.now c.none-rows.result
-          c.rows_of_part-fronts_on.result
-          c.rows_of_part-backs_on.result c.both.result c.args.starts.now c.size-width.ensures.shape
-          c.rows_of_part-fronts_on.ensures
-          c.rows_of_part-backs_on.ensures c.both.ensures c.none-rows.ensures);
+          fronts.rows backs.rows c.both.result c.args.starts.now fronts.columns.now backs.columns.now
+          c.size-width.ensures.shape c.requires.fronts c.requires.backs c.both.ensures c.none-rows.ensures);
       kept = kept-none grid.height c.none-rows.result c.args.starts.now c.none-rows.ensures;
       long = refl;
     }
-
-pub columns_across-fronts-requires-clause-row : goal.columns_across-fronts-requires-clause-row
-columns_across-fronts-requires-clause-row g c =
-    taken_below c.loop-row.left c.take_first.new.self (g.B.Board.grid c.args.board.now).height c.in-Some.row
-    c.in-Some.ensures.some c.loop-row.invariant.low
-
-pub columns_across-backs-requires-clause-row : goal.columns_across-backs-requires-clause-row
-columns_across-backs-requires-clause-row g c =
-    taken_below c.loop-row.left c.take_first.new.self (g.B.Board.grid c.args.board.now).height c.in-Some.row
-    c.in-Some.ensures.some c.loop-row.invariant.low
 
 pub loop-row-preserved : goal.loop-row-preserved
 loop-row-preserved g c =
@@ -48,6 +39,8 @@ loop-row-preserved g c =
     let few : grid.height ≤ SIDE_LIMIT = c.size-width.ensures.shape.rows in
     let low : row < grid.height = taken_below c.loop-row.left c.take_first.new.self grid.height row
     c.in-Some.ensures.some c.loop-row.invariant.low in
+    let fronts = c.args.fronts.now in
+    let backs = c.args.backs.now in
     record {
       low = below-more c.loop-row.left c.take_first.new.self grid.height row c.in-Some.ensures.some
           c.loop-row.invariant.low;
@@ -58,11 +51,15 @@ loop-row-preserved g c =
           (row-here grid table Right c.args.leads c.args.first.now c.args.second.now c.loop-row.rows
           c.loop-row.starts row
           c.paired-columns.result c.keep_row-rows.result c.keep_row-rows.new.starts c.keep_row-rows.ensures.kept
-          (across-targets grid table c.args.leads c.args.first.now c.args.second.now c.args.size row
-          c.columns_across-fronts.result
-          c.columns_across-backs.result c.paired-columns.result c.size-width.ensures.shape low c.requires.first
-          c.requires.second c.requires.size
-          c.columns_across-fronts.ensures c.columns_across-backs.ensures c.paired-columns.ensures))
+          (across-targets grid table c.args.leads c.args.first.now c.args.second.now (length c.args.first.now) row
+          c.kept_on_row-front.result
+          c.kept_on_row-back.result c.paired-columns.result c.size-width.ensures.shape low c.requires.first
+          c.requires.second refl
+          (kept_where grid table Right c.args.first.now fronts.rows c.kept_on_row-front.result fronts.columns.now row
+          c.requires.fronts low c.kept_on_row-front.ensures)
+          (kept_where grid table Right c.args.second.now backs.rows c.kept_on_row-back.result backs.columns.now row
+          c.requires.backs low c.kept_on_row-back.ensures)
+          c.paired-columns.ensures))
           (λ other near apart found.
           row-other grid table Right c.args.leads c.args.first.now c.args.second.now c.loop-row.rows
           c.loop-row.starts row

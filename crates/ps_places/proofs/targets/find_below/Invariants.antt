@@ -9,8 +9,8 @@ invariant-loop-row g l =
     let grid = g.B.Board.grid l.board in
     let table = g.B.Board.table l.board in
     record {
-      far : l.size ≤ l.row;
-      seen : AreSeenAbove grid table l.first l.size l.seen l.row;
+      far : (length l.first) ≤ l.row;
+      seen : AreSeenAbove grid table l.first (length l.first) l.seen l.row;
       done : AreRowsFound grid table false l.first l.second l.rows l.starts 0 l.row;
       kept : AreKept grid.height l.rows l.starts;
       long : length l.starts ≡ length l.fn.starts;

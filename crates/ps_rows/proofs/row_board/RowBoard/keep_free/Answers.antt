@@ -1,0 +1,37 @@
+use Rattle.std.proofs.Common.{◌∙◌, ◌+◌, ◌<◌, [], refl, sym, arith}
+use Rattle.std.specs.Prelude.{slice_index_or}
+use Rattle.ps_model.specs.board.Grid.{Grid}
+use Rattle.ps_rows.specs.Showing.{grid_shown}
+use Rattle.ps_rows.specs.RowTests.{held}
+use Rattle.ps_rows.proofs.RowsKept.{kept_everywhere, kept_without}
+use Rattle.ps_rows.proofs.Scans.{own_row, other_row}
+use Rattle.ps_rows.proofs.row_board.RowBoard.keep_free.Goals as goal
+
+pub returns-then-is_on : goal.returns-then-is_on
+returns-then-is_on g c =
+    let b = c.args.self.now in
+    let grid : Grid = grid_shown b.members.table.items b.width b.planes.height b.layers b.planes.words.items in
+    record {
+      long = c.keep_without.ensures.long;
+      each = λ k low.
+          let here : c.args.first + k < b.planes.height = omega (arith, low, c.requires) in
+          kept_without grid (c.args.first + k) (slice_index_or c.args.found.now k []) (held c.args.sought.now)
+          (slice_index_or c.plane_rows-words.result.now k []) (slice_index_or c.keep_without.new.found k []) b.columns
+          (own_row b.members.table.items b.width b.planes.height b.layers b.planes.words.items (c.args.first + k)
+          b.planes.some_row b.columns here c.args.sought.now (slice_index_or c.plane_rows-words.result.now k []) b.objects
+          (sym c.is_on.ensures ∙ c.if-is_on.true) (c.plane_rows-words.ensures.rows k low))
+          (c.keep_without.ensures.without k low);
+    }
+
+pub returns-else-is_on : goal.returns-else-is_on
+returns-else-is_on g c =
+    let b = c.args.self.now in
+    let grid : Grid = grid_shown b.members.table.items b.width b.planes.height b.layers b.planes.words.items in
+    record {
+      long = refl;
+      each = λ k low.
+          let here : c.args.first + k < b.planes.height = omega (arith, low, c.requires) in
+          kept_everywhere grid (c.args.first + k) (slice_index_or c.args.found.now k []) (held c.args.sought.now)
+          (other_row b.members.table.items b.width b.planes.height b.layers b.planes.words.items (c.args.first + k)
+          b.planes.some_row b.columns here c.args.sought.now (sym c.is_on.ensures ∙ c.if-is_on.false));
+    }

@@ -1,0 +1,43 @@
+use Rattle.std.proofs.Common.{◌∙◌, ℕ, ◌+◌, ◌<◌, List, Bool, [], length, replicate, sym, arith}
+use Rattle.std.specs.Prelude.{slice_index_or}
+use Rattle.std.proofs.lemmas.List.{get_or-replicate, length-replicate}
+use Rattle.ps_model.specs.board.Grid.{Grid}
+use Rattle.ps_board.specs.ColumnSets.{no_columns}
+use Rattle.ps_rows.specs.Showing.{grid_shown}
+use Rattle.ps_rows.specs.RowTests.{held}
+use Rattle.ps_rows.proofs.RowsKept.{kept_both, kept_nowhere}
+use Rattle.ps_rows.proofs.Scans.{own_row, other_row}
+use Rattle.ps_rows.proofs.row_board.RowBoard.keep_held.Goals as goal
+
+pub returns-then-is_on : goal.returns-then-is_on
+returns-then-is_on g c =
+    let b = c.args.self.now in
+    let grid : Grid = grid_shown b.members.table.items b.width b.planes.height b.layers b.planes.words.items in
+    record {
+      long = c.keep_both.ensures.long;
+      each = λ k low.
+          let here : c.args.first + k < b.planes.height = omega (arith, low, c.requires) in
+          kept_both grid (c.args.first + k) (slice_index_or c.args.found.now k []) (held c.args.sought.now)
+          (slice_index_or c.plane_rows-words.result.now k []) (slice_index_or c.keep_both.new.found k []) b.columns
+          (own_row b.members.table.items b.width b.planes.height b.layers b.planes.words.items (c.args.first + k)
+          b.planes.some_row b.columns here c.args.sought.now (slice_index_or c.plane_rows-words.result.now k []) b.objects
+          (sym c.is_on.ensures ∙ c.if-is_on.true) (c.plane_rows-words.ensures.rows k low))
+          (c.keep_both.ensures.both k low);
+    }
+
+pub returns : goal.returns
+returns g c =
+    let b = c.args.self.now in
+    let grid : Grid = grid_shown b.members.table.items b.width b.planes.height b.layers b.planes.words.items in
+    let count : ℕ = length c.args.found.now in
+    let none : List (List Bool) = replicate count no_columns in
+    rw c.clear.ensures (record {
+      long = length-replicate count no_columns;
+      each = λ k low.
+          let here : c.args.first + k < b.planes.height = omega (arith, low, c.requires) in
+          kept_nowhere grid (c.args.first + k) (slice_index_or c.args.found.now k []) (held c.args.sought.now)
+          (slice_index_or none k [])
+          (other_row b.members.table.items b.width b.planes.height b.layers b.planes.words.items (c.args.first + k)
+          b.planes.some_row b.columns here c.args.sought.now (sym c.is_on.ensures ∙ c.if-is_on.false))
+          (get_or-replicate count k no_columns [] low);
+    })

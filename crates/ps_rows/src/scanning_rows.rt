@@ -1,0 +1,119 @@
+//! Rows of the board against a mask, all at once: each plane that the mask asks about is joined with all of them in one
+//! go.
+
+ghost use Rattle.std.specs.Prelude.{◌≡◌, ◌+◌, ◌≤◌, length, replicate};
+ghost use Rattle.ps_program.specs.ProgramShown.{mask_shown};
+ghost use Rattle.ps_match.specs.InRoom.{meaning_of_mask};
+ghost use Rattle.ps_match.specs.ScannedRows.{AreRowsScanned};
+ghost use Rattle.ps_rows.specs.RowTests.{held, held_all, narrowed};
+ghost use Rattle.ps_rows.specs.RowsKept.{AreBoth, AreKept, AreWithout, are_away, is_away};
+
+use crate::planes::clear;
+use crate::row_board::RowBoard;
+use crate::scanning::asks_no_more;
+use ps_board::{Board, ColumnWords, Columns};
+use ps_model::LayeredObject;
+use ps_program::CellMask;
+
+/// Keeps of each set the columns that are in the set at the same place of others.
+fn keep_both<W: ColumnWords>(found: &mut [Columns<W>], words: &[Columns<W>])
+    requires { length words.now ≡ length found.old }
+    ensures both { AreBoth found.old words.now found.new }
+    ensures long { length found.new ≡ length found.old }
+{
+    for step in 0..found.len() {
+        found[step] = found[step].both(words[step]);
+    }
+}
+
+/// Keeps of each set the columns that aren't in the set at the same place of others.
+fn keep_without<W: ColumnWords>(found: &mut [Columns<W>], words: &[Columns<W>])
+    requires { length words.now ≡ length found.old }
+    ensures without { AreWithout found.old words.now found.new }
+    ensures long { length found.new ≡ length found.old }
+{
+    for step in 0..found.len() {
+        found[step] = found[step].without(words[step]);
+    }
+}
+
+/// Makes each set this one.
+fn fill<W: ColumnWords>(found: &mut [Columns<W>], columns: Columns<W>)
+    ensures { found.new ≡ replicate (length found.old) columns }
+{
+    found.fill(columns);
+}
+
+impl<W: ColumnWords> RowBoard<W> {
+    /// Keeps of each row the columns in which an object stands on its layer.
+    fn keep_held(&self, sought: &LayeredObject, first: u32, found: &mut [Columns<W>])
+        requires { first + length found.old ≤ self.now.planes.height }
+        ensures { AreKept (⟦<RowBoard<W> as Board>⟧.grid self.now) first found.old found.new (held sought.now) }
+    {
+        if self.is_on(sought.object.0, sought.layer.0) {
+            let words = self.plane_rows(sought.object.0, first, found.len());
+            keep_both(found, words);
+            return;
+        }
+        clear(found);
+    }
+
+    /// Keeps of each row the columns in which an object doesn't stand on its layer.
+    fn keep_free(&self, sought: &LayeredObject, first: u32, found: &mut [Columns<W>])
+        requires { first + length found.old ≤ self.now.planes.height }
+        ensures { AreKept (⟦<RowBoard<W> as Board>⟧.grid self.now) first found.old found.new (is_away sought.now) }
+    {
+        if self.is_on(sought.object.0, sought.layer.0) {
+            let words = self.plane_rows(sought.object.0, first, found.len());
+            keep_without(found, words);
+        }
+    }
+
+    /// Keeps of each row the columns in which each of the objects stands.
+    fn keep_all(&self, objects: &[LayeredObject], first: u32, found: &mut [Columns<W>])
+        requires { first + length found.old ≤ self.now.planes.height }
+        ensures { AreKept (⟦<RowBoard<W> as Board>⟧.grid self.now) first found.old found.new (held_all objects.now) }
+    {
+        for sought in objects {
+            self.keep_held(sought, first, found);
+        }
+    }
+
+    /// Keeps of each row the columns in which none of the objects stands.
+    fn keep_none(&self, objects: &[LayeredObject], first: u32, found: &mut [Columns<W>])
+        requires { first + length found.old ≤ self.now.planes.height }
+        ensures { AreKept (⟦<RowBoard<W> as Board>⟧.grid self.now) first found.old found.new (are_away objects.now) }
+    {
+        for sought in objects {
+            self.keep_free(sought, first, found);
+        }
+    }
+
+    /// Keeps of each row the columns in which one object of each of a mask's lists stands, and each layer has the motion
+    /// that is asked for.
+    fn keep_narrowed(&self, mask: &CellMask, first: u32, found: &mut [Columns<W>])
+        requires { first + length found.old ≤ self.now.planes.height }
+        ensures { let asked = narrowed (mask_shown mask.now) in
+            AreKept (⟦<RowBoard<W> as Board>⟧.grid self.now) first found.old found.new asked }
+    {
+        for step in 0..found.len() {
+            found[step] = self.narrowed_row(mask, first + step as u32, found[step]);
+        }
+    }
+
+    /// The cells of rows that fit a mask, of the first row and of as many below it as there is room for.
+    pub(crate) fn mask_rows(&self, mask: &CellMask, first: u32, found: &mut [Columns<W>])
+        requires { first + length found.old ≤ self.now.planes.height }
+        ensures found { let grid = ⟦<RowBoard<W> as Board>⟧.grid self.now in
+            AreRowsScanned grid (meaning_of_mask (mask_shown mask.now)) first found.new }
+        ensures long { length found.new ≡ length found.old }
+    {
+        fill(found, self.all_columns);
+        self.keep_all(mask.needed.as_slice(), first, found);
+        self.keep_none(mask.barred.as_slice(), first, found);
+        if asks_no_more(mask) {
+            return;
+        }
+        self.keep_narrowed(mask, first, found);
+    }
+}
