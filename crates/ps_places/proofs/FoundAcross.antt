@@ -75,7 +75,8 @@ pub record AreTakenBut (rows : List Bool) (columns : List (List Bool)) (lines : 
     (old new : List (List Bool)) (left : List Bool) : Type 0 where
   pub taken : (row x : ℕ) → row < SIDE_LIMIT → column_at lines row ≡ true → column_at left row ≡ false →
       column_at (set_of new count row number) x ≡ is_start rows columns row x
-  pub others : (row other : ℕ) → other < count → other ≢ number → set_of new count row other ≡ set_of old count row other
+  pub others : (row other : ℕ) → other < count → other ≢ number →
+      set_of new count row other ≡ set_of old count row other
 
 pub taken-init : (rows : List Bool) (columns : List (List Bool)) (lines : List Bool) (count number : ℕ)
     (old : List (List Bool)) → AreTakenBut rows columns lines count number old old lines
@@ -136,7 +137,8 @@ found-across g table part within rows lines columns count number old new grid so
       none = λ row on out.
           let low : row < g.height = inside row on in
           nowhere_in g table part rows columns row are low
-          (sym (ap (λ (b : Bool). b && column_at rows row) on) ∙ sym (both_of row (omega (arith, low, grid.rows))) ∙ out);
+          (sym (ap (λ (b : Bool). b && column_at rows row) on)
+          ∙ sym (both_of row (omega (arith, low, grid.rows))) ∙ out);
       others = over.others;
     } where
       both_of : (row : ℕ) → row < SIDE_LIMIT → column_at lines row ≡ (column_at within row && column_at rows row)

@@ -1,6 +1,6 @@
 -- Positions of the parts of a row, found one part after the other.
-use Rattle.std.proofs.Common.{◌≡◌, ◌≢◌, ◌∙◌, ℕ, ◌+◌, ◌<◌, ◌≤◌, ◌⊎◌, inl, inr, Bool, true, false, Option, List, [], length}
-use Rattle.std.proofs.Common.{refl, sym, ap, arith}
+use Rattle.std.proofs.Common.{◌≡◌, ◌≢◌, ◌∙◌, ℕ, ◌+◌, ◌<◌, ◌≤◌, ◌⊎◌, inl, inr, Bool, true, false}
+use Rattle.std.proofs.Common.{Option, List, [], length, refl, sym, ap, arith}
 use Rattle.std.specs.Prelude.{nat_lt}
 use Rattle.std.proofs.lemmas.Bool.{cases_eq}
 use Rattle.std.proofs.lemmas.Bool.Decides.{nat_tests}
@@ -26,7 +26,8 @@ lines_few : (g : Grid) (axis : Axis) → IsGrid g → line_count axis g ≤ SIDE
 lines_few g Down grid = grid.columns
 lines_few g Right grid = grid.rows
 
-pub lines-init : (g : Grid) (table : Option (List ℕ)) (axis : Axis) (parts : List (List CompiledCell)) (starts : List (List Bool))
+pub lines-init : (g : Grid) (table : Option (List ℕ)) (axis : Axis) (parts : List (List CompiledCell))
+    (starts : List (List Bool))
     (lines : List Bool) → IsGrid g → lines ≡ columns_below (line_count axis g) →
     AreLinesFound g table axis parts starts lines 0
 lines-init g table axis parts starts lines grid e =
@@ -36,22 +37,29 @@ lines-init g table axis parts starts lines grid e =
             found = λ is. record { at = λ number few. absurd (omega arith) };
             none = λ out.
                 let across : nat_lt x (line_count axis g) ≡ true = grind (arith, nat_tests, low) in
-                let clash : true ≡ false = sym across ∙ sym (below_width (line_count axis g) lines x (lines_few g axis grid) e) ∙ out in
+                let here : column_at lines x ≡ nat_lt x (line_count axis g) =
+                below_width (line_count axis g) lines x (lines_few g axis grid) e in
+                let clash : true ≡ false = sym across ∙ sym here ∙ out in
                 absurd (cc);
           };
-      below = λ x is. let across : nat_lt x (line_count axis g) ≡ true = sym (below_width (line_count axis g) lines x (lines_few g axis grid) e) ∙ is in
+      below = λ x is.
+          let across : nat_lt x (line_count axis g) ≡ true =
+          sym (below_width (line_count axis g) lines x (lines_few g axis grid) e) ∙ is in
           grind (arith, nat_tests, across);
     }
 
 -- nothing is left to be found
-pub lines-none : (g : Grid) (table : Option (List ℕ)) (axis : Axis) (parts : List (List CompiledCell)) (starts : List (List Bool))
+pub lines-none : (g : Grid) (table : Option (List ℕ)) (axis : Axis) (parts : List (List CompiledCell))
+    (starts : List (List Bool))
     (lines : List Bool) (number : ℕ) → IsGrid g → set_columns lines ≡ [] →
     AreLinesFound g table axis parts starts lines number → AreLinesFound g table axis parts starts lines (length parts)
 lines-none g table axis parts starts lines number grid none are =
     record {
       each = λ x low.
           record {
-            found = λ is. let clash : false ≡ true = sym (none_in lines x none (omega (arith, low, lines_few g axis grid)))
+            found = λ is.
+                let near : x < SIDE_LIMIT = omega (arith, low, lines_few g axis grid) in
+                let clash : false ≡ true = sym (none_in lines x none near)
                 ∙ is in absurd (cc);
             none = (are.each x low).none;
           };
@@ -95,7 +103,8 @@ lines-more g table axis parts number part old new lines found low e are one =
                   at = λ n few. begin_by g table axis parts number x part old new lines found low e is begun one n few
                       (cases_eq n number);
                 };
-            none = λ out. no_way_by g table axis parts number x part old new lines found (column_at lines x) refl low e out
+            none = λ out.
+                no_way_by g table axis parts number x part old new lines found (column_at lines x) refl low e out
                 (are.each x across) one;
           };
       below = λ x is. are.below x (one.inside x is);

@@ -9,7 +9,8 @@ use Rattle.ps_model.specs.declared.limits.TheConstants.{SIDE_LIMIT}
 use Rattle.ps_model.specs.board.Grid.{Grid}
 use Rattle.ps_board.specs.ColumnSets.{both_columns, column_at, columns_below, columns_without, no_columns, set_columns}
 use Rattle.ps_board.specs.ColumnSets.{with_column}
-use Rattle.ps_board.proofs.ColumnLaws.{below_at, column_at-beyond, column_at-where, first_in, none_in, with_here, with_other}
+use Rattle.ps_board.proofs.ColumnLaws.{below_at, column_at-beyond, column_at-where, first_in, none_in, with_here}
+use Rattle.ps_board.proofs.ColumnLaws.{with_other}
 use Rattle.ps_board.proofs.Taken.{first_least, in_both, taken_out, was_in}
 use Rattle.ps_program.specs.declared.cells.CompiledCell.{CompiledCell}
 use Rattle.ps_program.specs.declared.rows.Axis.{Axis}
@@ -39,7 +40,7 @@ not_begun g table Down part own row x only low out = by (nat_le (row + length pa
       ∙ and-false (nat_lt x g.width)
 not_begun g table Right part own row x only low out = only.at row x low (λ e. absurd (cc)) out
 
--- rows that were looked at together -------------------------------------------------------------------------------------
+-- rows that were looked at together ----------------------------------------------------------------------------------
 
 -- those of a set that aren't below a number are none: all are below it
 pub all_below : (rows others : List Bool) (end count : ℕ) → others ≡ columns_without rows (columns_below end) →
@@ -179,7 +180,8 @@ module _ (g : Grid) (table : Option (List ℕ)) (axis : Axis) (part : List Compi
   count_low Down is = omega (arith, is, some)
 
   told : (starts : List (List Bool)) (begun : List Bool) (row x : ℕ) (on was : Bool) → row < g.height →
-      x < SIDE_LIMIT → ((r : ℕ) → column_at rows r ≡ true → AreWhere (begins_at g table axis part r) (columns_on starts r)) →
+      x < SIDE_LIMIT →
+      ((r : ℕ) → column_at rows r ≡ true → AreWhere (begins_at g table axis part r) (columns_on starts r)) →
       AreRowsBegun rows starts begun → column_at begun row ≡ on → column_at rows row ≡ was →
       (on && column_at (columns_on starts row) x) ≡ begins_at g table axis part row x
   told starts begun row x true was near low begin are o r = (begin row (are.inside row o)).at x low
@@ -225,7 +227,8 @@ module _ (g : Grid) (table : Option (List ℕ)) (axis : Axis) (part : List Compi
       starts_found starts begun
       (λ row on. elim (cases_lt row first) [
         | inl less ↦
-            let clash : false ≡ true = sym (first_least rows first row (set_columns left) taken less) ∙ on in absurd (cc)
+            let clash : false ≡ true = sym (first_least rows first row (set_columns left) taken less) ∙ on in
+            absurd (cc)
         | inr from ↦ between row from (high row on)
       ]) are
 

@@ -80,4 +80,5 @@ pub record AreTakenOver (rows : List Bool) (columns : List (List Bool)) (lines :
     (old new : List (List Bool)) : Type 0 where
   pub taken : (row x : ℕ) → column_at lines row ≡ true →
       column_at (set_of new count row number) x ≡ is_start rows columns row x
-  pub others : (row other : ℕ) → other < count → other ≢ number → set_of new count row other ≡ set_of old count row other
+  pub others : (row other : ℕ) → other < count → other ≢ number →
+      set_of new count row other ≡ set_of old count row other

@@ -25,7 +25,7 @@ use Rattle.ps_rows.proofs.Rows.{row_told}
 use Rattle.ps_rows.proofs.Scans.{and3, mask_free, mask_narrowed}
 use Rattle.ps_rows.proofs.Sets.{both_at, none_at, set_where, wide_of, wide_on, without_at}
 
--- one row --------------------------------------------------------------------------------------------------------------
+-- one row ------------------------------------------------------------------------------------------------------------
 
 module _ (g : Grid) (row : ℕ) (columns : List Bool) (test : List Slot → Bool) where
   -- its columns that are in the set of those that pass
@@ -86,7 +86,7 @@ module _ (g : Grid) (row : ℕ) (columns : List Bool) (test : List Slot → Bool
         set = λ so. so;
       }
 
--- all rows -------------------------------------------------------------------------------------------------------------
+-- all rows -----------------------------------------------------------------------------------------------------------
 
 module _ (g : Grid) (first : ℕ) where
   -- another test that says the same
@@ -172,7 +172,7 @@ module _ (g : Grid) (first : ℕ) where
       (kept_twice old mid new (λ cell. not (list_any (q cell) (take i xs))) (λ cell. not (q cell (get_or xs i d)))
       front here)
 
--- a whole mask ---------------------------------------------------------------------------------------------------------
+-- a whole mask -------------------------------------------------------------------------------------------------------
 
 module _ (table : List ℕ) (width height layers : ℕ) (words : List (List Bool)) (first : ℕ) (full : List Bool)
     (count : ℕ) (mask : CellMask)

@@ -1,4 +1,4 @@
--- Rows of a grid, a set of columns for each from a first row on, of which only columns are kept whose cells pass a test.
+-- Rows of a grid, a set of columns for each from a first row on, of which columns are kept whose cells pass a test.
 use Rattle.std.specs.Prelude.{◌≡◌, ℕ, ◌+◌, ◌<◌, Bool, not, List, [], length, slice_index_or}
 use Rattle.ps_model.specs.declared.compiled.LayeredObject.{LayeredObject}
 use Rattle.ps_model.specs.declared.pieces.Slot.{Slot}

@@ -89,8 +89,8 @@ impl<W: ColumnWords> RowBoard<W> {
         }
     }
 
-    /// Keeps of each row the columns in which one object of each of a mask's lists stands, and each layer has the motion
-    /// that is asked for.
+    /// Keeps of each row the columns in which one object of each of a mask's lists stands, and each layer has the
+    /// motion that is asked for.
     fn keep_narrowed(&self, mask: &CellMask, first: u32, found: &mut [Columns<W>])
         requires { first + length found.old ≤ self.now.planes.height }
         ensures { let asked = narrowed (mask_shown mask.now) in

@@ -57,7 +57,8 @@ loop-number-preserved g c =
           let is : slice_index_or scanned k [] ≡ row_fits grid meaning (c.args.first + number + k) =
           subst (Scan k) (sym c.index-part-number.is) (c.scan_rows-in-loop-number.ensures.found k there) in
           let still : columns_behind (slice_index_or scanned k []) 0 ≡ slice_index_or scanned k [] =
-          ap (λ (cs : List Bool). columns_behind cs 0) is ∙ not_moved grid meaning (c.args.first + number + k) ∙ sym is in
+          ap (λ (cs : List Bool). columns_behind cs 0) is ∙ not_moved grid meaning (c.args.first + number + k)
+          ∙ sym is in
           down-more grid (g.B.Board.table c.args.board.now) part row number (c.args.first + number + k)
           c.index-part-number.result (slice_index_or c.loop-number.starts k []) (slice_index_or scanned k [])
           (slice_index_or c.keep_behind.new.kept k []) at c.loop-number-test.true is below

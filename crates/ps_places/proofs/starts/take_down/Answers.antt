@@ -37,7 +37,8 @@ loop-row-preserved g c =
           c.add_row.new.starts c.loop-row.found c.loop-row.left c.take_first.new.self c.kept_on_row.result
           c.both-columns.result c.either-found.result c.requires.one
           c.in-Some.ensures.some
-          (kept_where grid (g.B.Board.table c.args.board.now) Down c.args.part.now b.rows c.kept_on_row.result b.columns.now
+          (kept_where grid (g.B.Board.table c.args.board.now) Down c.args.part.now b.rows c.kept_on_row.result
+          b.columns.now
           c.in-Some.row c.requires.begun low c.kept_on_row.ensures) c.both-columns.ensures c.either-found.ensures
           c.add_row.ensures.added c.loop-row.invariant.gathering;
       long = c.add_row.ensures.long ∙ c.loop-row.invariant.long;

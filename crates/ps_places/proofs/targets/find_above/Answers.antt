@@ -12,8 +12,10 @@ loop-row-init g c =
     record {
       within = omega (arith, high);
       seen =
-          subst (λ (row : ℕ). AreSeenBelow grid table c.args.second.now (length c.args.first.now) c.none-seen.result row) (sym high)
-          (seen-init grid table c.args.second.now (length c.args.first.now) c.none-seen.result c.requires.second c.none-seen.ensures);
+          subst (λ (row : ℕ). AreSeenBelow grid table c.args.second.now (length c.args.first.now) c.none-seen.result row)
+          (sym high)
+          (seen-init grid table c.args.second.now (length c.args.first.now) c.none-seen.result c.requires.second
+          c.none-seen.ensures);
       done =
           subst (λ (row : ℕ). AreRowsFound grid table true c.args.first.now c.args.second.now c.none-rows.result
           c.args.starts.now row grid.height) (sym high)
@@ -32,7 +34,8 @@ loop-row-preserved g c =
     let step : c.loop-row.row ≡ row + 1 = omega (arith, some) in
     let low : row < grid.height = omega (arith, some, within) in
     let seen =
-    seen-more grid table c.args.second.now (length c.args.first.now) row c.loop-row.row _ c.loop-row.seen c.columns_begun.result
+    seen-more grid table c.args.second.now (length c.args.first.now) row c.loop-row.row _ c.loop-row.seen
+    c.columns_begun.result
     c.either-seen.result
     c.size-width.ensures.shape c.requires.second step refl c.columns_begun.ensures c.either-seen.ensures
     c.loop-row.invariant.seen in

@@ -25,7 +25,8 @@ loop-row-preserved g c =
     let low : row < grid.height = rw (← c.size-width.ensures.height) c.loop-row-test.true in
     let few : grid.height ≤ SIDE_LIMIT = c.size-width.ensures.shape.rows in
     let seen =
-    above-more grid table c.args.first.now (length c.args.first.now) row _ c.loop-row.seen c.columns_begun.result c.either-seen.result
+    above-more grid table c.args.first.now (length c.args.first.now) row _ c.loop-row.seen c.columns_begun.result
+    c.either-seen.result
     c.loop-row.invariant.far (omega (arith, low, few)) refl c.columns_begun.ensures c.either-seen.ensures
     c.loop-row.invariant.seen in
     record {

@@ -18,7 +18,8 @@ returns-then-is_on g c =
           kept_without grid (c.args.first + k) (slice_index_or c.args.found.now k []) (held c.args.sought.now)
           (slice_index_or c.plane_rows-words.result.now k []) (slice_index_or c.keep_without.new.found k []) b.columns
           (own_row b.members.table.items b.width b.planes.height b.layers b.planes.words.items (c.args.first + k)
-          b.planes.some_row b.columns here c.args.sought.now (slice_index_or c.plane_rows-words.result.now k []) b.objects
+          b.planes.some_row b.columns here c.args.sought.now (slice_index_or c.plane_rows-words.result.now k [])
+          b.objects
           (sym c.is_on.ensures ∙ c.if-is_on.true) (c.plane_rows-words.ensures.rows k low))
           (c.keep_without.ensures.without k low);
     }
