@@ -16,12 +16,10 @@ use Rattle.ps_board.proofs.Taken.{first_least}
 use Rattle.ps_board.proofs.ColumnLaws.{column_at-beyond, column_at-where, first_in, none_in, with_here, with_other}
 use Rattle.ps_match.proofs.Chosen.{any_none}
 use Rattle.ps_program.specs.declared.cells.CompiledCell.{CompiledCell}
-use Rattle.ps_program.specs.declared.rows.Axis.TheVariants.{Down}
-use Rattle.ps_places.specs.Candidates.{BeginsOnlyOn}
 use Rattle.ps_places.specs.PartTargets.{IsReach, IsRowKept, is_kept, is_paired, is_within}
 use Rattle.ps_places.specs.Starts.{AreWhere, begins_down}
 use Rattle.ps_places.proofs.AnyOf.{any-found, any-here, all}
-use Rattle.ps_places.proofs.FoundDown.{below_edge, room_by}
+use Rattle.ps_places.proofs.FoundDown.{below_edge}
 use Rattle.ps_places.proofs.LineSets.{none_has, with_below}
 use Rattle.ps_places.proofs.RowsTogether.{le_true}
 

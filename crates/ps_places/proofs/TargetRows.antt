@@ -9,16 +9,16 @@ use Rattle.std.proofs.lemmas.Bool.Decides.{nat_tests}
 use Rattle.ps_model.specs.declared.limits.TheConstants.{SIDE_LIMIT}
 use Rattle.ps_model.specs.board.Grid.{Grid, IsGrid}
 use Rattle.ps_laws.proofs.common.Truths.{same_tests}
-use Rattle.ps_board.specs.ColumnSets.{both_columns, column_at, either_columns, no_columns}
-use Rattle.ps_board.proofs.ColumnLaws.{column_at-where}
+use Rattle.ps_board.specs.ColumnSets.{both_columns, column_at, either_columns, no_columns, set_columns}
+use Rattle.ps_board.proofs.ColumnLaws.{column_at-where, none_in}
 use Rattle.ps_match.proofs.Chosen.{any_agree, any_none, any_one}
 use Rattle.ps_match.proofs.RowWritten.{lt_next}
 use Rattle.ps_program.specs.declared.cells.CompiledCell.{CompiledCell}
 use Rattle.ps_program.specs.declared.rows.Axis.{Axis}
 use Rattle.ps_program.specs.declared.rows.Axis.TheVariants.{Down, Right}
 use Rattle.ps_places.specs.FoundStarts.{BeginsNowhere, begins_on}
-use Rattle.ps_places.specs.Lines.{line_long, part_fits}
-use Rattle.ps_places.specs.PartStarts.{AreStarts, begins_at, columns_on, is_start}
+use Rattle.ps_places.specs.Lines.{line_count, part_fits}
+use Rattle.ps_places.specs.PartStarts.{AreStarts, columns_on}
 use Rattle.ps_places.specs.PartTargets.{AreKept, AreTargets, IsRowKept, IsRowOfTargets, has_partner, is_apart}
 use Rattle.ps_places.specs.PartTargets.{is_kept, is_paired, is_target, other_part, own_part, target_at}
 use Rattle.ps_places.specs.Starts.{AreWhere, begins_down}
@@ -453,3 +453,81 @@ none-kept g table axis leads first second rows starts grid long e =
           };
       kept = kept-none g.height rows starts e;
     }
+
+-- a part that begins on no row begins on no line ----------------------------------------------------------------------
+
+line_of_none : (g : Grid) (table : Option (List ℕ)) (axis : Axis) (part : List CompiledCell) (own : List Bool)
+    (columns : List (List Bool)) (line : ℕ) → IsGrid g → 0 < length part → AreStarts g table axis part own columns →
+    set_columns own ≡ [] → line < line_count axis g → BeginsNowhere g table axis part line
+line_of_none g table Right part own columns line grid some are none low =
+    nowhere_in g table part own columns line are low (none_in own line none (omega (arith, low, grid.rows)))
+line_of_none g table Down part own columns line grid some are none low =
+    record {
+      at = λ y near.
+          let across : nat_lt line g.width ≡ true = grind (arith, nat_tests, low) in
+          ap (λ (b : Bool). b && begins_on g table Down line part y) (sym across)
+          ∙ elim (cases_lt y g.height) [
+            | inl high ↦
+                sym ((are.each y high).at line (omega (arith, low, grid.columns)))
+                ∙ ap (λ (b : Bool). b && column_at (columns_on columns y) line) (none_in own y none near)
+            | inr deep ↦ below_edge g table part line y some deep
+          ];
+    }
+
+-- so no target is found, whichever of the two parts it is
+without_first : (g : Grid) (table : Option (List ℕ)) (axis : Axis) (leads : Bool) (first second : List CompiledCell)
+    (row x : ℕ) → row < SIDE_LIMIT → x < SIDE_LIMIT → row < g.height →
+    ((line : ℕ) → line < line_count axis g → BeginsNowhere g table axis first line) →
+    target_at g table axis leads first second row x ≡ false
+without_first g table Right leads first second row x high near low none =
+    no_first g table Right leads first second row x (none row low) near
+without_first g table Down leads first second row x high near low none = by (nat_lt x g.width) refl where
+  by : (here : Bool) → nat_lt x g.width ≡ here →
+      (nat_lt x g.width && is_target g table Down leads first second x row) ≡ false
+  by true t =
+      let across : x < g.width = grind (arith, nat_tests, t) in
+      ap (λ (b : Bool). nat_lt x g.width && b) (no_first g table Down leads first second x row (none x across) high)
+      ∙ and-false (nat_lt x g.width)
+  by false t = ap (λ (b : Bool). b && is_target g table Down leads first second x row) t
+
+without_second : (g : Grid) (table : Option (List ℕ)) (axis : Axis) (leads : Bool) (first second : List CompiledCell)
+    (row x : ℕ) → row < SIDE_LIMIT → x < SIDE_LIMIT → row < g.height →
+    ((line : ℕ) → line < line_count axis g → BeginsNowhere g table axis second line) →
+    target_at g table axis leads first second row x ≡ false
+without_second g table Right leads first second row x high near low none =
+    no_second g table Right leads first second row x (none row low) near
+without_second g table Down leads first second row x high near low none = by (nat_lt x g.width) refl where
+  by : (here : Bool) → nat_lt x g.width ≡ here →
+      (nat_lt x g.width && is_target g table Down leads first second x row) ≡ false
+  by true t =
+      let across : x < g.width = grind (arith, nat_tests, t) in
+      ap (λ (b : Bool). nat_lt x g.width && b) (no_second g table Down leads first second x row (none x across) high)
+      ∙ and-false (nat_lt x g.width)
+  by false t = ap (λ (b : Bool). b && is_target g table Down leads first second x row) t
+
+module _ (g : Grid) (table : Option (List ℕ)) (axis : Axis) (leads : Bool) (first second : List CompiledCell)
+    (own rows : List Bool) (columns starts : List (List Bool)) (grid : IsGrid g) (is : rows ≡ no_columns)
+    (none : set_columns own ≡ []) where
+  pub first-nowhere : 0 < length first → AreStarts g table axis first own columns →
+      AreTargets g table axis leads first second rows starts
+  first-nowhere some are =
+      record {
+        each = λ row low. record {
+          at = λ x near. not_kept rows starts row is x
+              ∙ sym (without_first g table axis leads first second row x (omega (arith, low, grid.rows)) near low
+              (λ line within. line_of_none g table axis first own columns line grid some are none within));
+        };
+        kept = kept-none g.height rows starts is;
+      }
+
+  pub second-nowhere : 0 < length second → AreStarts g table axis second own columns →
+      AreTargets g table axis leads first second rows starts
+  second-nowhere some are =
+      record {
+        each = λ row low. record {
+          at = λ x near. not_kept rows starts row is x
+              ∙ sym (without_second g table axis leads first second row x (omega (arith, low, grid.rows)) near low
+              (λ line within. line_of_none g table axis second own columns line grid some are none within));
+        };
+        kept = kept-none g.height rows starts is;
+      }

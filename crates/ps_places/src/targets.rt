@@ -235,7 +235,13 @@ impl<W: ColumnWords> RowRoom<Columns<W>> {
         }
         let scanned = self.scanned.as_mut_slice();
         let fronts_on = find_rows(board, row.axis, first, self.fronts.as_mut_slice(), scanned);
+        if fronts_on.is_empty() {
+            return Columns::none();
+        }
         let backs_on = find_rows(board, row.axis, second, self.backs.as_mut_slice(), scanned);
+        if backs_on.is_empty() {
+            return Columns::none();
+        }
         let fronts = PartStarts {
             rows: fronts_on,
             columns: self.fronts.as_slice(),
