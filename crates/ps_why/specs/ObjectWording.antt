@@ -1,11 +1,11 @@
 -- What is told of an object, in words.
 use Rattle.std.specs.Prelude.{ℕ, Option, Some, None, List, [], ◌++◌, codes, encode_utf8}
 use Rattle.std.specs.Fmt.{decimal}
-use Rattle.ps_why.specs.declared.causes.NoRow.{NoRow}
-use Rattle.ps_why.specs.declared.causes.ObjectCause.{ObjectCause}
-use Rattle.ps_why.specs.declared.causes.ObjectCause.TheVariants.{RowName, Colourless, ShortSprite}
-use Rattle.ps_why.specs.declared.causes.WhyNoRow.{WhyNoRow}
-use Rattle.ps_why.specs.declared.causes.WhyNoRow.TheVariants.{Blank, Length, Character, Untold}
+use Rattle.ps_causes.specs.declared.causes.NoRow.{NoRow}
+use Rattle.ps_causes.specs.declared.causes.ObjectCause.{ObjectCause}
+use Rattle.ps_causes.specs.declared.causes.ObjectCause.TheVariants.{RowName, Colourless, ShortSprite}
+use Rattle.ps_causes.specs.declared.causes.WhyNoRow.{WhyNoRow}
+use Rattle.ps_causes.specs.declared.causes.WhyNoRow.TheVariants.{Blank, Length, Character, Untold}
 
 -- that a row of a sprite is read as a name
 abbrev pub row_name_words : List ℕ → List ℕ

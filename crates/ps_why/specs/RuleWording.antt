@@ -2,12 +2,12 @@
 use Rattle.std.specs.Prelude.{ℕ, List, ◌++◌, codes}
 use Rattle.std.specs.Fmt.{decimal}
 use Rattle.ps_model.specs.declared.texts.Section.{Section}
-use Rattle.ps_why.specs.declared.causes.Further.{Further}
-use Rattle.ps_why.specs.declared.causes.Part.{Part}
-use Rattle.ps_why.specs.declared.causes.Part.TheVariants.{FromArrow, WithoutArrow}
-use Rattle.ps_why.specs.declared.causes.RuleCause.{RuleCause}
-use Rattle.ps_why.specs.declared.causes.RuleCause.TheVariants.{Pair, Several, Unbound, Rows, Cells, GoesOn}
-use Rattle.ps_why.specs.declared.names.Named.{Named}
+use Rattle.ps_causes.specs.declared.causes.Further.{Further}
+use Rattle.ps_causes.specs.declared.causes.Part.{Part}
+use Rattle.ps_causes.specs.declared.causes.Part.TheVariants.{FromArrow, WithoutArrow}
+use Rattle.ps_causes.specs.declared.causes.RuleCause.{RuleCause}
+use Rattle.ps_causes.specs.declared.causes.RuleCause.TheVariants.{Pair, Several, Unbound, Rows, Cells, GoesOn}
+use Rattle.ps_facts.specs.declared.names.Named.{Named}
 use Rattle.ps_why.specs.SectionNames.{section_name}
 
 -- that a line has two names which stand in one cell

@@ -2,8 +2,8 @@
 use Rattle.std.specs.Prelude.{◌≡◌, ℕ, ◌==◌, nat_lt, nat_le, Bool, ◌&&◌, ◌||◌, not, if◌then◌else◌, List, encode_utf8}
 use Rattle.std.specs.List.{flat_map}
 use Rattle.std.specs.Str.{chars}
-use Rattle.ps_why.specs.declared.causes.Cause.{Cause}
-use Rattle.ps_why.specs.Causes.{IsToldAt}
+use Rattle.ps_causes.specs.declared.causes.Cause.{Cause}
+use Rattle.ps_causes.specs.Causes.{IsToldAt}
 use Rattle.ps_why.specs.Wording.{sentence}
 
 -- a terminal takes the character as an order: those below 32 but for the tab, 127, and U+0080 to U+009F

@@ -1,18 +1,18 @@
 -- What is told of a word that has a slip: what stands before it, the word, and what stands behind it.
 use Rattle.std.specs.Prelude.{ℕ, List, ◌++◌, codes}
-use Rattle.ps_why.specs.declared.slips.ShapeSlip.{ShapeSlip}
-use Rattle.ps_why.specs.declared.slips.ShapeSlip.TheVariants.{LikeArrow, NoArrow, SecondArrow, Nested, Unclosed}
-use Rattle.ps_why.specs.declared.slips.ShapeSlip.TheVariants.{LoneClosing, NothingLeft, NothingRight, BarOutside}
-use Rattle.ps_why.specs.declared.slips.ShapeSlip.TheVariants.{DirectionOutside, WordOutside}
-use Rattle.ps_why.specs.declared.slips.RuleSlip.{RuleSlip}
-use Rattle.ps_why.specs.declared.slips.RuleSlip.TheVariants.{Slashes, LoopWords, MessageAlone, LateMove, Chance, Rigid}
-use Rattle.ps_why.specs.declared.slips.RuleSlip.TheVariants.{TwiceInCell}
-use Rattle.ps_why.specs.declared.slips.FormSlip.{FormSlip}
-use Rattle.ps_why.specs.declared.slips.FormSlip.TheVariants.{NoEquals, NoJoiner, EqualsAsName, LegendEnds, NoQuantifier}
-use Rattle.ps_why.specs.declared.slips.FormSlip.TheVariants.{NoOn, FurtherWord, WinEnds, SecondName, ThirdName}
-use Rattle.ps_why.specs.declared.slips.FormSlip.TheVariants.{RealTime}
-use Rattle.ps_why.specs.declared.slips.Slip.{Slip}
-use Rattle.ps_why.specs.declared.slips.Slip.TheVariants.{Shape, Rule, Form}
+use Rattle.ps_facts.specs.declared.slips.ShapeSlip.{ShapeSlip}
+use Rattle.ps_facts.specs.declared.slips.ShapeSlip.TheVariants.{LikeArrow, NoArrow, SecondArrow, Nested, Unclosed}
+use Rattle.ps_facts.specs.declared.slips.ShapeSlip.TheVariants.{LoneClosing, NothingLeft, NothingRight, BarOutside}
+use Rattle.ps_facts.specs.declared.slips.ShapeSlip.TheVariants.{DirectionOutside, WordOutside}
+use Rattle.ps_facts.specs.declared.slips.RuleSlip.{RuleSlip}
+use Rattle.ps_facts.specs.declared.slips.RuleSlip.TheVariants.{Slashes, LoopWords, MessageAlone, LateMove, Chance, Rigid}
+use Rattle.ps_facts.specs.declared.slips.RuleSlip.TheVariants.{TwiceInCell}
+use Rattle.ps_facts.specs.declared.slips.FormSlip.{FormSlip}
+use Rattle.ps_facts.specs.declared.slips.FormSlip.TheVariants.{NoEquals, NoJoiner, EqualsAsName, LegendEnds, NoQuantifier}
+use Rattle.ps_facts.specs.declared.slips.FormSlip.TheVariants.{NoOn, FurtherWord, WinEnds, SecondName, ThirdName}
+use Rattle.ps_facts.specs.declared.slips.FormSlip.TheVariants.{RealTime}
+use Rattle.ps_facts.specs.declared.slips.Slip.{Slip}
+use Rattle.ps_facts.specs.declared.slips.Slip.TheVariants.{Shape, Rule, Form}
 
 -- what stands before a word with a wrong bracket, bar or arrow
 abbrev pub shape_front : ShapeSlip → List ℕ

@@ -2,17 +2,17 @@
 use Rattle.std.specs.Prelude.{ℕ, nat_eq, nat_lt, true, if◌then◌else◌, List, [], ◌++◌, codes}
 use Rattle.std.specs.Prelude.{encode_utf8}
 use Rattle.std.specs.Fmt.{decimal, digits}
-use Rattle.ps_why.specs.declared.names.Named.{Named}
-use Rattle.ps_why.specs.declared.causes.Blank.{Blank}
-use Rattle.ps_why.specs.declared.causes.Blank.TheVariants.{Space, Tab, CarriageReturn, Comment}
-use Rattle.ps_why.specs.declared.causes.Clue.{Clue}
-use Rattle.ps_why.specs.declared.causes.Clue.TheVariants as clues
-use Rattle.ps_why.specs.declared.causes.Hint.{Hint}
-use Rattle.ps_why.specs.declared.causes.Hint.TheVariants.{Nothing, Near, Strange, Joins}
-use Rattle.ps_why.specs.declared.causes.Cause.{Cause}
-use Rattle.ps_why.specs.declared.causes.Cause.TheVariants.{Untold, Undeclared, Meaningless, Unlayered, UnknownGlyph}
-use Rattle.ps_why.specs.declared.causes.Cause.TheVariants.{BrokenRow, LateHeader, MissingSection, Twice, Slip}
-use Rattle.ps_why.specs.declared.causes.Cause.TheVariants.{InRule, InObject, BrokenByte}
+use Rattle.ps_facts.specs.declared.names.Named.{Named}
+use Rattle.ps_causes.specs.declared.causes.Blank.{Blank}
+use Rattle.ps_causes.specs.declared.causes.Blank.TheVariants.{Space, Tab, CarriageReturn, Comment}
+use Rattle.ps_causes.specs.declared.causes.Clue.{Clue}
+use Rattle.ps_causes.specs.declared.causes.Clue.TheVariants as clues
+use Rattle.ps_causes.specs.declared.causes.Hint.{Hint}
+use Rattle.ps_causes.specs.declared.causes.Hint.TheVariants.{Nothing, Near, Strange, Joins}
+use Rattle.ps_causes.specs.declared.causes.Cause.{Cause}
+use Rattle.ps_causes.specs.declared.causes.Cause.TheVariants.{Untold, Undeclared, Meaningless, Unlayered, UnknownGlyph}
+use Rattle.ps_causes.specs.declared.causes.Cause.TheVariants.{BrokenRow, LateHeader, MissingSection, Twice, Slip}
+use Rattle.ps_causes.specs.declared.causes.Cause.TheVariants.{InRule, InObject, BrokenByte}
 use Rattle.ps_why.specs.ObjectWording.{object_sentence}
 use Rattle.ps_why.specs.RuleWording.{rule_sentence}
 use Rattle.ps_why.specs.SectionNames.{section_name}

@@ -4,7 +4,7 @@ ghost use Rattle.std.specs.Prelude.{◌≡◌, IfOk, string_bytes};
 ghost use Rattle.ps_why.specs.ObjectWording.{row_name_words, colourless_words, why_no_row_words, no_row_words};
 ghost use Rattle.ps_why.specs.ObjectWording.{short_words, object_sentence};
 
-use crate::causes::{NoRow, ObjectCause, WhyNoRow};
+use ps_causes::{NoRow, ObjectCause, WhyNoRow};
 use ps_model::Memory;
 use ps_text::Word;
 use std::alloc::Global;

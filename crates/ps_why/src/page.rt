@@ -3,7 +3,7 @@
 ghost use Rattle.std.specs.Prelude.{◌≡◌, ◌≤◌, IfOk, length, string_bytes};
 ghost use Rattle.ps_why.specs.Shown.{is_order, shown_character, shown_characters, shown_text};
 
-use crate::strange::characters_in;
+use ps_facts::characters_in;
 use ps_model::Memory;
 use std::alloc::Global;
 
@@ -11,14 +11,14 @@ use std::alloc::Global;
 const MOST_SHOWN: usize = 200;
 
 /// What a mark stands below: bytes of a text, from one to before another.
-#[derive(Clone, Copy, PartialEq, Eq, Debug)]
+#[derive(Clone, Copy)]
 pub struct Mark {
     pub from: usize,
     pub to: usize,
 }
 
 /// A line of a text: its bytes, from one to before another, without the line feed.
-#[derive(Clone, Copy, PartialEq, Eq, Debug)]
+#[derive(Clone, Copy)]
 struct LineBytes {
     from: usize,
     to: usize,

@@ -4,9 +4,9 @@ ghost use Rattle.std.specs.Prelude.{◌≡◌, IfOk, string_bytes};
 ghost use Rattle.ps_why.specs.RuleWording.{pair_words, several_words, unbound_words, rows_words, cells_words};
 ghost use Rattle.ps_why.specs.RuleWording.{part_words, going_on_words, rule_sentence};
 
-use crate::causes::{Further, Part, RuleCause};
-use crate::names::Named;
 use crate::section_names::section_name;
+use ps_causes::{Further, Part, RuleCause};
+use ps_facts::Named;
 use ps_model::{Memory, Section};
 use std::alloc::Global;
 

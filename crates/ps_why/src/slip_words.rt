@@ -4,7 +4,7 @@ ghost use Rattle.std.specs.Prelude.{◌≡◌, IfOk, string_bytes};
 ghost use Rattle.ps_why.specs.SlipWords.{shape_front, shape_back, rule_front, rule_back, form_front, form_back};
 ghost use Rattle.ps_why.specs.SlipWords.{slip_front, slip_back, slip_words};
 
-use crate::slips::{FormSlip, RuleSlip, ShapeSlip, Slip};
+use ps_facts::{FormSlip, RuleSlip, ShapeSlip, Slip};
 use ps_model::Memory;
 use std::alloc::Global;
 

@@ -6,14 +6,13 @@ ghost use Rattle.ps_why.specs.Wording.{undeclared_words, meaningless_words, unla
 ghost use Rattle.ps_why.specs.Wording.{late_words, like_words, open_words, returns_words, clue_words, missing_words};
 ghost use Rattle.ps_why.specs.Wording.{case_words, twice_words, broken_byte_words};
 
-use crate::causes::{Blank, Cause, Clue, Hint};
-use crate::names::{Named, rank};
 use crate::object_wording::object_sentence;
 use crate::rule_wording::rule_sentence;
 use crate::section_names::section_name;
 use crate::slip_words::slip_words;
+use ps_causes::{Blank, Cause, Clue, Hint};
+use ps_facts::{Named, rank};
 use ps_model::{Memory, Section};
-use ps_text::Word;
 use std::alloc::Global;
 
 /// The zeros before the digits of a character's code, of which there are four at least.

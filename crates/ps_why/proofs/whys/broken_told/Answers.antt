@@ -1,6 +1,6 @@
-use Rattle.std.proofs.Common.{◌∙◌, sym, ap, rules}
+use Rattle.std.proofs.Common.{◌∙◌, sym, ap}
 use Rattle.std.proofs.lemmas.Str.{chars-nil}
-use Rattle.ps_why.specs.declared.causes.Cause.TheVariants.{Untold}
+use Rattle.ps_causes.specs.declared.causes.Cause.TheVariants.{Untold}
 use Rattle.ps_why.specs.Shown.{shown_characters}
 use Rattle.ps_why.proofs.whys.broken_told.Goals as goal
 
@@ -11,9 +11,5 @@ returns-then-not-is_told c = record {
   are_those = c.new-then-not-is_told.ensures.bytes ∙ sym (ap shown_characters chars-nil);
 }
 
-pub returns : goal.returns
-returns c = record {
-  cause = c.broken_byte-cause.result;
-  is_true = c.broken_byte-cause.ensures c.args.fault.line;
-  are_those = search rules;
-}
+pub told_by-requires : goal.told_by-requires
+told_by-requires c = c.broken_byte-cause.ensures c.args.fault.line

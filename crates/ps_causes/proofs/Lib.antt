@@ -1,0 +1,4 @@
+pub mod DeclaredNames
+pub mod FoundSlips
+pub mod HeaderLines
+pub mod SomeWords

@@ -1,0 +1,149 @@
+-- What is told of a fault, and when that is true of the text.
+use Rattle.std.specs.Prelude.{◌≡◌, ◌≤◌, ◌<◌, ℕ, nat_eq, ◌-◌, Bool, false, true, ◌&&◌, ⊤, Some}
+use Rattle.std.specs.Prelude.{List, [], ◌∷◌, ◌++◌, codes}
+use Rattle.std.specs.Prelude.{slice_get, encode_utf8, slice_index_or}
+use Rattle.std.specs.List.{IsAmong, list_any}
+use Rattle.std.specs.Str.{bytes_eq, chars}
+use Rattle.std.specs.Str.Lossy.{utf8_valid_len}
+use Rattle.ps_model.specs.declared.texts.Section.{Section}
+use Rattle.ps_model.specs.text.LineNumbers.{line_at, HasLine}
+use Rattle.ps_model.specs.text.Lines.{Line, lines_of, folded}
+use Rattle.ps_model.specs.text.Sections.{rank, header_lines, has_section}
+use Rattle.ps_text.specs.declared.cutting.Word.{Word}
+use Rattle.ps_causes.specs.declared.causes.Blank.{Blank}
+use Rattle.ps_causes.specs.declared.causes.Blank.TheVariants.{Space, Tab, CarriageReturn, Comment}
+use Rattle.ps_causes.specs.declared.causes.Clue.{Clue}
+use Rattle.ps_causes.specs.declared.causes.Hint.{Hint}
+use Rattle.ps_causes.specs.declared.causes.Hint.TheVariants.{Nothing, Near, Strange, Joins}
+use Rattle.ps_causes.specs.declared.causes.Cause.{Cause}
+use Rattle.ps_causes.specs.declared.causes.Cause.TheVariants.{Untold, Undeclared, Meaningless, Unlayered, UnknownGlyph}
+use Rattle.ps_causes.specs.declared.causes.Cause.TheVariants.{BrokenRow, LateHeader, MissingSection, Twice, Slip}
+use Rattle.ps_causes.specs.declared.causes.Cause.TheVariants.{InRule, InObject, BrokenByte}
+use Rattle.ps_facts.specs.declared.names.Named.{Named}
+use Rattle.ps_facts.specs.declared.slips.Slip as slips
+use Rattle.ps_causes.specs.Clues.{IsClue}
+use Rattle.ps_facts.specs.Declarations.{is_declared, IsDeclaredAt}
+use Rattle.ps_facts.specs.KeyWords.{is_key_word}
+use Rattle.ps_facts.specs.LayerWords.{is_in_layers}
+use Rattle.ps_facts.specs.LineWords.{IsWordOf, texts_of}
+use Rattle.ps_facts.specs.NamesShown.{is_own}
+use Rattle.ps_causes.specs.ObjectCauses.{IsToldOfObject}
+use Rattle.ps_causes.specs.RuleCauses.{IsToldOfRule}
+use Rattle.ps_facts.specs.Slips.{section_of, has_slip}
+
+-- words ---------------------------------------------------------------------------------------------------------------
+
+-- `and` or `or`
+abbrev pub joins_names : List ℕ → Bool
+joins_names word = list_any (bytes_eq (folded word)) (codes "and" ∷ codes "or" ∷ [])
+
+-- hints ---------------------------------------------------------------------------------------------------------------
+
+-- what is told of a word is true
+abbrev pub IsHint : List ℕ → List ℕ → Hint → Type 0
+IsHint text word Nothing = ⊤
+IsHint text word (Near named) = IsDeclaredAt text named.line named.name.now
+IsHint text word (Strange character like) = IsAmong (chars word) character × (128 ≤ character)
+IsHint text word Joins = joins_names word ≡ true
+
+-- causes --------------------------------------------------------------------------------------------------------------
+
+-- a word of the line that is declared nowhere
+pub record IsUndeclared (text : List ℕ) (line : ℕ) (word : Word) (hint : Hint) : Type 0 where
+  pub stands : IsWordOf text line word
+  pub undeclared : is_declared text word.text.now ≡ false
+  pub true_hint : IsHint text word.text.now hint
+
+-- a word of the line that is no key word, and declared nowhere
+pub record IsMeaningless (text : List ℕ) (line : ℕ) (word : Word) (hint : Hint) : Type 0 where
+  pub nowhere : IsUndeclared text line word hint
+  pub no_key_word : is_key_word word.text.now ≡ false
+
+-- a name of the line that stands in no line of COLLISIONLAYERS
+pub record IsUnlayered (text : List ℕ) (line : ℕ) (word : Word) : Type 0 where
+  pub stands : IsWordOf text line word
+  pub unlayered : is_in_layers text word.text.now ≡ false
+
+-- a character of a row that is no name
+pub record IsUnknownGlyph (text : List ℕ) (line : ℕ) (row : Word) (character column : ℕ) : Type 0 where
+  pub stands : IsWordOf text line row
+  pub counted : 1 ≤ column
+  pub place : slice_get (chars row.text.now) (column - 1) ≡ Some character
+  pub undeclared : is_declared text (encode_utf8 character) ≡ false
+
+-- the byte that begins a blank of that kind
+abbrev pub byte_of : Blank → ℕ
+byte_of Space = 32
+byte_of Tab = 9
+byte_of CarriageReturn = 13
+byte_of Comment = 40
+
+-- a blank right behind a word of the line, which isn't its last
+pub record IsBrokenRow (text : List ℕ) (line : ℕ) (row : Word) (blank : Blank) : Type 0 where
+  pub stands : IsWordOf text line row
+  pub further : Word
+  pub follows : IsWordOf text line further
+  pub behind : row.span.end < further.span.start
+  pub parts : slice_index_or text row.span.end 0 ≡ byte_of blank
+
+-- a line above is a header of the same section or of a later one
+pub record IsLaterHeader (text : List ℕ) (line above : ℕ) : Type 0 where
+  pub there : HasLine text above
+  pub higher : above < line
+  pub header : (line_at text above).is_header ≡ true
+  pub later : rank (line_at text line).section ≤ rank (line_at text above).section
+
+-- the line is a header, one stands above that belongs below it, and these are their sections
+pub record IsLateHeader (text : List ℕ) (line : ℕ) (header : Word) (section : Section) (above : ℕ) (other : Section) :
+    Type 0 where
+  pub stands : IsWordOf text line header
+  pub own : (line_at text line).section ≡ section
+  pub below : IsLaterHeader text line above
+  pub belongs_below : (line_at text above).section ≡ other
+
+-- the line begins the section
+abbrev pub begins : Section → Line → Bool
+begins section line = line.is_header && nat_eq (rank section) (rank line.section)
+
+-- no line is a header of the section
+pub record IsMissing (text : List ℕ) (section : Section) (clue : Clue) : Type 0 where
+  pub missing : has_section (header_lines (lines_of text)) section ≡ false
+  pub true_clue : IsClue text clue
+
+-- the byte at that place, from 1, is the first in no whole character
+pub record IsBrokenByte (text : List ℕ) (place byte : ℕ) : Type 0 where
+  pub counted : 1 ≤ place
+  pub first : utf8_valid_len text ≡ place - 1
+  pub there : slice_get text (place - 1) ≡ Some byte
+
+-- a word of the line is declared above it
+pub record IsTwice (text : List ℕ) (line : ℕ) (word : Word) (first : Named) : Type 0 where
+  pub stands : IsWordOf text line word
+  pub declared_there : IsDeclaredAt text first.line first.name.now
+  pub above : first.line < line
+  pub same : bytes_eq (folded word.text.now) (folded first.name.now) ≡ true
+
+-- a word of a line of its section that stands where it can't
+pub record IsSlip (text : List ℕ) (line : ℕ) (word : Word) (slip : slips.Slip) : Type 0 where
+  pub stands : IsWordOf text line word
+  pub own : is_own (section_of slip) (line_at text line) ≡ true
+  pub before : List (List ℕ)
+  pub behind : List (List ℕ)
+  pub parts : texts_of text line ≡ before ++ word.text.now ∷ behind
+  pub holds : has_slip slip before word.text.now behind ≡ true
+
+-- what is told of a line is true of the text
+abbrev pub IsToldAt : List ℕ → ℕ → Cause → Type 0
+IsToldAt text line Untold = ⊤
+IsToldAt text line (Undeclared word hint) = IsUndeclared text line word hint
+IsToldAt text line (Meaningless word hint) = IsMeaningless text line word hint
+IsToldAt text line (Unlayered word) = IsUnlayered text line word
+IsToldAt text line (UnknownGlyph row character column) = IsUnknownGlyph text line row character column
+IsToldAt text line (BrokenRow row blank) = IsBrokenRow text line row blank
+IsToldAt text line (LateHeader header section above other) = IsLateHeader text line header section above other
+IsToldAt text line (MissingSection section clue) = IsMissing text section clue
+IsToldAt text line (Twice word first) = IsTwice text line word first
+IsToldAt text line (Slip word slip) = IsSlip text line word slip
+IsToldAt text line (InRule cause) = IsToldOfRule text line cause
+IsToldAt text line (InObject cause) = IsToldOfObject text line cause
+IsToldAt text line (BrokenByte place byte) = IsBrokenByte text place byte

@@ -1,0 +1,211 @@
+//! Why a text has a fault, where more can be told than the fault itself.
+
+use ps_facts::{Named, Slip};
+use ps_model::Section;
+use ps_text::Word;
+
+/// What is told of a word that isn't a name here.
+#[derive(Clone, Copy)]
+pub enum Hint<'a> {
+    /// Nothing.
+    Nothing,
+    /// A name that is declared and is written much like the word.
+    Near(Named<'a>),
+    /// A character of the word that isn't ASCII, and what it looks like, in words.
+    Strange { character: char, like: &'static str },
+    /// The word is `and` or `or`, which join names on the right of a line of LEGEND.
+    Joins,
+}
+
+/// Why a text has a fault. Words are those of the fault's line.
+#[derive(Clone, Copy)]
+pub enum Cause<'a> {
+    /// No more is told than the fault.
+    Untold,
+    /// The word is declared neither in OBJECTS nor in LEGEND.
+    Undeclared {
+        word: Word<'a>,
+        hint: Hint<'a>,
+    },
+    /// The word is no key word of rules, and declared neither in OBJECTS nor in LEGEND.
+    Meaningless {
+        word: Word<'a>,
+        hint: Hint<'a>,
+    },
+    /// The object of that name has no layer: the name stands in no line of COLLISIONLAYERS.
+    Unlayered {
+        word: Word<'a>,
+    },
+    /// A character of a row, the first word of the line, is no name. Its column counts from 1, at the row's first
+    /// character.
+    UnknownGlyph {
+        row: Word<'a>,
+        character: char,
+        column: usize,
+    },
+    /// A row has characters on both sides of a blank, which stands right behind its first word.
+    BrokenRow {
+        row: Word<'a>,
+        blank: Blank,
+    },
+    /// The header of a section stands below one of the same section or of a later one, which is at that line.
+    LateHeader {
+        header: Word<'a>,
+        section: Section,
+        above: u32,
+        other: Section,
+    },
+    /// No line is a header of the section.
+    MissingSection {
+        section: Section,
+        clue: Clue,
+    },
+    /// The word is declared above its line.
+    Twice {
+        word: Word<'a>,
+        first: Named<'a>,
+    },
+    /// The word stands where it can't.
+    Slip {
+        word: Word<'a>,
+        slip: Slip,
+    },
+    /// The words of a rule are wrong together, or by what a line of another section says of them.
+    InRule(RuleCause<'a>),
+    /// An object isn't written as one.
+    InObject(ObjectCause<'a>),
+    /// The byte, at that place of the text from 1, is in no whole character of UTF-8.
+    BrokenByte {
+        place: usize,
+        byte: u8,
+    },
+}
+
+impl<'a> Cause<'a> {
+    /// Whether more is told than the fault.
+    pub fn is_told(&self) -> bool {
+        match self {
+            Cause::Untold => false,
+            _ => true,
+        }
+    }
+}
+
+/// Why a rule has a fault, where more words than one say so.
+#[derive(Clone, Copy)]
+pub enum RuleCause<'a> {
+    /// The other word stands before the word in one cell, and a line of the section has both.
+    Pair {
+        word: Word<'a>,
+        other: &'a str,
+        section: Section,
+        shared: u32,
+    },
+    /// A line of LEGEND makes the word several objects at once.
+    Several {
+        word: Word<'a>,
+        first: Named<'a>,
+    },
+    /// The word stands on the right, and so often on the left without `no`.
+    Unbound {
+        word: Word<'a>,
+        times: usize,
+    },
+    /// How many rows stand on the two sides of the arrow.
+    Rows {
+        arrow: Word<'a>,
+        left: usize,
+        right: usize,
+    },
+    /// How many cells the row of a number, from 1, has on the two sides of the arrow.
+    Cells {
+        arrow: Word<'a>,
+        row: usize,
+        left: usize,
+        right: usize,
+    },
+    /// A further line is no whole rule. The word is the last of the rule's line.
+    GoesOn {
+        word: Word<'a>,
+        further: Further,
+    },
+}
+
+/// A line that is no whole rule.
+#[derive(Clone, Copy)]
+pub struct Further {
+    pub line: u32,
+    pub part: Part,
+}
+
+/// What part of a rule a line is.
+#[derive(Clone, Copy)]
+pub enum Part {
+    /// It begins with `->`.
+    FromArrow,
+    /// It has no `->`.
+    WithoutArrow,
+}
+
+/// Why an object has a fault.
+#[derive(Clone, Copy)]
+pub enum ObjectCause<'a> {
+    /// The line, which is written much like a row of a sprite, names an object.
+    RowName {
+        word: Word<'a>,
+    },
+    /// The next line of OBJECTS is blank, or there is none.
+    Colourless {
+        name: Word<'a>,
+        below: Option<u32>,
+    },
+    /// Below the colours stand so many rows of a sprite, and then a line that is none, if there is one.
+    ShortSprite {
+        name: Word<'a>,
+        rows: usize,
+        below: Option<NoRow<'a>>,
+    },
+}
+
+/// A line that is no row of a sprite.
+#[derive(Clone, Copy)]
+pub struct NoRow<'a> {
+    pub line: u32,
+    pub why: WhyNoRow<'a>,
+}
+
+/// Why a line is no row of a sprite.
+#[derive(Clone, Copy)]
+pub enum WhyNoRow<'a> {
+    /// It has no word.
+    Blank,
+    /// Its word has another number of characters than five.
+    Length { word: Word<'a>, count: usize },
+    /// Its word has a character that is neither a point nor a digit.
+    Character { word: Word<'a>, character: char },
+    /// No more is told.
+    Untold,
+}
+
+/// What a missing section may come from.
+#[derive(Clone, Copy)]
+pub enum Clue {
+    /// No more is told.
+    Nothing,
+    /// A line that is written much like the header isn't one.
+    Like(u32),
+    /// A `(` of a line begins a comment that nothing closes.
+    Open(u32),
+    /// The text has no line feed; the byte at that place, from 1, is a carriage return.
+    Returns(usize),
+}
+
+/// What parts the words of a line.
+#[derive(Clone, Copy)]
+pub enum Blank {
+    Space,
+    Tab,
+    CarriageReturn,
+    /// A comment, which reads as blanks.
+    Comment,
+}

@@ -1,0 +1,116 @@
+//! The cause of a fault.
+
+ghost use Rattle.std.specs.Prelude.{◌≡◌, IfOk};
+ghost use Rattle.ps_model.specs.text.LineNumbers.{HasLine};
+ghost use Rattle.ps_causes.specs.Causes.{IsToldAt};
+
+use crate::barred::barred_cause;
+use crate::causes::Cause;
+use crate::counts::counts_cause;
+use crate::glyphs::glyph_cause;
+use crate::going_on::going_on_cause;
+use crate::headers::{late_cause, missing_cause};
+use crate::looked_for::slips_of;
+use crate::object_causes::object_cause;
+use crate::pairs::pair_cause;
+use crate::rule_words::meaningless_cause;
+use crate::slip_causes::slip_cause;
+use crate::twice::twice_cause;
+use crate::unbound::unbound_cause;
+use crate::undeclared::undeclared_cause;
+use crate::unlayered::unlayered_cause;
+use ps_model::{Fault, FaultKind, Memory, Section};
+use ps_text::Source;
+use std::alloc::Global;
+
+/// The names of a cell that name one object: a word that stands there twice, or else two that LEGEND has in one line.
+fn name_twice_cause<'a>(alloc: Global, source: &'a Source, line: u32) -> Result<Cause<'a>, Memory>
+    requires { HasLine source.now line }
+    ensures { IfOk result (IsToldAt source.now line) }
+{
+    let cause = slip_cause(alloc, source, line, slips_of(FaultKind::NameTwice))?;
+    if cause.is_told() {
+        return Ok(cause);
+    }
+    pair_cause(alloc, source, line, Section::Legend)
+}
+
+/// A word of a rule that begins no comment, or else one that means nothing.
+fn unknown_word_cause<'a>(alloc: Global, source: &'a Source, line: u32) -> Result<Cause<'a>, Memory>
+    requires { HasLine source.now line }
+    ensures { IfOk result (IsToldAt source.now line) }
+{
+    let cause = slip_cause(alloc, source, line, slips_of(FaultKind::UnknownWord))?;
+    if cause.is_told() {
+        return Ok(cause);
+    }
+    meaningless_cause(alloc, source, line)
+}
+
+/// That a rule goes on in the next line, or else what is wrong with its arrow, rows and cells.
+fn shape_cause<'a>(alloc: Global, source: &'a Source, fault: Fault) -> Result<Cause<'a>, Memory>
+    requires { HasLine source.now fault.line }
+    ensures { IfOk result (IsToldAt source.now fault.line) }
+{
+    let cause = going_on_cause(alloc, source, fault.line)?;
+    if cause.is_told() {
+        return Ok(cause);
+    }
+    if fault.kind == FaultKind::RowsDiffer {
+        return counts_cause(alloc, source, fault.line);
+    }
+    slip_cause(alloc, source, fault.line, slips_of(fault.kind))
+}
+
+/// The cause of a fault at a line of the text.
+fn cause_at<'a>(
+    alloc: Global,
+    text: &[u8],
+    source: &'a Source,
+    fault: Fault,
+) -> Result<Cause<'a>, Memory>
+    requires line { HasLine source.now fault.line }
+    requires text { source.now ≡ text.now }
+    ensures { IfOk result (IsToldAt source.now fault.line) }
+{
+    match fault.kind {
+        FaultKind::UnknownName | FaultKind::UnknownWinName => undeclared_cause(
+            alloc, source, fault.line,
+        ),
+        FaultKind::UnknownWord => unknown_word_cause(alloc, source, fault.line),
+        FaultKind::NoLayer => unlayered_cause(alloc, source, fault.line),
+        FaultKind::SectionOrder => late_cause(alloc, source, fault.line),
+        FaultKind::NoSection => missing_cause(alloc, text, source),
+        FaultKind::Twice => twice_cause(alloc, source, fault.line),
+        FaultKind::UnknownGlyph => glyph_cause(alloc, text, source, fault.line),
+        FaultKind::NameTwice => name_twice_cause(alloc, source, fault.line),
+        FaultKind::Impossible => pair_cause(alloc, source, fault.line, Section::Layers),
+        FaultKind::BadObject => object_cause(alloc, source, fault.line),
+        FaultKind::BadBracket | FaultKind::RowsDiffer | FaultKind::NothingRight => shape_cause(
+            alloc, source, fault,
+        ),
+        FaultKind::NoAggregate => barred_cause(alloc, source, fault.line),
+        FaultKind::Unbound => unbound_cause(alloc, source, fault.line),
+        _ => slip_cause(alloc, source, fault.line, slips_of(fault.kind)),
+    }
+}
+
+/// The cause of a fault of a text. Of a line that the text hasn't nothing is told.
+///
+/// # Errors
+///
+/// `Memory` if a growth was refused.
+pub fn cause_of<'a>(
+    alloc: Global,
+    text: &[u8],
+    source: &'a Source,
+    fault: Fault,
+) -> Result<Cause<'a>, Memory>
+    requires { source.now ≡ text.now }
+    ensures { IfOk result (IsToldAt source.now fault.line) }
+{
+    if fault.line == 0 || fault.line > source.lines() {
+        return Ok(Cause::Untold);
+    }
+    cause_at(alloc, text, source, fault)
+}

@@ -1,0 +1,187 @@
+//! Headers out of order, and sections that aren't there.
+
+ghost use Rattle.std.specs.Prelude.{◌≡◌, true, false, ℕ, IfOk, IfSome};
+ghost use Rattle.ps_model.specs.text.LineNumbers.{HasLine, line_at};
+ghost use Rattle.ps_model.specs.text.Lines.{lines_of};
+ghost use Rattle.ps_model.specs.text.Sections.{rank, header_lines, has_section};
+ghost use Rattle.ps_causes.specs.Causes.{IsToldAt, IsLaterHeader, begins};
+ghost use Rattle.ps_causes.specs.Clues.{IsNoHeader, IsClue};
+
+use crate::causes::{Cause, Clue};
+use crate::comments::open_comment;
+use crate::returns::lone_return;
+use ps_facts::{are_within_one, rank, words_of};
+use ps_model::{Cut, Memory, Section};
+use ps_text::{Source, Word, same_name, words};
+use std::alloc::Global;
+
+/// The first line above a line that is a header, of the same section or of a later one.
+fn header_above(source: &Source, line: u32) -> Option<u32>
+    requires { HasLine source.now line }
+    ensures { IfSome result (λ above. IsLaterHeader source.now line above) }
+{
+    let place = rank(source.section(line));
+    for above in 1..line {
+        if source.is_header(above) && rank(source.section(above)) >= place {
+            return Some(above);
+        }
+    }
+    None
+}
+
+/// The header that stands above a header and doesn't belong there.
+pub fn late_cause<'a>(alloc: Global, source: &'a Source, line: u32) -> Result<Cause<'a>, Memory>
+    requires { HasLine source.now line }
+    ensures { IfOk result (IsToldAt source.now line) }
+{
+    let words = words_of(alloc, source, line)?;
+    if words.is_empty() {
+        return Ok(Cause::Untold);
+    }
+    let Some(above) = header_above(source, line) else {
+        return Ok(Cause::Untold);
+    };
+    Ok(Cause::LateHeader {
+        header: words[0],
+        section: source.section(line),
+        above,
+        other: source.section(above),
+    })
+}
+
+/// Whether a line begins the section.
+fn begins(source: &Source, line: u32, section: Section) -> bool
+    requires { HasLine source.now line }
+    ensures { result ≡ begins section (line_at source.now line) }
+{
+    source.is_header(line) && rank(section) == rank(source.section(line))
+}
+
+/// Whether the text has the section.
+fn has_section(source: &Source, section: Section) -> bool
+    ensures { result ≡ has_section (header_lines (lines_of source.now)) section }
+{
+    for line in 1..source.lines() + 1 {
+        if begins(source, line, section) {
+            return true;
+        }
+    }
+    false
+}
+
+/// The first of the sections that must be there and isn't.
+fn missing_section(source: &Source) -> Option<Section>
+    ensures { IfSome result (λ section. has_section (header_lines (lines_of source.now)) section ≡ false) }
+{
+    if !has_section(source, Section::Objects) {
+        return Some(Section::Objects);
+    }
+    if !has_section(source, Section::Layers) {
+        return Some(Section::Layers);
+    }
+    if !has_section(source, Section::Levels) {
+        return Some(Section::Levels);
+    }
+    None
+}
+
+/// How many words a line has at most that is written much like a header.
+const MOST_WORDS: usize = 4;
+
+/// The word of a section's header.
+fn header_of(section: Section) -> &'static str {
+    match section {
+        Section::Objects => "objects",
+        Section::Layers => "collisionlayers",
+        _ => "levels",
+    }
+}
+
+/// Puts the ASCII letters of a word last.
+fn push_letters(letters: &mut String, word: &str) -> Result<(), Memory> {
+    for byte in word.as_bytes() {
+        if byte.is_ascii_alphabetic() {
+            letters.push(byte.to_ascii_lowercase() as char)?;
+        }
+    }
+    Ok(())
+}
+
+/// The ASCII letters of words, one behind the other.
+fn letters_of(alloc: Global, words: &[Word<'_>]) -> Result<String, Memory> {
+    let mut letters = String::new(alloc);
+    for word in words {
+        push_letters(&mut letters, word.text())?;
+    }
+    Ok(letters)
+}
+
+/// Whether words are written much like a header: its word with others behind it, or words whose letters one edit makes
+/// the header's.
+fn are_like(alloc: Global, words: &[Word<'_>], header: &str) -> Result<bool, Memory> {
+    if words.is_empty() || words.len() > MOST_WORDS {
+        return Ok(false);
+    }
+    if same_name(words[0].text(), header) {
+        return Ok(true);
+    }
+    let letters = letters_of(alloc, words)?;
+    Ok(are_within_one(letters.as_bytes(), header.as_bytes()))
+}
+
+/// Whether a line is no header, but written much like one of that word.
+fn is_like(alloc: Global, source: &Source, line: u32, header: &str) -> Result<bool, Memory>
+    requires { HasLine source.now line }
+    ensures { IfOk result (λ is. is ≡ true → IsNoHeader source.now line) }
+{
+    if source.is_header(line) {
+        return Ok(false);
+    }
+    let words = words(alloc, source, line, Cut::Blanks)?;
+    are_like(alloc, &words, header)
+}
+
+/// The first line that is no header, but written much like one of that word.
+fn first_like(alloc: Global, source: &Source, header: &str) -> Result<Option<u32>, Memory>
+    ensures { IfOk result (λ like. IfSome like (IsNoHeader source.now)) }
+{
+    for line in 1..source.lines() + 1 {
+        if is_like(alloc, source, line, header)? {
+            return Ok(Some(line));
+        }
+    }
+    Ok(None)
+}
+
+/// What the missing of a section may come from.
+fn clue_of(alloc: Global, text: &[u8], source: &Source, section: Section) -> Result<Clue, Memory>
+    requires { source.now ≡ text.now }
+    ensures { IfOk result (λ clue. IsClue source.now clue) }
+{
+    if let Some(line) = open_comment(text, source) {
+        return Ok(Clue::Open(line));
+    }
+    if let Some(place) = lone_return(text) {
+        return Ok(Clue::Returns(place));
+    }
+    let Some(line) = first_like(alloc, source, header_of(section))? else {
+        return Ok(Clue::Nothing);
+    };
+    Ok(Clue::Like(line))
+}
+
+/// The section that isn't there, and what that may come from.
+pub fn missing_cause<'a>(
+    alloc: Global,
+    text: &[u8],
+    source: &'a Source,
+) -> Result<Cause<'a>, Memory>
+    requires { source.now ≡ text.now }
+    ensures { (line : ℕ) → IfOk result (IsToldAt source.now line) }
+{
+    let Some(section) = missing_section(source) else {
+        return Ok(Cause::Untold);
+    };
+    let clue = clue_of(alloc, text, source, section)?;
+    Ok(Cause::MissingSection { section, clue })
+}

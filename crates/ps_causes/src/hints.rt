@@ -1,0 +1,48 @@
+//! What is told of a word that isn't a name here.
+
+ghost use Rattle.std.specs.Prelude.{◌≡◌, List, ℕ, IfOk};
+ghost use Rattle.ps_causes.specs.Causes.{IsHint, joins_names};
+ghost use Rattle.ps_facts.specs.Declarations.{declared};
+ghost use Rattle.ps_facts.specs.NamesShown.{names_shown};
+
+use crate::causes::Hint;
+use ps_facts::{Named, characters_in, first_strange, nearest};
+use ps_model::Memory;
+use ps_text::same_name;
+use std::alloc::Global;
+
+/// Whether the word is `and` or `or`.
+fn joins_names(word: &str) -> bool
+    ensures { result ≡ joins_names word.now }
+{
+    same_name(word, "and") || same_name(word, "or")
+}
+
+/// What is told of a word by its letters alone, where names are these.
+fn hint_by_letters<'a>(names: &[Named<'a>], word: &str) -> Hint<'a>
+    ensures { (text : List ℕ) → names_shown names.now ≡ declared text → IsHint text word.now result }
+{
+    if let Some(named) = nearest(names, word) {
+        return Hint::Near(named);
+    }
+    if joins_names(word) {
+        return Hint::Joins;
+    }
+    Hint::Nothing
+}
+
+/// What is told of a word, where names are these: a character that looks like another, or else a name that is written
+/// much like it.
+pub fn hint_of<'a>(alloc: Global, names: &[Named<'a>], word: &str) -> Result<Hint<'a>, Memory>
+    ensures { (text : List ℕ) → names_shown names.now ≡ declared text →
+        IfOk result (λ hint. IsHint text word.now hint) }
+{
+    let characters = characters_in(alloc, word)?;
+    if let Some(strange) = first_strange(&characters) {
+        return Ok(Hint::Strange {
+            character: strange.character,
+            like: strange.like,
+        });
+    }
+    Ok(hint_by_letters(names, word))
+}

@@ -1,0 +1,56 @@
+//! Which slips are looked for at which fault.
+
+use ps_facts::{FormSlip, RuleSlip, ShapeSlip, Slip};
+use ps_model::FaultKind;
+
+/// Those of a rule whose brackets, bars and arrow make none, the ones first that bring others with them.
+const BROKEN_RULE: [Slip; 13] = [
+    Slip::Rule(RuleSlip::Slashes),
+    Slip::Rule(RuleSlip::MessageAlone),
+    Slip::Rule(RuleSlip::LoopWords),
+    Slip::Shape(ShapeSlip::LikeArrow),
+    Slip::Shape(ShapeSlip::NoArrow),
+    Slip::Shape(ShapeSlip::SecondArrow),
+    Slip::Shape(ShapeSlip::Nested),
+    Slip::Shape(ShapeSlip::Unclosed),
+    Slip::Shape(ShapeSlip::LoneClosing),
+    Slip::Shape(ShapeSlip::NothingLeft),
+    Slip::Shape(ShapeSlip::BarOutside),
+    Slip::Shape(ShapeSlip::DirectionOutside),
+    Slip::Shape(ShapeSlip::WordOutside),
+];
+
+/// Those of a line of LEGEND.
+const BROKEN_LEGEND: [Slip; 4] = [
+    Slip::Form(FormSlip::NoEquals),
+    Slip::Form(FormSlip::EqualsAsName),
+    Slip::Form(FormSlip::NoJoiner),
+    Slip::Form(FormSlip::LegendEnds),
+];
+
+/// Those of a win condition.
+const BROKEN_WIN: [Slip; 4] = [
+    Slip::Form(FormSlip::NoQuantifier),
+    Slip::Form(FormSlip::NoOn),
+    Slip::Form(FormSlip::FurtherWord),
+    Slip::Form(FormSlip::WinEnds),
+];
+
+/// Those of a rule with a word that is left out here.
+const LEFT_OUT: [Slip; 2] = [Slip::Rule(RuleSlip::Chance), Slip::Rule(RuleSlip::Rigid)];
+
+/// The slips that are looked for at a fault, in this order.
+pub fn slips_of(kind: FaultKind) -> &'static [Slip] {
+    match kind {
+        FaultKind::BadBracket => &BROKEN_RULE,
+        FaultKind::BadLine => &BROKEN_LEGEND,
+        FaultKind::BadWin => &BROKEN_WIN,
+        FaultKind::NotInProfile => &LEFT_OUT,
+        FaultKind::UnknownWord => &[Slip::Rule(RuleSlip::Slashes)],
+        FaultKind::NothingRight => &[Slip::Shape(ShapeSlip::NothingRight)],
+        FaultKind::NameTwice => &[Slip::Rule(RuleSlip::TwiceInCell)],
+        FaultKind::LateMove => &[Slip::Rule(RuleSlip::LateMove)],
+        FaultKind::Realtime => &[Slip::Form(FormSlip::RealTime)],
+        _ => &[],
+    }
+}

@@ -1,0 +1,5 @@
+pub mod KeyWordsSought
+pub mod LineWords
+pub mod ObjectNames
+pub mod OwnLines
+pub mod RowsBelow

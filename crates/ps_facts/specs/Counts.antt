@@ -1,0 +1,15 @@
+-- How many rows and cells stand on a side of a rule.
+use Rattle.std.specs.Prelude.{ℕ, ◌+◌, if◌then◌else◌, List, [], ◌∷◌}
+use Rattle.ps_facts.specs.declared.signs.Sign.TheVariants.{Opening, Bar}
+use Rattle.ps_facts.specs.Signs.{is_sign, is_edge}
+
+-- how many cells a row has up to its end, the first bracket or arrow, where so many are before
+abbrev pub cells_from : ℕ → List (List ℕ) → ℕ
+cells_from count [] = count
+cells_from count (word ∷ words) =
+    if is_edge word then count else cells_from (if is_sign Bar word then count + 1 else count) words
+
+-- how many cells each row among words has; a row begins at a `[`, and a bar parts two cells
+abbrev pub cell_counts : List (List ℕ) → List ℕ
+cell_counts [] = []
+cell_counts (word ∷ words) = if is_sign Opening word then cells_from 1 words ∷ cell_counts words else cell_counts words

@@ -1,0 +1,14 @@
+pub mod Counts
+pub mod Declarations
+pub mod FoundSlips
+pub mod Joined
+pub mod KeyWords
+pub mod LayerWords
+pub mod LineWords
+pub mod NamesShown
+pub mod Objects
+pub mod Occurrences
+pub mod Places
+pub mod Signs
+pub mod Slips
+pub mod SpriteLines

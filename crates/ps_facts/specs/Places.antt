@@ -1,0 +1,30 @@
+-- Where a word of a rule stands: in brackets or not, and in which cell.
+use Rattle.std.specs.Prelude.{ℕ, Bool, false, ◌||◌, if◌then◌else◌, List, [], ◌∷◌, fold}
+use Rattle.ps_facts.specs.declared.signs.Sign.{Sign}
+use Rattle.ps_facts.specs.declared.signs.Sign.TheVariants.{Opening, Bar}
+use Rattle.ps_facts.specs.Signs.{is_same, is_sign, is_edge}
+
+-- brackets are open behind a word, where they are or aren't before it
+abbrev pub inside_behind : Bool → List ℕ → Bool
+inside_behind inside word = if is_edge word then is_sign Opening word else inside
+
+-- what follows these words of a line stands in brackets
+abbrev pub is_inside : List (List ℕ) → Bool
+is_inside before = fold inside_behind false before
+
+-- the first bracket or arrow among words is that one
+abbrev pub comes_first : Sign → List (List ℕ) → Bool
+comes_first sign [] = false
+comes_first sign (word ∷ words) = if is_edge word then is_sign sign word else comes_first sign words
+
+-- the word parts cells
+abbrev pub parts_cells : List ℕ → Bool
+parts_cells word = is_edge word || is_sign Bar word
+
+-- a name has stood in the cell behind a word, where it has or hasn't before it
+abbrev pub seen_behind : List ℕ → Bool → List ℕ → Bool
+seen_behind name seen word = if parts_cells word then false else (seen || is_same name word)
+
+-- a name stands in the cell in which these words of a line end
+abbrev pub is_in_cell : List ℕ → List (List ℕ) → Bool
+is_in_cell name before = fold (seen_behind name) false before

@@ -1,0 +1,102 @@
+-- What may be wrong with a word of a line, by the words before it and behind it.
+use Rattle.std.specs.Prelude.{ℕ, ◌%◌, nat_eq, Bool, ◌&&◌, ◌||◌, not, List, [], ◌∷◌, length}
+use Rattle.std.specs.List.{starts_with}
+use Rattle.ps_model.specs.declared.texts.Section.{Section}
+use Rattle.ps_model.specs.declared.texts.Section.TheVariants.{Prelude, Objects, Legend, Rules, Wins}
+use Rattle.ps_facts.specs.declared.signs.Sign.{Sign}
+use Rattle.ps_facts.specs.declared.signs.Sign.TheVariants as sign
+use Rattle.ps_facts.specs.declared.slips.ShapeSlip.{ShapeSlip}
+use Rattle.ps_facts.specs.declared.slips.ShapeSlip.TheVariants.{LikeArrow, NoArrow, SecondArrow, Nested, Unclosed}
+use Rattle.ps_facts.specs.declared.slips.ShapeSlip.TheVariants.{LoneClosing, NothingLeft, NothingRight, BarOutside}
+use Rattle.ps_facts.specs.declared.slips.ShapeSlip.TheVariants.{DirectionOutside, WordOutside}
+use Rattle.ps_facts.specs.declared.slips.RuleSlip.{RuleSlip}
+use Rattle.ps_facts.specs.declared.slips.RuleSlip.TheVariants.{Slashes, LoopWords, MessageAlone, LateMove, Chance, Rigid}
+use Rattle.ps_facts.specs.declared.slips.RuleSlip.TheVariants.{TwiceInCell}
+use Rattle.ps_facts.specs.declared.slips.FormSlip.{FormSlip}
+use Rattle.ps_facts.specs.declared.slips.FormSlip.TheVariants.{NoEquals, NoJoiner, EqualsAsName, LegendEnds, NoQuantifier}
+use Rattle.ps_facts.specs.declared.slips.FormSlip.TheVariants.{NoOn, FurtherWord, WinEnds, SecondName, ThirdName}
+use Rattle.ps_facts.specs.declared.slips.FormSlip.TheVariants.{RealTime}
+use Rattle.ps_facts.specs.declared.slips.Slip.{Slip}
+use Rattle.ps_facts.specs.declared.slips.Slip.TheVariants.{Shape, Rule, Form}
+use Rattle.ps_facts.specs.Places.{is_inside, comes_first, is_in_cell}
+use Rattle.ps_facts.specs.Signs.{is_sign, has_sign, is_edge, is_direction, is_movement, is_quantifier, is_by_chance}
+
+-- the section whose lines have the slip
+abbrev pub section_of : Slip → Section
+section_of (Shape slip) = Rules
+section_of (Rule slip) = Rules
+section_of (Form NoEquals) = Legend
+section_of (Form NoJoiner) = Legend
+section_of (Form EqualsAsName) = Legend
+section_of (Form LegendEnds) = Legend
+section_of (Form NoQuantifier) = Wins
+section_of (Form NoOn) = Wins
+section_of (Form FurtherWord) = Wins
+section_of (Form WinEnds) = Wins
+section_of (Form SecondName) = Objects
+section_of (Form ThirdName) = Objects
+section_of (Form RealTime) = Prelude
+
+-- there are so many words
+abbrev pub are_so_many : ℕ → List (List ℕ) → Bool
+are_so_many count words = nat_eq (length words) count
+
+-- the number of words is odd
+abbrev pub are_odd : List (List ℕ) → Bool
+are_odd words = nat_eq (length words % 2) 1
+
+-- a line of these words lacks the sign
+abbrev pub lacks : Sign → List (List ℕ) → List ℕ → List (List ℕ) → Bool
+lacks sign before word behind = not (has_sign sign before) && (not (is_sign sign word) && not (has_sign sign behind))
+
+-- what is wrong with brackets, bars and arrow
+abbrev pub has_shape_slip : ShapeSlip → List (List ℕ) → List ℕ → List (List ℕ) → Bool
+has_shape_slip LikeArrow before word behind = lacks sign.Arrow before word behind
+has_shape_slip NoArrow before word behind = lacks sign.Arrow before word behind && are_so_many 0 behind
+has_shape_slip SecondArrow before word behind = is_sign sign.Arrow word && has_sign sign.Arrow before
+has_shape_slip Nested before word behind = is_sign sign.Opening word && comes_first sign.Opening behind
+has_shape_slip Unclosed before word behind =
+    is_sign sign.Opening word && (not (comes_first sign.Opening behind) && not (comes_first sign.Closing behind))
+has_shape_slip LoneClosing before word behind = is_sign sign.Closing word && not (is_inside before)
+has_shape_slip NothingLeft before word behind = is_sign sign.Arrow word && not (has_sign sign.Opening before)
+has_shape_slip NothingRight before word behind = is_sign sign.Arrow word && are_so_many 0 behind
+has_shape_slip BarOutside before word behind = is_sign sign.Bar word && not (is_inside before)
+has_shape_slip DirectionOutside before word behind =
+    is_direction word && (has_sign sign.Arrow before && not (is_inside before))
+has_shape_slip WordOutside before word behind =
+    not (is_edge word) && (has_sign sign.Opening before && not (is_inside before))
+
+-- the word begins or ends a loop
+abbrev pub is_loop_word : List ℕ → Bool
+is_loop_word word = is_sign sign.LoopStart word || is_sign sign.LoopEnd word
+
+-- what is wrong with other words of a rule
+abbrev pub has_rule_slip : RuleSlip → List (List ℕ) → List ℕ → List (List ℕ) → Bool
+has_rule_slip Slashes before word behind = starts_with nat_eq word (47 ∷ 47 ∷ [])
+has_rule_slip LoopWords before word behind = is_loop_word word && not (are_so_many 0 behind)
+has_rule_slip MessageAlone before word behind = is_sign sign.Message word && lacks sign.Arrow before word behind
+has_rule_slip LateMove before word behind = is_movement word && (has_sign sign.Late before && is_inside before)
+has_rule_slip Chance before word behind = is_by_chance word
+has_rule_slip Rigid before word behind = is_sign sign.Rigid word
+has_rule_slip TwiceInCell before word behind = is_in_cell word before && is_inside before
+
+-- what is wrong with a word of another section's line
+abbrev pub has_form_slip : FormSlip → List (List ℕ) → List ℕ → List (List ℕ) → Bool
+has_form_slip NoEquals before word behind = are_so_many 1 before && not (is_sign sign.Equals word)
+has_form_slip NoJoiner before word behind =
+    (are_odd before && not (are_so_many 1 before)) && not (is_sign sign.And word || is_sign sign.Or word)
+has_form_slip EqualsAsName before word behind = is_sign sign.Equals word && not (are_odd before)
+has_form_slip LegendEnds before word behind = are_so_many 0 behind && (are_so_many 0 before || are_odd before)
+has_form_slip NoQuantifier before word behind = are_so_many 0 before && not (is_quantifier word)
+has_form_slip NoOn before word behind = are_so_many 2 before && not (is_sign sign.On word)
+has_form_slip FurtherWord before word behind = are_so_many 4 before
+has_form_slip WinEnds before word behind = are_so_many 0 behind && (are_so_many 0 before || are_so_many 2 before)
+has_form_slip SecondName before word behind = are_so_many 1 before
+has_form_slip ThirdName before word behind = are_so_many 2 before
+has_form_slip RealTime before word behind = are_so_many 0 before && is_sign sign.RealTime word
+
+-- what is wrong with a word, with these words before it and behind it in its line
+abbrev pub has_slip : Slip → List (List ℕ) → List ℕ → List (List ℕ) → Bool
+has_slip (Shape slip) before word behind = has_shape_slip slip before word behind
+has_slip (Rule slip) before word behind = has_rule_slip slip before word behind
+has_slip (Form slip) before word behind = has_form_slip slip before word behind

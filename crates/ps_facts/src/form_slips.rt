@@ -1,0 +1,48 @@
+//! Whether a word is wrong in a line of LEGEND, WINCONDITIONS, OBJECTS or the prelude.
+
+ghost use Rattle.std.specs.Prelude.{◌≡◌, true, map};
+ghost use Rattle.ps_text.specs.WordViews.{text_of};
+ghost use Rattle.ps_facts.specs.Slips.{are_odd, has_form_slip};
+
+use crate::signs::{Sign, is_quantifier, is_sign};
+use crate::slips::FormSlip;
+use ps_text::Word;
+
+/// Whether the number of words is odd.
+fn are_odd(words: &[Word<'_>]) -> bool
+    ensures { result ≡ are_odd (map text_of words.now) }
+{
+    words.len() % 2 == 1
+}
+
+/// Whether a word of a line of LEGEND has that slip, with these words before it and behind it.
+fn has_legend_slip(slip: FormSlip, before: &[Word<'_>], word: &str, behind: &[Word<'_>]) -> bool
+    ensures { result ≡ true → has_form_slip slip (map text_of before.now) word.now (map text_of behind.now) ≡ true }
+{
+    match slip {
+        FormSlip::NoEquals => before.len() == 1 && !is_sign(Sign::Equals, word),
+        FormSlip::NoJoiner => are_odd(before)
+            && before.len() != 1
+            && !is_sign(Sign::And, word)
+            && !is_sign(Sign::Or, word),
+        FormSlip::EqualsAsName => is_sign(Sign::Equals, word) && !are_odd(before),
+        FormSlip::LegendEnds => behind.is_empty() && (before.is_empty() || are_odd(before)),
+        _ => false,
+    }
+}
+
+/// Whether a word has that slip, with these words before it and behind it in its line.
+pub fn has_form_slip(slip: FormSlip, before: &[Word<'_>], word: &str, behind: &[Word<'_>]) -> bool
+    ensures { result ≡ true → has_form_slip slip (map text_of before.now) word.now (map text_of behind.now) ≡ true }
+{
+    match slip {
+        FormSlip::NoQuantifier => before.is_empty() && !is_quantifier(word),
+        FormSlip::NoOn => before.len() == 2 && !is_sign(Sign::On, word),
+        FormSlip::FurtherWord => before.len() == 4,
+        FormSlip::WinEnds => behind.is_empty() && (before.is_empty() || before.len() == 2),
+        FormSlip::SecondName => before.len() == 1,
+        FormSlip::ThirdName => before.len() == 2,
+        FormSlip::RealTime => before.is_empty() && is_sign(Sign::RealTime, word),
+        _ => has_legend_slip(slip, before, word, behind),
+    }
+}

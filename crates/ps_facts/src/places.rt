@@ -1,0 +1,69 @@
+//! Where a word of a rule stands, by the words before it and behind it.
+
+ghost use Rattle.std.specs.Prelude.{◌≡◌, ◌||◌, map};
+ghost use Rattle.ps_text.specs.WordViews.{text_of};
+ghost use Rattle.ps_facts.specs.Places.{inside_behind, is_inside, comes_first, seen_behind, is_in_cell, parts_cells};
+
+use crate::signs::{Sign, is_edge, is_sign};
+use ps_text::{Word, same_name};
+
+/// Whether brackets are open behind a word, where they are or aren't before it.
+fn inside_behind(inside: bool, word: &str) -> bool
+    ensures { result ≡ inside_behind inside word.now }
+{
+    if is_edge(word) {
+        return is_sign(Sign::Opening, word);
+    }
+    inside
+}
+
+/// Whether what follows these words stands in brackets.
+pub fn is_inside(before: &[Word<'_>]) -> bool
+    ensures { result ≡ is_inside (map text_of before.now) }
+{
+    let mut inside = false;
+    for word in before {
+        inside = inside_behind(inside, word.text());
+    }
+    inside
+}
+
+/// Whether the first bracket or arrow among words is that one.
+pub fn comes_first(sign: Sign, words: &[Word<'_>]) -> bool
+    ensures { result ≡ comes_first sign (map text_of words.now) }
+{
+    for word in words {
+        if is_edge(word.text()) {
+            return is_sign(sign, word.text());
+        }
+    }
+    false
+}
+
+/// Whether a word parts cells: a bracket, the arrow or a bar.
+fn parts_cells(word: &str) -> bool
+    ensures { result ≡ parts_cells word.now }
+{
+    is_edge(word) || is_sign(Sign::Bar, word)
+}
+
+/// Whether a name has stood in the cell behind a word, where it has or hasn't before it.
+fn seen_behind(name: &str, seen: bool, word: &str) -> bool
+    ensures { result ≡ seen_behind name.now seen word.now }
+{
+    if parts_cells(word) {
+        return false;
+    }
+    seen || same_name(name, word)
+}
+
+/// Whether a name stands before, in the cell in which these words end.
+pub fn is_in_cell(name: &str, before: &[Word<'_>]) -> bool
+    ensures { result ≡ is_in_cell name.now (map text_of before.now) }
+{
+    let mut seen = false;
+    for word in before {
+        seen = seen_behind(name, seen, word.text());
+    }
+    seen
+}

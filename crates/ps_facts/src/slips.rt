@@ -1,0 +1,106 @@
+//! What may be wrong with a word by its place in its line alone.
+
+ghost use Rattle.std.specs.Prelude.{◌≡◌};
+ghost use Rattle.ps_facts.specs.Slips.{section_of};
+
+use ps_model::Section;
+
+/// What may be wrong with brackets, bars and arrow of a rule.
+#[derive(Clone, Copy)]
+pub enum ShapeSlip {
+    /// The line has no `->`; the word is written much like one.
+    LikeArrow,
+    /// The line has no `->`; the word is its last.
+    NoArrow,
+    /// A `->` behind another one.
+    SecondArrow,
+    /// A `[` behind which another one stands before a `]`.
+    Nested,
+    /// A `[` without a `]` behind it, on its side of the arrow.
+    Unclosed,
+    /// A `]` without a `[` before it, on its side of the arrow.
+    LoneClosing,
+    /// A `->` without a `[` before it.
+    NothingLeft,
+    /// A `->` behind which the line ends.
+    NothingRight,
+    /// A `|` outside brackets.
+    BarOutside,
+    /// A direction word outside brackets, behind the arrow.
+    DirectionOutside,
+    /// Another word outside brackets, behind the first `[`.
+    WordOutside,
+}
+
+/// What may be wrong with other words of a rule.
+#[derive(Clone, Copy)]
+pub enum RuleSlip {
+    /// The word begins with `//`.
+    Slashes,
+    /// `startloop` or `endloop` with words behind it.
+    LoopWords,
+    /// `message` in a line without `->`.
+    MessageAlone,
+    /// A movement word in the brackets of a `late` rule.
+    LateMove,
+    /// `random` or `randomdir`.
+    Chance,
+    /// `rigid`.
+    Rigid,
+    /// A word that stands in its cell before too.
+    TwiceInCell,
+}
+
+/// What may be wrong with a word of another section's line.
+#[derive(Clone, Copy)]
+pub enum FormSlip {
+    /// The second word of a line of LEGEND isn't `=`.
+    NoEquals,
+    /// Behind a name of a line of LEGEND stands neither `and` nor `or`.
+    NoJoiner,
+    /// A `=` stands where a line of LEGEND has a name.
+    EqualsAsName,
+    /// A line of LEGEND ends where it has to go on.
+    LegendEnds,
+    /// The first word of a win condition is none of `No`, `Some`, `Any` and `All`.
+    NoQuantifier,
+    /// The third word of a win condition isn't `on`.
+    NoOn,
+    /// The fifth word of a win condition.
+    FurtherWord,
+    /// A win condition ends where a name has to follow.
+    WinEnds,
+    /// The second word of an object's name line, which may be one character.
+    SecondName,
+    /// The third word of an object's name line.
+    ThirdName,
+    /// `realtime_interval` begins a line of the prelude.
+    RealTime,
+}
+
+/// What may be wrong with a word by its place in its line.
+#[derive(Clone, Copy)]
+pub enum Slip {
+    Shape(ShapeSlip),
+    Rule(RuleSlip),
+    Form(FormSlip),
+}
+
+/// The section whose lines have the slip.
+pub fn section_of(slip: Slip) -> Section
+    ensures { result ≡ section_of slip }
+{
+    match slip {
+        Slip::Shape(_) | Slip::Rule(_) => Section::Rules,
+        Slip::Form(form) => match form {
+            FormSlip::NoEquals
+            | FormSlip::NoJoiner
+            | FormSlip::EqualsAsName
+            | FormSlip::LegendEnds => Section::Legend,
+            FormSlip::NoQuantifier | FormSlip::NoOn | FormSlip::FurtherWord | FormSlip::WinEnds =>
+                Section::Wins,
+            FormSlip::SecondName | FormSlip::ThirdName => Section::Objects,
+            FormSlip::RealTime => Section::Prelude,
+        },
+    }
+}

@@ -1,4 +1,0 @@
-use Rattle.ps_why.proofs.found_slips.slip_cause.Goals as goal
-
-pub slips_told-requires-clause-each : goal.slips_told-requires-clause-each
-slips_told-requires-clause-each c = rw c.deref.ensures.value c.in_ok-words.ensures.each
