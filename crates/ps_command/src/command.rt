@@ -16,6 +16,8 @@ pub struct Play<'w> {
     pub keys: Option<&'w str>,
     /// The size of the terminal on which the board is to stay in place, if it is.
     pub size: Option<Size>,
+    /// The file that tells the size from then on, if one does.
+    pub sizes: Option<&'w str>,
 }
 
 /// The version, which `--version` tells.
@@ -56,6 +58,7 @@ pub fn read_command<'w, S: AsStr>(alloc: Global, words: &'w [S]) -> Result<Asked
         .arg(why_option(alloc)?)?
         .arg(keys_option(alloc))?
         .arg(view_option(alloc))?
+        .arg(sizes_option(alloc)?)?
         .arg(explain_option(alloc)?)?;
     let matches = command.try_get_matches_from(words)?;
     asked_by(alloc, &matches)
@@ -71,14 +74,17 @@ fn asked_by<'w>(alloc: Global, matches: &ArgMatches<'w>) -> Result<Asked<'w>, St
     };
     let size = match matches.get_str("view") {
         None => None,
-        Some(word) => Some(size_of(word)?),
+        Some(word) => Some(size_of(word).ok_or(Stop::NoSize)?),
     };
     if matches.get_flag("check") {
         return asked_check(alloc, matches, path);
     }
-    let keys = matches.get_str("keys");
-    let game = path;
-    Ok(Asked::Play(Play { game, keys, size }))
+    Ok(Asked::Play(Play {
+        game: path,
+        keys: matches.get_str("keys"),
+        size,
+        sizes: matches.get_str("sizes"),
+    }))
 }
 
 /// What the matches of a command line ask for that checks texts, the first of which is in this file.
@@ -175,6 +181,16 @@ fn view_option(alloc: Global) -> Arg<'static> {
         .action(ArgAction::Set)
 }
 
+/// `--sizes FILE`.
+fn sizes_option(alloc: Global) -> Result<Arg<'static>, AllocError> {
+    Arg::new(alloc, "sizes")
+        .long("sizes")
+        .value_name("FILE")
+        .help("With --view, takes the size anew from a file, as often as something is drawn")
+        .action(ArgAction::Set)
+        .requires_arg("view")
+}
+
 /// `--explain CODE`.
 fn explain_option(alloc: Global) -> Result<Arg<'static>, AllocError> {
     Arg::new(alloc, "explain")
@@ -182,5 +198,5 @@ fn explain_option(alloc: Global) -> Result<Arg<'static>, AllocError> {
         .value_name("CODE")
         .help("Says in a sentence what the fault of this code is, as RU7")
         .action(ArgAction::Set)
-        .conflicts_with_all(&["GAME", "FURTHER", "check", "why", "keys", "view"])
+        .conflicts_with_all(&["GAME", "FURTHER", "check", "why", "keys", "view", "sizes"])
 }

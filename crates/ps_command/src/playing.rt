@@ -4,15 +4,17 @@ ghost use Rattle.std.specs.Prelude.{◌≡◌, false};
 
 use crate::command::Play;
 use crate::files::read_text;
+use crate::sizes::FileSizes;
 use crate::stops::{Stop, stop_for};
 use ps_devices::{ByteReader, ByteWriter, FromStd};
 use ps_run::{RunFault, run};
-use ps_view::{Lent, Size, Viewed};
+use ps_view::{Lent, Size, SizeTeller, Viewed};
 use std::fs;
 use std::rt::Files;
 
-/// Plays a game: on the screen as it is, or in a view of that size, in which the board stays in place. Where its text
-/// comes from standard input, the keys are what stands behind it there, unless a file has them.
+/// Plays a game: on the screen as it is, or in a view of that size, or of another one that a file tells meanwhile, in
+/// which the board stays in place. Where its text comes from standard input, the keys are what stands behind it there,
+/// unless a file has them.
 pub fn play_asked<R: Files + AllocGlobal, I: ByteReader, O: ByteWriter>(
     rt: &R,
     asked: Play<'_>,
@@ -25,23 +27,27 @@ pub fn play_asked<R: Files + AllocGlobal, I: ByteReader, O: ByteWriter>(
     let text = read_text(rt, asked.game, keys)?;
     match asked.size {
         None => play_from(rt, &text, asked.keys, keys, screen),
-        Some(size) => play_in_view(rt, &text, asked.keys, size, keys, screen),
+        Some(size) => {
+            let sizes = FileSizes::new(rt, asked.sizes);
+            play_in_view(rt, &text, asked.keys, size, sizes, keys, screen)
+        }
     }
 }
 
 /// Plays a game in a view.
-fn play_in_view<R: Files + AllocGlobal, I: ByteReader, O: ByteWriter>(
+fn play_in_view<R: Files + AllocGlobal, S: SizeTeller, I: ByteReader, O: ByteWriter>(
     rt: &R,
     text: &[u8],
     file: Option<&str>,
     size: Size,
+    sizes: S,
     keys: &mut I,
     screen: &mut O,
 ) -> Result<(), Stop>
     requires heard { (I.state keys.old).has_failed ≡ false }
     requires well { (O.state screen.old).has_failed ≡ false }
 {
-    let mut view = Viewed::new(rt.alloc(), size, Lent::new(screen));
+    let mut view = Viewed::new(rt.alloc(), size, sizes, Lent::new(screen));
     let played = play_from(rt, text, file, keys, &mut view);
     if view.wants_memory() {
         return Err(Stop::Run(RunFault::Memory));

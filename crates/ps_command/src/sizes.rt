@@ -1,18 +1,58 @@
-//! The size of a terminal, as a command line gives it.
+//! The size of a terminal, as a word gives it, on a command line or in a file.
 
-use crate::stops::Stop;
-use ps_view::Size;
+use ps_view::{Size, SizeTeller};
+use std::fs;
+use std::io::Read;
+use std::rt::Files;
+
+/// How many bytes of a file are looked at: a size has fewer.
+const MOST_BYTES: usize = 16;
 
 /// The size that a word gives: how many rows, `x`, and how many columns, as in `24x80`.
-pub fn size_of(word: &str) -> Result<Size, Stop> {
-    let Some((rows, columns)) = word.split_once('x') else {
-        return Err(Stop::NoSize);
-    };
+pub fn size_of(word: &str) -> Option<Size> {
+    let (rows, columns) = word.split_once('x')?;
     let (Ok(rows), Ok(columns)) = (rows.parse::<u16>(), columns.parse::<u16>()) else {
-        return Err(Stop::NoSize);
+        return None;
     };
-    match Size::new(usize::from(rows), usize::from(columns)) {
-        Some(size) => Ok(size),
-        None => Err(Stop::NoSize),
+    Size::new(usize::from(rows), usize::from(columns))
+}
+
+/// The size that a file gives, which may end with a line feed.
+fn size_in<R: Files>(rt: &R, path: &str) -> Option<Size> {
+    let mut bytes = [0u8; MOST_BYTES];
+    let mut file = fs::open(rt, path).ok()?;
+    let count = file.read(&mut bytes).ok()?;
+    let text = std::str::from_utf8(&bytes[..count]).ok()?;
+    size_of(text.strip_suffix('\n').unwrap_or(text))
+}
+
+/// Tells the size that a file gives, as often as it is asked; none where there is no file, or no size in it.
+#[derive(Drop)]
+pub struct FileSizes<'r, R: Files> {
+    rt: &'r R,
+    path: Option<&'r str>,
+    told: Option<Size>,
+}
+
+impl<'r, R: Files> FileSizes<'r, R> {
+    /// Tells the size that this file gives, if one is named.
+    pub fn new(rt: &'r R, path: Option<&'r str>) -> FileSizes<'r, R> {
+        FileSizes {
+            rt,
+            path,
+            told: None,
+        }
+    }
+}
+
+impl<'r, R: Files> SizeTeller for FileSizes<'r, R> {
+    ghost told = { λ teller. teller.told };
+
+    fn size_now(&mut self) -> Option<Size> {
+        self.told = match self.path {
+            None => None,
+            Some(path) => size_in(self.rt, path),
+        };
+        self.told
     }
 }

@@ -1,5 +1,6 @@
 -- Views whose rows have no orders: from the first byte on.
 use Rattle.std.proofs.Common.{ℕ, ◌-◌, ◌==◌, true, false, List, [], ◌∷◌, ◌++◌, length}
+use Rattle.std.specs.Prelude.{Option, Some, None, ◌||◌}
 use Rattle.std.proofs.lemmas.List.Elements.{All-nil, All-cons, All-append}
 use Rattle.ps_view.specs.declared.line_kinds.LineKind.{LineKind}
 use Rattle.ps_view.specs.declared.line_kinds.LineKind.TheVariants.{Title, Level, Message, LevelDone, Ending, Empty, Row}
@@ -13,7 +14,9 @@ use Rattle.ps_view.specs.Screens.{Told, keys_line, news_rows, rows_below, screen
 use Rattle.ps_view.specs.Views.{View, Step, blank_view, quietly, drawn, with_news}
 use Rattle.ps_view.specs.Views.{with_frame}
 use Rattle.ps_view.specs.Views.{with_byte, go_on, line_told, byte_step, view_behind}
-use Rattle.ps_view.specs.Bounds.{IsHarmlessRow, AreHarmlessRows, ScreensAreHarmless}
+use Rattle.ps_view.specs.Views.{is_size, with_size, anew, size_step, told_step, piece_step}
+use Rattle.ps_view.specs.Pieces.{Piece, view_behind_pieces}
+use Rattle.ps_view.specs.Bounds.{IsHarmlessRow, AreHarmlessRows, ScreensAreHarmless, ScreensOfPiecesAreHarmless}
 use Rattle.ps_view.proofs.HarmlessRows.{text_is_harmless, cut_is_harmless, wrapped_is_harmless, shortened_are_harmless}
 use Rattle.ps_view.proofs.HarmlessRows.{part_is_harmless}
 
@@ -106,7 +109,40 @@ bytes_keep_harmless view [] is = is
 bytes_keep_harmless view (byte ∷ bytes) is =
     bytes_keep_harmless (byte_step view byte).view bytes (byte_keeps_harmless view byte is)
 
+none : (size : Size) → IsHarmless (blank_view size)
+none size = record { frame = no_rows; begun = no_rows; screen = no_rows }
+
 pub screens_are_harmless : ScreensAreHarmless
-screens_are_harmless size output =
-    let none : IsHarmless (blank_view size) = record { frame = no_rows; begun = no_rows; screen = no_rows } in
-    (bytes_keep_harmless (blank_view size) output none).screen
+screens_are_harmless size output = (bytes_keep_harmless (blank_view size) output (none size)).screen
+
+-- another size
+anew_is_harmless : (view : View) (size : Size) → IsHarmless view → IsHarmless (anew view size).view
+anew_is_harmless view size is =
+    let there : View = with_size view size in
+    elim view.is_open as (λ was_open. IsHarmless
+    (let step : Step = elim was_open [ true ↦ drawn there | false ↦ quietly there ] in step.view)) [
+      | true ↦ drawn_is_harmless there is.frame is.begun
+      | false ↦ record { frame = is.frame; begun = is.begun; screen = no_rows }
+    ]
+
+size_keeps_harmless : (view : View) (size : Size) → IsHarmless view → IsHarmless (size_step view size).view
+size_keeps_harmless view size is =
+    elim (is_size view.size size || view.is_over) as (λ stays. IsHarmless
+    (let step : Step = elim stays [ true ↦ quietly view | false ↦ anew view size ] in step.view)) [
+      | true ↦ is
+      | false ↦ anew_is_harmless view size is
+    ]
+
+told_keeps_harmless : (view : View) (told : Option Size) → IsHarmless view → IsHarmless (told_step view told).view
+told_keeps_harmless view None is = is
+told_keeps_harmless view (Some size) is = size_keeps_harmless view size is
+
+pieces_keep_harmless : (view : View) (pieces : List Piece) → IsHarmless view →
+    IsHarmless (view_behind_pieces view pieces)
+pieces_keep_harmless view [] is = is
+pieces_keep_harmless view (piece ∷ pieces) is =
+    pieces_keep_harmless (piece_step view piece.told piece.bytes).view pieces
+    (bytes_keep_harmless (told_step view piece.told).view piece.bytes (told_keeps_harmless view piece.told is))
+
+pub screens_of_pieces_are_harmless : ScreensOfPiecesAreHarmless
+screens_of_pieces_are_harmless size pieces = (pieces_keep_harmless (blank_view size) pieces (none size)).screen

@@ -6,3 +6,4 @@ pub mod HarmlessViews
 pub mod Heights
 pub mod Widths
 mod ViewRows
+pub mod OneSize

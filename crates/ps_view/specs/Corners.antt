@@ -4,6 +4,7 @@
 use Rattle.std.specs.Prelude.{ℕ, suc, ◌+◌, ◌-◌, ◌/◌, ◌==◌, nat_eq, nat_lt, nat_le, Bool, true, false, if◌then◌else◌}
 use Rattle.std.specs.Prelude.{List, [], ◌∷◌, ◌++◌, length, take, drop, map, fold, max, min, slice_index_or}
 use Rattle.std.specs.Str.{bytes_eq}
+use Rattle.ps_view.specs.declared.corners.Cell.{Cell}
 use Rattle.ps_view.specs.declared.corners.Corner.{Corner}
 use Rattle.ps_view.specs.HarmlessTexts.{columns_of}
 use Rattle.ps_view.specs.Rows.{more_mark}
@@ -64,13 +65,31 @@ moved_in room count place shown = let size : ℕ = room - 2 in moved size (min p
 abbrev pub row_in : List (List ℕ) → ℕ → List ℕ
 row_in frame place = slice_index_or frame place []
 
--- where the part is of a frame behind another one, in so many rows of so many columns
-abbrev pub corner_moved : ℕ → ℕ → Corner → List (List ℕ) → List (List ℕ) → Corner
-corner_moved rows columns corner before frame =
-    let row : ℕ = alike bytes_eq before frame in
-    if row == length frame then corner
-    else record {
-      top = moved_in rows (length frame) corner.top row;
-      left = moved_in (room_across columns frame) (length (row_in frame row)) corner.left
-          (alike nat_eq (row_in before row) (row_in frame row));
+-- where the part of a frame that began at a corner begins then, in so many rows of so many columns, so that it shows a
+-- cell
+abbrev pub corner_showing : ℕ → ℕ → Corner → List (List ℕ) → Cell → Corner
+corner_showing rows columns corner frame cell = record {
+  top = moved_in rows (length frame) corner.top cell.row;
+  left = moved_in (room_across columns frame) (length (row_in frame cell.row)) corner.left cell.column;
+}
+
+-- the first cell of a frame that isn't as it was in another one; below the last row where each row is
+abbrev pub first_changed : List (List ℕ) → List (List ℕ) → Cell
+first_changed before frame =
+    let row : ℕ = alike bytes_eq before frame in record {
+      row = row;
+      column = alike nat_eq (row_in before row) (row_in frame row);
     }
+
+-- where the part of a frame is in which that cell changed, if one did
+abbrev pub corner_behind : ℕ → ℕ → Corner → List (List ℕ) → Cell → Corner
+corner_behind rows columns corner frame changed =
+    if changed.row == length frame then corner else corner_showing rows columns corner frame changed
+
+-- where the part is of a frame behind another one
+abbrev pub corner_moved : ℕ → ℕ → Corner → List (List ℕ) → List (List ℕ) → Corner
+corner_moved rows columns corner before frame = corner_behind rows columns corner frame (first_changed before frame)
+
+-- the cell that changed last, where that one did in a frame, if one did
+abbrev pub changed_behind : Cell → List (List ℕ) → Cell → Cell
+changed_behind last frame changed = if changed.row == length frame then last else changed

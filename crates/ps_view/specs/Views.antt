@@ -1,7 +1,9 @@
 -- The view of a run: what a terminal of some size is handed for the bytes of the run's output. Bytes are gathered until
 -- a line feed ends their line; then the line is told. A whole frame, a message and the ending are drawn at once, by the
--- rows that they change; the title and the level with what comes next.
-use Rattle.std.specs.Prelude.{ℕ, ◌-◌, ◌==◌, Bool, true, false, List, [], ◌∷◌, ◌++◌, length, codes}
+-- rows that they change; the title and the level with what comes next. Where the terminal has another size, all is drawn
+-- anew.
+use Rattle.std.specs.Prelude.{ℕ, ◌-◌, ◌==◌, Bool, true, false, ◌&&◌, ◌||◌, Option, Some, None, List, [], ◌∷◌, ◌++◌, length, codes}
+use Rattle.ps_view.specs.declared.corners.Cell.{Cell}
 use Rattle.ps_view.specs.declared.corners.Corner.{Corner}
 use Rattle.ps_view.specs.declared.sizes.Size.{Size}
 use Rattle.ps_view.specs.declared.line_kinds.LineKind.{LineKind}
@@ -9,17 +11,19 @@ use Rattle.ps_view.specs.declared.line_kinds.LineKind.TheVariants.{Title, Level,
 use Rattle.ps_view.specs.HarmlessTexts.{harmless_text}
 use Rattle.ps_view.specs.LineKinds.{kind_of}
 use Rattle.ps_view.specs.Orders.{opening_orders, at_row, closing_orders}
-use Rattle.ps_view.specs.Corners.{corner_moved}
+use Rattle.ps_view.specs.Corners.{corner_moved, corner_showing, first_changed, changed_behind}
 use Rattle.ps_view.specs.Screens.{Told, screen_of, changes}
 
 -- a view: the size of the terminal; what is told beside the board; the rows of the last whole frame, as characters,
--- the corner of the part of it that is shown, and the rows of the frame that has begun; the bytes of the line that
--- has begun; what the rows of the terminal show; whether anything was drawn yet; and whether the ending was
+-- the corner of the part of it that is shown, the cell that changed last, and the rows of the frame that has begun; the
+-- bytes of the line that has begun; what the rows of the terminal show; whether anything was drawn yet; and whether the
+-- ending was
 pub record View : Type 0 where
   pub size : Size
   pub told : Told
   pub frame : List (List ℕ)
   pub corner : Corner
+  pub changed : Cell
   pub begun : List (List ℕ)
   pub line : List ℕ
   pub screen : List (List ℕ)
@@ -35,6 +39,10 @@ pub record Step : Type 0 where
 abbrev pub first_corner : Corner
 first_corner = record { top = 0; left = 0 }
 
+-- its first cell
+abbrev pub first_cell : Cell
+first_cell = record { row = 0; column = 0 }
+
 -- a view before the first byte
 abbrev pub blank_view : Size → View
 blank_view size = record {
@@ -42,6 +50,7 @@ blank_view size = record {
   told = record { title = []; level = []; news = [] };
   frame = [];
   corner = first_corner;
+  changed = first_cell;
   begun = [];
   line = [];
   screen = [];
@@ -93,6 +102,7 @@ with_level view level = record view {
   told = record { title = view.told.title; level = level; news = [] };
   frame = [];
   corner = first_corner;
+  changed = first_cell;
   line = [];
 }
 
@@ -113,6 +123,7 @@ with_frame view = record view {
   told = record { title = view.told.title; level = view.told.level; news = [] };
   frame = view.begun;
   corner = corner_of_begun view;
+  changed = changed_behind view.changed view.begun (first_changed view.frame view.begun);
   begun = [];
   line = [];
 }
@@ -171,3 +182,45 @@ handed_on view (byte ∷ bytes) =
 -- what a terminal of that size is handed for an output
 abbrev pub view_of : Size → List ℕ → List ℕ
 view_of size output = handed_on (blank_view size) output
+
+-- sizes ---------------------------------------------------------------------------------------------------------------
+
+-- so many rows and so many columns are those
+abbrev pub is_size : Size → Size → Bool
+is_size size other = size.rows == other.rows && size.columns == other.columns
+
+-- the view for a terminal of that size, of which nothing is drawn: the part of the frame shows the cell that changed last
+abbrev pub with_size : View → Size → View
+with_size view size = record view {
+  size = size;
+  corner = corner_showing (size.rows - 4) size.columns view.corner view.frame view.changed;
+  screen = [];
+  is_open = false;
+}
+
+-- the terminal has another size: all that was drawn is drawn anew
+abbrev pub anew : View → Size → Step
+anew view size = elim view.is_open [
+  | true ↦ drawn (with_size view size)
+  | false ↦ quietly (with_size view size)
+]
+
+-- the terminal has that size; behind the ending none is heard
+abbrev pub size_step : View → Size → Step
+size_step view size = elim (is_size view.size size || view.is_over) [
+  | true ↦ quietly view
+  | false ↦ anew view size
+]
+
+-- a size that is told, or none
+abbrev pub told_step : View → Option Size → Step
+told_step view None = quietly view
+told_step view (Some size) = size_step view size
+
+-- a piece of the output, before which a size is told, or none
+abbrev pub piece_step : View → Option Size → List ℕ → Step
+piece_step view told bytes =
+    let step : Step = told_step view told in record {
+      view = view_behind step.view bytes;
+      bytes = step.bytes ++ handed_on step.view bytes;
+    }

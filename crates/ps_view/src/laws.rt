@@ -1,7 +1,7 @@
 //! Laws of views.
 
-ghost use Rattle.ps_view.specs.Pieces.{PiecesAreAsTheWhole, PiecesLeaveTheSame};
-ghost use Rattle.ps_view.specs.Bounds.{RowsFit, ScreensAreHarmless, ScreensFit};
+ghost use Rattle.ps_view.specs.Pieces.{OneSizeIsAsTheWhole, PiecesAreAsTheWhole, PiecesLeaveTheSame};
+ghost use Rattle.ps_view.specs.Bounds.{RowsFit, ScreensAreHarmless, ScreensFit, ScreensOfPiecesAreHarmless};
 
 /// An output that comes in pieces has the view of the whole, however it is cut.
 pub fn pieces_are_as_the_whole()
@@ -9,10 +9,16 @@ pub fn pieces_are_as_the_whole()
     ensures view { PiecesLeaveTheSame }
 {}
 
+/// As long as no other size is told, sizes make no difference: what is handed on is the view of the whole output.
+pub fn one_size_is_as_the_whole()
+    ensures { OneSizeIsAsTheWhole }
+{}
+
 /// Whatever an output has, no row that is shown has a character that a terminal takes as an order; so all orders that
-/// are handed on are the view's own.
+/// are handed on are the view's own. So it is whatever sizes are told between pieces.
 pub fn screens_are_harmless()
-    ensures { ScreensAreHarmless }
+    ensures whole { ScreensAreHarmless }
+    ensures pieces { ScreensOfPiecesAreHarmless }
 {}
 
 /// A screen has no more rows than the terminal, and none of its rows covers more columns.

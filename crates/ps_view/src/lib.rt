@@ -1,7 +1,7 @@
 //! A view of a run: a device above another, which takes the bytes of a run's output and hands on what a terminal of so
 //! many rows and columns is to show.
 //!
-//! [`Viewed`] is a `ByteWriter`. Each frame stands at the top, in place of the last one, and lines of their own below
+//! [`Viewed`] is a `ByteWriter`. It asks a [`SizeTeller`] for the size, and draws all anew where that changes. Each frame stands at the top, in place of the last one, and lines of their own below
 //! it tell the title, the level, the keys and what is told last.
 #![tactic(auto)]
 
@@ -17,13 +17,17 @@ mod parts;
 mod rows;
 mod screens;
 mod sizes;
+mod tellers;
 mod texts;
 mod viewed;
 mod views;
 
-pub use laws::{pieces_are_as_the_whole, screens_are_harmless, screens_fit};
+pub use laws::{
+    one_size_is_as_the_whole, pieces_are_as_the_whole, screens_are_harmless, screens_fit,
+};
 pub use lent::Lent;
 pub use ps_devices::{ByteWriter, Failed};
 pub use ps_model::Memory;
 pub use sizes::Size;
+pub use tellers::SizeTeller;
 pub use viewed::Viewed;

@@ -3,19 +3,22 @@
 ghost use Rattle.std.specs.Prelude.{◌≡◌, ◌+◌, ◌<◌, ◌≤◌, ◌||◌, ℕ, None, true, false, length, take, IfOk, OnOk, OnErr};
 ghost use Rattle.std.specs.Prelude.{IsErr};
 ghost use Rattle.ps_devices.specs.Devices.{Grows, most_calls};
-ghost use Rattle.ps_view.specs.Views.{blank_view, handed_on, view_behind};
+ghost use Rattle.ps_view.specs.Views.{blank_view, piece_step};
 
 use crate::lines::Line;
 use crate::sizes::Size;
+use crate::tellers::SizeTeller;
 use crate::views::TerminalView;
 use ps_devices::{ByteWriter, Failed, write_whole};
 use std::alloc::Global;
 
-/// A writer that takes the output of a run, in whatever pieces, and hands on to another what a terminal is to show.
-/// It can't tell which bytes it took, and tells the rest. What it hands on is in the contract of its `write_some`.
+/// A writer that takes the output of a run, in whatever pieces, and hands on to another what a terminal is to show,
+/// whose size it asks for before each piece. It can't tell which bytes it took, and tells the rest. What it hands on
+/// is in the contract of its `write_some`.
 #[derive(Drop)]
-pub struct Viewed<W: ByteWriter> {
+pub struct Viewed<W: ByteWriter, S: SizeTeller> {
     writer: W,
+    sizes: S,
     view: TerminalView,
     orders: Line,
     wants_memory: bool,
@@ -25,10 +28,11 @@ pub struct Viewed<W: ByteWriter> {
     ghost empty: { empty_calls ≤ calls },
 }
 
-impl<W: ByteWriter> Viewed<W> {
-    /// A view for a terminal of that size, above a writer. Nothing is written yet.
-    pub fn new(alloc: Global, size: Size, writer: W) -> Viewed<W>
+impl<W: ByteWriter, S: SizeTeller> Viewed<W, S> {
+    /// A view for a terminal of that size, above a writer, and beside what tells other sizes. Nothing is written yet.
+    pub fn new(alloc: Global, size: Size, sizes: S, writer: W) -> Viewed<W, S>
         ensures writer { result.writer ≡ writer }
+        ensures sizes { result.sizes ≡ sizes }
         ensures view { result.view ≡ blank_view size }
         ensures memory { result.wants_memory ≡ false }
         ensures worn { result.is_worn ≡ false }
@@ -37,6 +41,7 @@ impl<W: ByteWriter> Viewed<W> {
     {
         Viewed {
             writer,
+            sizes,
             view: TerminalView::new(alloc, size),
             orders: Line::new(alloc),
             wants_memory: false,
@@ -57,6 +62,7 @@ impl<W: ByteWriter> Viewed<W> {
     /// Counts one more call, of a piece with bytes or without. It fails where the count can't grow.
     fn count_call(&mut self, is_empty: bool) -> Result<(), Failed>
         ensures writer { self.new.writer ≡ self.old.writer }
+        ensures sizes { self.new.sizes ≡ self.old.sizes }
         ensures view { self.new.view ≡ self.old.view }
         ensures memory { self.new.wants_memory ≡ self.old.wants_memory }
         ensures well { OnOk result (self.new.is_worn ≡ self.old.is_worn) }
@@ -80,11 +86,12 @@ impl<W: ByteWriter> Viewed<W> {
         Ok(())
     }
 
-    /// Takes bytes of the output, and gathers what is handed on for them.
-    fn gather(&mut self, bytes: &[u8]) -> Result<(), Failed>
+    /// Takes a size, if one is told, and bytes of the output, and gathers what is handed on for them.
+    fn gather(&mut self, told: Option<Size>, bytes: &[u8]) -> Result<(), Failed>
         ensures writer { self.new.writer ≡ self.old.writer }
-        ensures view { OnOk result (self.new.view ≡ view_behind self.old.view bytes.now) }
-        ensures orders { OnOk result (self.new.orders ≡ handed_on self.old.view bytes.now) }
+        ensures sizes { self.new.sizes ≡ self.old.sizes }
+        ensures view { OnOk result (self.new.view ≡ (piece_step self.old.view told bytes.now).view) }
+        ensures orders { OnOk result (self.new.orders ≡ (piece_step self.old.view told bytes.now).bytes) }
         ensures well { OnOk result (self.new.wants_memory ≡ self.old.wants_memory) }
         ensures told { OnErr result (self.new.wants_memory ≡ true) }
         ensures worn { self.new.is_worn ≡ self.old.is_worn }
@@ -92,7 +99,7 @@ impl<W: ByteWriter> Viewed<W> {
         ensures empty_calls { self.new.empty_calls ≡ self.old.empty_calls }
     {
         self.orders.clear();
-        if self.view.take(bytes, &mut self.orders).is_err() {
+        if self.view.take_piece(told, bytes, &mut self.orders).is_err() {
             self.wants_memory = true;
             return Err(Failed);
         }
@@ -100,7 +107,7 @@ impl<W: ByteWriter> Viewed<W> {
     }
 }
 
-impl<W: ByteWriter> ByteWriter for Viewed<W> {
+impl<W: ByteWriter, S: SizeTeller> ByteWriter for Viewed<W, S> {
     ghost state = { λ device. record {
       contents = None;
       has_failed = (W.state device.writer).has_failed || (device.wants_memory || device.is_worn);
@@ -109,17 +116,19 @@ impl<W: ByteWriter> ByteWriter for Viewed<W> {
       short_calls = 0;
     } };
 
-    /// Takes all of `bytes`, and hands on what the view makes of them, which may be nothing: then the writer below
-    /// isn't called. It fails where a growth is refused, with the writer not called; where that writer fails, which has
+    /// Asks for the size of the terminal, takes all of `bytes`, and hands on what the view makes of both, which may be
+    /// nothing: then the writer below isn't called. It fails where a growth is refused, with the writer not called; where that writer fails, which has
     /// a front of what was to be handed on then; and behind the `u64::MAX`th call.
     fn write_some(&mut self, bytes: &[u8]) -> Result<usize, Failed>
         requires well { ((W.state self.old.writer).has_failed || (self.old.wants_memory || self.old.is_worn)) ≡ false }
         ensures count { IfOk result (λ count. count ≡ length bytes.now) }
         ensures shown { OnOk result (Grows (W.state self.old.writer).contents (W.state self.new.writer).contents
-            (handed_on self.old.view bytes.now)) }
-        ensures view { OnOk result (self.new.view ≡ view_behind self.old.view bytes.now) }
+            (piece_step self.old.view (S.told self.new.sizes) bytes.now).bytes) }
+        ensures view { OnOk result
+            (self.new.view ≡ (piece_step self.old.view (S.told self.new.sizes) bytes.now).view) }
         ensures front { OnErr result ((count : ℕ) × Grows (W.state self.old.writer).contents
-            (W.state self.new.writer).contents (take count (handed_on self.old.view bytes.now))) }
+            (W.state self.new.writer).contents
+            (take count (piece_step self.old.view (S.told self.new.sizes) bytes.now).bytes)) }
         ensures unwritten { OnErr result (self.new.wants_memory ≡ true → self.new.writer ≡ self.old.writer) }
         ensures well { OnOk result
             (((W.state self.new.writer).has_failed || (self.new.wants_memory || self.new.is_worn)) ≡ false) }
@@ -134,7 +143,8 @@ impl<W: ByteWriter> ByteWriter for Viewed<W> {
         ensures none { most_calls ≤ self.old.calls → self.new.empty_calls ≡ self.old.empty_calls }
     {
         self.count_call(bytes.is_empty())?;
-        self.gather(bytes)?;
+        let told = self.sizes.size_now();
+        self.gather(told, bytes)?;
         write_whole(self.orders.bytes(), &mut self.writer)?;
         Ok(bytes.len())
     }

@@ -1,12 +1,13 @@
 //! A view in the making: the bytes of an output, one after the other.
 
-ghost use Rattle.std.specs.Prelude.{◌≡◌, ◌++◌, List, ℕ, OnOk, false, true, ◌==◌};
+ghost use Rattle.std.specs.Prelude.{◌≡◌, ◌++◌, List, ℕ, OnOk, false, true, ◌==◌, ◌&&◌};
 ghost use Rattle.ps_view.specs.LineKinds.{kind_of};
-ghost use Rattle.ps_view.specs.Views.{blank_view, byte_step, drawn, handed_on, left, line_told, view_behind};
+ghost use Rattle.ps_view.specs.Views.{anew, blank_view, byte_step, drawn, handed_on, is_size, left, line_told};
+ghost use Rattle.ps_view.specs.Views.{piece_step, size_step, told_step, view_behind, with_size};
 ghost use Rattle.ps_view.specs.declared.line_kinds.LineKind.TheVariants.{Title, Level, Message, Ending, Empty, Row};
 
 use crate::changes::{add_changes, add_closing, add_opening};
-use crate::corners::{Corner, corner_moved};
+use crate::corners::{Cell, Corner, changed_behind, corner_behind, corner_showing, first_changed};
 use crate::harmless_texts::harmless_text;
 use crate::line_kinds::{LineKind, kind_of};
 use crate::lines::Line;
@@ -24,6 +25,9 @@ const GO_ON: &[u8] = b" [x]";
 /// The upper left corner of a frame.
 const FIRST_CORNER: Corner = Corner { top: 0, left: 0 };
 
+/// Its first cell.
+const FIRST_CELL: Cell = Cell { row: 0, column: 0 };
+
 /// How many rows stand below a frame where nothing is told last.
 const ROWS_BELOW: usize = 4;
 
@@ -35,6 +39,7 @@ pub struct TerminalView {
     told: ToldLines,
     frame: Vec<Text>,
     corner: Corner,
+    changed: Cell,
     begun: Vec<Text>,
     line: Line,
     screen: Vec<Text>,
@@ -53,6 +58,7 @@ impl Model for TerminalView {
       told = told_of view.told;
       frame = view.frame.items;
       corner = view.corner;
+      changed = view.changed;
       begun = view.begun.items;
       line = view.line;
       screen = view.screen.items;
@@ -76,6 +82,7 @@ impl TerminalView {
             },
             frame: Vec::new(alloc),
             corner: FIRST_CORNER,
+            changed: FIRST_CELL,
             begun: Vec::new(alloc),
             line: Line::new(alloc),
             screen: Vec::new(alloc),
@@ -84,12 +91,97 @@ impl TerminalView {
         }
     }
 
+    /// Takes the size of the terminal, if it is told, and adds what the terminal is handed for it: where it is another
+    /// one than before, all that was drawn is drawn anew.
+    ///
+    /// # Errors
+    ///
+    /// `Memory`, and the view is of no use any more; some of what is handed on may have been added.
+    fn take_size(&mut self, told: Option<Size>, orders: &mut Line) -> Result<(), Memory>
+        ensures view { OnOk result (self.new ≡ (told_step self.old told).view) }
+        ensures added { OnOk result (orders.new ≡ orders.old ++ (told_step self.old told).bytes) }
+    {
+        match told {
+            None => Ok(()),
+            Some(size) => self.resize(size, orders),
+        }
+    }
+
+    /// Whether the size is that.
+    fn has_size(&self, size: Size) -> bool
+        ensures { result ≡ is_size self.now.size size }
+    {
+        self.size.rows() == size.rows() && self.size.columns() == size.columns()
+    }
+
+    /// Takes another size, of which nothing is drawn yet.
+    fn set_size(&mut self, size: Size)
+        ensures { self.new ≡ with_size self.old size }
+    {
+        let rows = size.rows() - ROWS_BELOW;
+        let columns = size.columns();
+        self.corner = corner_showing(rows, columns, self.corner, &self.frame, self.changed);
+        self.size = size;
+        self.screen.clear();
+        self.is_open = false;
+    }
+
+    /// Takes another size, and draws all.
+    fn draw_in(&mut self, size: Size, orders: &mut Line) -> Result<(), Memory>
+        ensures view { OnOk result (self.new ≡ (drawn (with_size self.old size)).view) }
+        ensures added { OnOk result (orders.new ≡ orders.old ++ (drawn (with_size self.old size)).bytes) }
+    {
+        self.set_size(size);
+        self.draw(orders)
+    }
+
+    /// Takes another size, and draws all anew that was drawn.
+    fn draw_anew(&mut self, size: Size, orders: &mut Line) -> Result<(), Memory>
+        ensures view { OnOk result (self.new ≡ (anew self.old size).view) }
+        ensures added { OnOk result (orders.new ≡ orders.old ++ (anew self.old size).bytes) }
+    {
+        if self.is_open {
+            return self.draw_in(size, orders);
+        }
+        self.set_size(size);
+        Ok(())
+    }
+
+    /// Draws all anew where the size is another one than before.
+    fn resize(&mut self, size: Size, orders: &mut Line) -> Result<(), Memory>
+        ensures view { OnOk result (self.new ≡ (size_step self.old size).view) }
+        ensures added { OnOk result (orders.new ≡ orders.old ++ (size_step self.old size).bytes) }
+    {
+        if self.has_size(size) || self.is_over {
+            return Ok(());
+        }
+        self.draw_anew(size, orders)
+    }
+
+    /// Takes a size, if one is told, and bytes of the output, and adds what the terminal is handed for both.
+    ///
+    /// # Errors
+    ///
+    /// `Memory`, and the view is of no use any more; some of what is handed on may have been added.
+    pub fn take_piece(
+        &mut self,
+        told: Option<Size>,
+        bytes: &[u8],
+        orders: &mut Line,
+    ) -> Result<(), Memory>
+        ensures view { OnOk result (self.new ≡ (piece_step self.old told bytes.now).view) }
+        ensures added { OnOk result (orders.new ≡ orders.old ++ (piece_step self.old told bytes.now).bytes) }
+    {
+        self.take_size(told, orders)?;
+        self.take(bytes, orders)
+    }
+
     /// Takes bytes of the output, and adds what the terminal is handed for them.
     ///
     /// # Errors
     ///
     /// `Memory`, and the view is of no use any more; some of what is handed on may have been added.
-    pub fn take(&mut self, bytes: &[u8], orders: &mut Line) -> Result<(), Memory>
+    fn take(&mut self, bytes: &[u8], orders: &mut Line) -> Result<(), Memory>
         ensures view { OnOk result (self.new ≡ view_behind self.old bytes.now) }
         ensures added { OnOk result (orders.new ≡ orders.old ++ handed_on self.old bytes.now) }
     {
@@ -156,6 +248,7 @@ impl TerminalView {
         self.told.news.clear();
         self.frame.clear();
         self.corner = FIRST_CORNER;
+        self.changed = FIRST_CELL;
     }
 
     /// Tells a message.
@@ -189,7 +282,9 @@ impl TerminalView {
     {
         let rows = self.size.rows() - ROWS_BELOW;
         let columns = self.size.columns();
-        self.corner = corner_moved(rows, columns, self.corner, &self.frame, &self.begun);
+        let changed = first_changed(&self.frame, &self.begun);
+        self.corner = corner_behind(rows, columns, self.corner, &self.begun, changed);
+        self.changed = changed_behind(self.changed, &self.begun, changed);
         mem::swap(&mut self.frame, &mut self.begun);
         self.begun.clear();
         self.line.clear();
