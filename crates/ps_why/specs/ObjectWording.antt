@@ -19,14 +19,21 @@ colourless_words name (Some line) =
     codes "Line " ++ (decimal line ++ (codes " is blank, and the colours of `" ++ (name ++
     codes "` stand right below its name.")))
 
+-- that a word has not five characters
+abbrev pub length_words : List ℕ → ℕ → List ℕ
+length_words word count =
+    codes ": `" ++ (word ++ (codes "` has " ++ (decimal count ++ codes " characters in place of five.")))
+
+-- that a character of a word stands in no row
+abbrev pub character_words : List ℕ → ℕ → List ℕ
+character_words word character =
+    codes ": `" ++ (encode_utf8 character ++ (codes "` in `" ++ (word ++ codes "` is neither a point nor a digit.")))
+
 -- why a line is no row of a sprite
 abbrev pub why_no_row_words : WhyNoRow → List ℕ
 why_no_row_words Blank = codes ": it is blank."
-why_no_row_words (Length word count) =
-    codes ": `" ++ (word.text.now ++ (codes "` has " ++ (decimal count ++ codes " characters in place of five.")))
-why_no_row_words (Character word character) =
-    codes ": `" ++ (encode_utf8 character ++ (codes "` in `" ++ (word.text.now ++
-    codes "` is neither a point nor a digit.")))
+why_no_row_words (Length word count) = length_words word.text.now count
+why_no_row_words (Character word character) = character_words word.text.now character
 why_no_row_words Untold = codes "."
 
 -- that a line is none, behind a blank, if there is such a line

@@ -7,7 +7,6 @@ use Rattle.ps_causes.specs.declared.causes.Part.{Part}
 use Rattle.ps_causes.specs.declared.causes.Part.TheVariants.{FromArrow, WithoutArrow}
 use Rattle.ps_causes.specs.declared.causes.RuleCause.{RuleCause}
 use Rattle.ps_causes.specs.declared.causes.RuleCause.TheVariants.{Pair, Several, Unbound, Rows, Cells, GoesOn}
-use Rattle.ps_facts.specs.declared.names.Named.{Named}
 use Rattle.ps_why.specs.SectionNames.{section_name}
 
 -- that a line has two names which stand in one cell
@@ -17,9 +16,9 @@ pair_words word other section shared =
     (codes " of " ++ (section_name section ++ codes " has both.")))))))
 
 -- that a word stands for several objects at once
-abbrev pub several_words : List ℕ → Named → List ℕ
-several_words word first =
-    codes "Line " ++ (decimal first.line ++ (codes " makes `" ++ (word ++
+abbrev pub several_words : List ℕ → ℕ → List ℕ
+several_words word line =
+    codes "Line " ++ (decimal line ++ (codes " makes `" ++ (word ++
     codes "` several objects at once, and `no` can't stand before such a name.")))
 
 -- that nothing decides a word of the right
@@ -53,7 +52,7 @@ going_on_words further =
 -- what is told of a rule
 abbrev pub rule_sentence : RuleCause → List ℕ
 rule_sentence (Pair word other section shared) = pair_words word.text.now other.now section shared
-rule_sentence (Several word first) = several_words word.text.now first
+rule_sentence (Several word first) = several_words word.text.now first.line
 rule_sentence (Unbound word times) = unbound_words word.text.now times
 rule_sentence (Rows arrow left right) = rows_words left right
 rule_sentence (Cells arrow row left right) = cells_words row left right

@@ -2,7 +2,6 @@
 use Rattle.std.specs.Prelude.{ℕ, nat_eq, nat_lt, true, if◌then◌else◌, List, [], ◌++◌, codes}
 use Rattle.std.specs.Prelude.{encode_utf8}
 use Rattle.std.specs.Fmt.{decimal, digits}
-use Rattle.ps_facts.specs.declared.names.Named.{Named}
 use Rattle.ps_causes.specs.declared.causes.Blank.{Blank}
 use Rattle.ps_causes.specs.declared.causes.Blank.TheVariants.{Space, Tab, CarriageReturn, Comment}
 use Rattle.ps_causes.specs.declared.causes.Clue.{Clue}
@@ -37,8 +36,8 @@ blank_words CarriageReturn = codes "A carriage return"
 blank_words Comment = codes "A comment"
 
 -- that a name much like the word is declared
-abbrev pub near_words : Named → List ℕ
-near_words named = codes " Line " ++ (decimal named.line ++ (codes " declares `" ++ (named.name.now ++ codes "`.")))
+abbrev pub near_words : ℕ → List ℕ → List ℕ
+near_words line name = codes " Line " ++ (decimal line ++ (codes " declares `" ++ (name ++ codes "`.")))
 
 -- that a character of the word looks like another
 abbrev pub strange_words : ℕ → List ℕ → List ℕ
@@ -48,7 +47,7 @@ strange_words character like =
 -- what is told of a word, behind a blank
 abbrev pub hint_words : Hint → List ℕ
 hint_words Nothing = []
-hint_words (Near named) = near_words named
+hint_words (Near named) = near_words named.line named.name.now
 hint_words (Strange character like) = strange_words character like.now
 hint_words Joins = codes " `and` and `or` join names in LEGEND alone."
 
@@ -114,10 +113,10 @@ abbrev pub case_words : List ℕ → List ℕ → List ℕ
 case_words word name = if bytes_eq name word then [] else codes ": upper and lower case are one"
 
 -- that a word is declared above
-abbrev pub twice_words : List ℕ → Named → List ℕ
-twice_words word first =
-    codes "Line " ++ (decimal first.line ++ (codes " declares `" ++ (first.name.now ++ (codes "` already" ++
-    (case_words word first.name.now ++ codes ".")))))
+abbrev pub twice_words : List ℕ → ℕ → List ℕ → List ℕ
+twice_words word line name =
+    codes "Line " ++ (decimal line ++ (codes " declares `" ++ (name ++ (codes "` already" ++
+    (case_words word name ++ codes ".")))))
 
 -- that a byte is in no whole character
 abbrev pub broken_byte_words : ℕ → ℕ → List ℕ
@@ -135,7 +134,7 @@ sentence (UnknownGlyph row character column) = glyph_words character column
 sentence (BrokenRow row blank) = broken_words row.text.now blank
 sentence (LateHeader header section above other) = late_words section above other
 sentence (MissingSection section clue) = missing_words section clue
-sentence (Twice word first) = twice_words word.text.now first
+sentence (Twice word first) = twice_words word.text.now first.line first.name.now
 sentence (Slip word slip) = slip_words slip word.text.now
 sentence (InRule cause) = rule_sentence cause
 sentence (InObject cause) = object_sentence cause

@@ -2,11 +2,10 @@
 
 ghost use Rattle.std.specs.Prelude.{◌≡◌, IfOk, string_bytes};
 ghost use Rattle.ps_why.specs.ObjectWording.{row_name_words, colourless_words, why_no_row_words, no_row_words};
-ghost use Rattle.ps_why.specs.ObjectWording.{short_words, object_sentence};
+ghost use Rattle.ps_why.specs.ObjectWording.{short_words, object_sentence, length_words, character_words};
 
 use ps_causes::{NoRow, ObjectCause, WhyNoRow};
 use ps_model::Memory;
-use ps_text::Word;
 use std::alloc::Global;
 
 /// That a row of a sprite is read as a name.
@@ -34,20 +33,18 @@ fn colourless_words(alloc: Global, name: &str, below: Option<u32>) -> Result<Str
 }
 
 /// That a word has not five characters.
-fn length_words(alloc: Global, word: Word<'_>, count: usize) -> Result<String, Memory>
-    ensures { IfOk result (λ words. string_bytes words ≡ why_no_row_words (WhyNoRow.Length word.entry count)) }
+fn length_words(alloc: Global, word: &str, count: usize) -> Result<String, Memory>
+    ensures { IfOk result (λ words. string_bytes words ≡ length_words word.now count) }
 {
-    let text = word.text();
-    let words = format!(in alloc; ": `{text}` has {count} characters in place of five.")?;
+    let words = format!(in alloc; ": `{word}` has {count} characters in place of five.")?;
     Ok(words)
 }
 
 /// That a character stands in no row.
-fn character_words(alloc: Global, word: Word<'_>, character: char) -> Result<String, Memory>
-    ensures { IfOk result (λ words. string_bytes words ≡ why_no_row_words (WhyNoRow.Character word.entry character)) }
+fn character_words(alloc: Global, word: &str, character: char) -> Result<String, Memory>
+    ensures { IfOk result (λ words. string_bytes words ≡ character_words word.now character) }
 {
-    let text = word.text();
-    let words = format!(in alloc; ": `{character}` in `{text}` is neither a point nor a digit.")?;
+    let words = format!(in alloc; ": `{character}` in `{word}` is neither a point nor a digit.")?;
     Ok(words)
 }
 
@@ -60,8 +57,8 @@ fn why_no_row_words(alloc: Global, why: WhyNoRow<'_>) -> Result<String, Memory>
             let words = String::from_str(alloc, ": it is blank.")?;
             Ok(words)
         }
-        WhyNoRow::Length { word, count } => length_words(alloc, word, count),
-        WhyNoRow::Character { word, character } => character_words(alloc, word, character),
+        WhyNoRow::Length { word, count } => length_words(alloc, word.text(), count),
+        WhyNoRow::Character { word, character } => character_words(alloc, word.text(), character),
         WhyNoRow::Untold => {
             let words = String::from_str(alloc, ".")?;
             Ok(words)

@@ -6,7 +6,6 @@ ghost use Rattle.ps_why.specs.RuleWording.{part_words, going_on_words, rule_sent
 
 use crate::section_names::section_name;
 use ps_causes::{Further, Part, RuleCause};
-use ps_facts::Named;
 use ps_model::{Memory, Section};
 use std::alloc::Global;
 
@@ -28,10 +27,9 @@ fn pair_words(
 }
 
 /// That a word stands for several objects at once.
-fn several_words(alloc: Global, word: &str, first: Named<'_>) -> Result<String, Memory>
-    ensures { IfOk result (λ words. string_bytes words ≡ several_words word.now first.entry) }
+fn several_words(alloc: Global, word: &str, line: u32) -> Result<String, Memory>
+    ensures { IfOk result (λ words. string_bytes words ≡ several_words word.now line) }
 {
-    let line = first.line;
     let words = format!(in alloc;
         "Line {line} makes `{word}` several objects at once, and `no` can't stand before such a name."
     )?;
@@ -99,7 +97,7 @@ pub fn rule_sentence(alloc: Global, cause: RuleCause<'_>) -> Result<String, Memo
             section,
             shared,
         } => pair_words(alloc, word.text(), other, section, shared),
-        RuleCause::Several { word, first } => several_words(alloc, word.text(), first),
+        RuleCause::Several { word, first } => several_words(alloc, word.text(), first.line),
         RuleCause::Unbound { word, times } => unbound_words(alloc, word.text(), times),
         RuleCause::Rows { left, right, .. } => rows_words(alloc, left, right),
         RuleCause::Cells {

@@ -11,7 +11,7 @@ use crate::rule_wording::rule_sentence;
 use crate::section_names::section_name;
 use crate::slip_words::slip_words;
 use ps_causes::{Blank, Cause, Clue, Hint};
-use ps_facts::{Named, rank};
+use ps_facts::rank;
 use ps_model::{Memory, Section};
 use std::alloc::Global;
 
@@ -54,11 +54,9 @@ fn blank_words(blank: Blank) -> &'static str
 }
 
 /// That a name much like the word is declared.
-fn near_words(alloc: Global, named: Named<'_>) -> Result<String, Memory>
-    ensures { IfOk result (λ words. string_bytes words ≡ near_words named.entry) }
+fn near_words(alloc: Global, line: u32, name: &str) -> Result<String, Memory>
+    ensures { IfOk result (λ words. string_bytes words ≡ near_words line name.now) }
 {
-    let line = named.line;
-    let name = named.name;
     let words = format!(in alloc; " Line {line} declares `{name}`.")?;
     Ok(words)
 }
@@ -78,7 +76,7 @@ fn hint_words(alloc: Global, hint: Hint<'_>) -> Result<String, Memory>
 {
     match hint {
         Hint::Nothing => Ok(String::new(alloc)),
-        Hint::Near(named) => near_words(alloc, named),
+        Hint::Near(named) => near_words(alloc, named.line, named.name),
         Hint::Strange { character, like } => strange_words(alloc, character, like),
         Hint::Joins => {
             let words = String::from_str(alloc, " `and` and `or` join names in LEGEND alone.")?;
@@ -210,11 +208,9 @@ fn case_words(word: &str, name: &str) -> &'static str
 }
 
 /// That a word is declared above.
-fn twice_words(alloc: Global, word: &str, first: Named<'_>) -> Result<String, Memory>
-    ensures { IfOk result (λ words. string_bytes words ≡ twice_words word.now first.entry) }
+fn twice_words(alloc: Global, word: &str, line: u32, name: &str) -> Result<String, Memory>
+    ensures { IfOk result (λ words. string_bytes words ≡ twice_words word.now line name.now) }
 {
-    let line = first.line;
-    let name = first.name;
     let case = case_words(word, name);
     let words = format!(in alloc; "Line {line} declares `{name}` already{case}.")?;
     Ok(words)
@@ -252,7 +248,7 @@ pub fn sentence(alloc: Global, cause: Cause<'_>) -> Result<String, Memory>
             ..
         } => late_words(alloc, section, above, other),
         Cause::MissingSection { section, clue } => missing_words(alloc, section, clue),
-        Cause::Twice { word, first } => twice_words(alloc, word.text(), first),
+        Cause::Twice { word, first } => twice_words(alloc, word.text(), first.line, first.name),
         Cause::Slip { word, slip } => slip_words(alloc, slip, word.text()),
         Cause::InRule(cause) => rule_sentence(alloc, cause),
         Cause::InObject(cause) => object_sentence(alloc, cause),
