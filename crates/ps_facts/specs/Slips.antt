@@ -10,10 +10,12 @@ use Rattle.ps_facts.specs.declared.slips.ShapeSlip.TheVariants.{LikeArrow, NoArr
 use Rattle.ps_facts.specs.declared.slips.ShapeSlip.TheVariants.{LoneClosing, NothingLeft, NothingRight, BarOutside}
 use Rattle.ps_facts.specs.declared.slips.ShapeSlip.TheVariants.{DirectionOutside, WordOutside}
 use Rattle.ps_facts.specs.declared.slips.RuleSlip.{RuleSlip}
-use Rattle.ps_facts.specs.declared.slips.RuleSlip.TheVariants.{Slashes, LoopWords, MessageAlone, LateMove, Chance, Rigid}
+use Rattle.ps_facts.specs.declared.slips.RuleSlip.TheVariants.{Slashes, LoopWords, MessageAlone, LateMove, Chance}
+use Rattle.ps_facts.specs.declared.slips.RuleSlip.TheVariants.{Rigid}
 use Rattle.ps_facts.specs.declared.slips.RuleSlip.TheVariants.{TwiceInCell}
 use Rattle.ps_facts.specs.declared.slips.FormSlip.{FormSlip}
-use Rattle.ps_facts.specs.declared.slips.FormSlip.TheVariants.{NoEquals, NoJoiner, EqualsAsName, LegendEnds, NoQuantifier}
+use Rattle.ps_facts.specs.declared.slips.FormSlip.TheVariants.{NoEquals, NoJoiner, EqualsAsName, LegendEnds}
+use Rattle.ps_facts.specs.declared.slips.FormSlip.TheVariants.{NoQuantifier}
 use Rattle.ps_facts.specs.declared.slips.FormSlip.TheVariants.{NoOn, FurtherWord, WinEnds, SecondName, ThirdName}
 use Rattle.ps_facts.specs.declared.slips.FormSlip.TheVariants.{RealTime}
 use Rattle.ps_facts.specs.declared.slips.Slip.{Slip}

@@ -1,8 +1,9 @@
 -- The view of a run: what a terminal of some size is handed for the bytes of the run's output. Bytes are gathered until
 -- a line feed ends their line; then the line is told. A whole frame, a message and the ending are drawn at once, by the
--- rows that they change; the title and the level with what comes next. Where the terminal has another size, all is drawn
--- anew.
-use Rattle.std.specs.Prelude.{ℕ, ◌-◌, ◌==◌, Bool, true, false, ◌&&◌, ◌||◌, Option, Some, None, List, [], ◌∷◌, ◌++◌, length, codes}
+-- rows that they change; the title and the level with what comes next. Where the terminal has another size, all is
+-- drawn anew.
+use Rattle.std.specs.Prelude.{ℕ, ◌-◌, ◌==◌, Bool, true, false, ◌&&◌, ◌||◌, Option, Some, None, List, [], ◌∷◌, ◌++◌}
+use Rattle.std.specs.Prelude.{length, codes}
 use Rattle.ps_view.specs.declared.corners.Cell.{Cell}
 use Rattle.ps_view.specs.declared.corners.Corner.{Corner}
 use Rattle.ps_view.specs.declared.sizes.Size.{Size}
@@ -189,7 +190,8 @@ view_of size output = handed_on (blank_view size) output
 abbrev pub is_size : Size → Size → Bool
 is_size size other = size.rows == other.rows && size.columns == other.columns
 
--- the view for a terminal of that size, of which nothing is drawn: the part of the frame shows the cell that changed last
+-- the view for a terminal of that size, of which nothing is drawn: the part of the frame shows the cell that changed
+-- last
 abbrev pub with_size : View → Size → View
 with_size view size = record view {
   size = size;

@@ -1,8 +1,9 @@
 //! A view of a run: a device above another, which takes the bytes of a run's output and hands on what a terminal of so
 //! many rows and columns is to show.
 //!
-//! [`Viewed`] is a `ByteWriter`. It asks a [`SizeTeller`] for the size, and draws all anew where that changes. Each frame stands at the top, in place of the last one, and lines of their own below
-//! it tell the title, the level, the keys and what is told last.
+//! [`Viewed`] is a `ByteWriter`. It asks a [`SizeTeller`] for the size, and draws all anew where that changes. Each
+//! frame stands at the top, in place of the last one, and lines of their own below it tell the title, the level, the
+//! keys and what is told last.
 #![tactic(auto)]
 
 mod cells;

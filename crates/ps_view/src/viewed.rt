@@ -117,8 +117,8 @@ impl<W: ByteWriter, S: SizeTeller> ByteWriter for Viewed<W, S> {
     } };
 
     /// Asks for the size of the terminal, takes all of `bytes`, and hands on what the view makes of both, which may be
-    /// nothing: then the writer below isn't called. It fails where a growth is refused, with the writer not called; where that writer fails, which has
-    /// a front of what was to be handed on then; and behind the `u64::MAX`th call.
+    /// nothing: then the writer below isn't called. It fails where a growth is refused, with the writer not called;
+    /// where that writer fails, which has a front of what was to be handed on then; and behind the `u64::MAX`th call.
     fn write_some(&mut self, bytes: &[u8]) -> Result<usize, Failed>
         requires well { ((W.state self.old.writer).has_failed || (self.old.wants_memory || self.old.is_worn)) ≡ false }
         ensures count { IfOk result (λ count. count ≡ length bytes.now) }

@@ -12,7 +12,8 @@ loop-row-init g c =
     record {
       within = omega (arith, high);
       seen =
-          subst (λ (row : ℕ). AreSeenBelow grid table c.args.second.now (length c.args.first.now) c.none-seen.result row)
+          subst
+          (λ (row : ℕ). AreSeenBelow grid table c.args.second.now (length c.args.first.now) c.none-seen.result row)
           (sym high)
           (seen-init grid table c.args.second.now (length c.args.first.now) c.none-seen.result c.requires.second
           c.none-seen.ensures);

@@ -33,7 +33,8 @@ returns-then-is_empty g c =
     c.as_slice-first.ensures ∙ c.index-parts-0.is
     ∙ ap (λ (ps : List (List CompiledCell)). slice_index_or ps 0 c.index-parts-0.result) c.as_slice-parts.ensures
     ∙ get_or_default row.parts 0 c.index-parts-0.result [] low in
-    let P : List CompiledCell → Type 0 = λ cells. AreStarts grid table row.axis cells c.find_rows-fronts_on.result sets in
+    let P : List CompiledCell → Type 0 = λ cells.
+    AreStarts grid table row.axis cells c.find_rows-fronts_on.result sets in
     first-nowhere grid table row.axis c.args.leads (part_of row.parts 0) (part_of row.parts 1)
     c.find_rows-fronts_on.result c.none-then-is_empty.result sets c.args.self.now.starts.items
     c.recall_shape.ensures.shape c.none-then-is_empty.ensures (c.is_empty.ensures.none c.if-is_empty.true)
@@ -50,7 +51,8 @@ returns-then-is_empty-2 g c =
     c.as_slice-second.ensures ∙ c.index-parts-1.is
     ∙ ap (λ (ps : List (List CompiledCell)). slice_index_or ps 1 c.index-parts-1.result) c.as_slice-parts.ensures
     ∙ get_or_default row.parts 1 c.index-parts-1.result [] low in
-    let P : List CompiledCell → Type 0 = λ cells. AreStarts grid table row.axis cells c.find_rows-backs_on.result sets in
+    let P : List CompiledCell → Type 0 = λ cells.
+    AreStarts grid table row.axis cells c.find_rows-backs_on.result sets in
     second-nowhere grid table row.axis c.args.leads (part_of row.parts 0) (part_of row.parts 1)
     c.find_rows-backs_on.result c.none-then-is_empty-2.result sets c.args.self.now.starts.items
     c.recall_shape.ensures.shape c.none-then-is_empty-2.ensures (c.is_empty-2.ensures.none c.if-is_empty-2.true)
