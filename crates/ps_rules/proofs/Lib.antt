@@ -1,4 +1,3 @@
-pub mod Lookups
 pub mod TokenLines
 pub mod Loops
 pub mod Cuts
