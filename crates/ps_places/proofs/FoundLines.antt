@@ -22,9 +22,9 @@ below_width width lines x few e =
     ap (λ (cs : List Bool). column_at cs x) e ∙ column_at-all (λ y. nat_lt y width) x
     (λ far. let out : nat_lt x width ≡ false = grind (arith, nat_tests, far, few) in out)
 
-lines_few : (g : Grid) (axis : Axis) → IsGrid g → line_count axis g ≤ SIDE_LIMIT
-lines_few g Down grid = grid.columns
-lines_few g Right grid = grid.rows
+pub few_lines : (g : Grid) (axis : Axis) → IsGrid g → line_count axis g ≤ SIDE_LIMIT
+few_lines g Down grid = grid.columns
+few_lines g Right grid = grid.rows
 
 pub lines-init : (g : Grid) (table : Option (List ℕ)) (axis : Axis) (parts : List (List CompiledCell))
     (starts : List (List Bool))
@@ -38,13 +38,13 @@ lines-init g table axis parts starts lines grid e =
             none = λ out.
                 let across : nat_lt x (line_count axis g) ≡ true = grind (arith, nat_tests, low) in
                 let here : column_at lines x ≡ nat_lt x (line_count axis g) =
-                below_width (line_count axis g) lines x (lines_few g axis grid) e in
+                below_width (line_count axis g) lines x (few_lines g axis grid) e in
                 let clash : true ≡ false = sym across ∙ sym here ∙ out in
                 absurd (cc);
           };
       below = λ x is.
           let across : nat_lt x (line_count axis g) ≡ true =
-          sym (below_width (line_count axis g) lines x (lines_few g axis grid) e) ∙ is in
+          sym (below_width (line_count axis g) lines x (few_lines g axis grid) e) ∙ is in
           grind (arith, nat_tests, across);
     }
 
@@ -58,7 +58,7 @@ lines-none g table axis parts starts lines number grid none are =
       each = λ x low.
           record {
             found = λ is.
-                let near : x < SIDE_LIMIT = omega (arith, low, lines_few g axis grid) in
+                let near : x < SIDE_LIMIT = omega (arith, low, few_lines g axis grid) in
                 let clash : false ≡ true = sym (none_in lines x none near)
                 ∙ is in absurd (cc);
             none = (are.each x low).none;

@@ -27,6 +27,7 @@ use Rattle.ps_places.specs.Ways.{positions_from, ways_from}
 use Rattle.ps_places.proofs.LinePlaces.{line_cells-are, places-by_line, places_along, way_cells-are}
 use Rattle.ps_places.proofs.LineWays.{AreSetsOf, cells_of_way, fits_from_position, ways_on_line}
 use Rattle.ps_places.proofs.Ranges.{flat_map-none, passing-agree}
+use Rattle.ps_places.proofs.FoundLines.{few_lines}
 
 -- a part begins where its meaning has room and fits
 pub begins_on-meant : (g : Grid) (table : Option (List ℕ)) (axis : Axis) (line : ℕ) (part : List CompiledCell)
@@ -187,10 +188,6 @@ found_places g table axis line parts starts low small long any some found =
     ∙ ways-meant axis g.height line (part_sizes parts) (ways_from sets (part_sizes parts) 0)
 
 -- all places ----------------------------------------------------------------------------------------------------------
-
-few_lines : (g : Grid) (axis : Axis) → IsGrid g → line_count axis g ≤ SIDE_LIMIT
-few_lines g Down grid = grid.columns
-few_lines g Right grid = grid.rows
 
 pub short_lines : (g : Grid) (axis : Axis) → IsGrid g → line_long axis g ≤ SIDE_LIMIT
 short_lines g Down grid = grid.rows
