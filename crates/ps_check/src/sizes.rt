@@ -15,7 +15,7 @@ use ps_rules::RuleLine;
 use std::fmt;
 
 /// How large a game is.
-#[derive(Clone, Copy, PartialEq, Eq, Debug)]
+#[derive(Clone, Copy)]
 pub struct Size {
     pub objects: u32,
     pub layers: u32,

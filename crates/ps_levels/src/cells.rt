@@ -9,14 +9,14 @@ use std::alloc::Global;
 use std::marker::Model;
 
 /// Where the objects of a cell stand in the list of those of all cells.
-#[derive(Clone, Copy, Debug)]
+#[derive(Clone, Copy)]
 struct ObjectSpan {
     start: usize,
     end: usize,
 }
 
 /// The objects of each cell of a level, those of all cells in one list. Contracts see a list for each cell.
-#[derive(Drop, Debug)]
+#[derive(Drop)]
 pub struct Cells {
     objects: Vec<ObjectId>,
     spans: Vec<ObjectSpan>,

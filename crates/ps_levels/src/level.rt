@@ -24,7 +24,7 @@ use std::ops::Range;
 
 /// A level: its sides, each from 1 to `SIDE_LIMIT`, and the objects of each cell, in columns from the left and each
 /// column from the top.
-#[derive(Drop, Debug)]
+#[derive(Drop)]
 pub struct Level {
     width: u32,
     height: u32,

@@ -26,7 +26,7 @@ use std::alloc::Global;
 use std::ops::Range;
 
 /// An entry of LEVELS: a message, or a level.
-#[derive(Drop, Debug)]
+#[derive(Drop)]
 pub enum Entry {
     /// Its text, without the blanks at its ends.
     Message(Text),

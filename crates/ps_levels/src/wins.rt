@@ -20,7 +20,7 @@ use std::alloc::Global;
 use std::ops::Range;
 
 /// A win condition: how many cells with its subject are asked for, and where.
-#[derive(Drop, Debug)]
+#[derive(Drop)]
 pub struct Win {
     pub quantifier: Quantifier,
     /// What the cells are to hold.

@@ -3,14 +3,14 @@
 use crate::pieces::{LayerId, Motion, ObjectId};
 
 /// An object with its collision layer, where it is looked for.
-#[derive(Clone, Copy, PartialEq, Eq, Debug)]
+#[derive(Clone, Copy, Debug)]
 pub struct LayeredObject {
     pub object: ObjectId,
     pub layer: LayerId,
 }
 
 /// A layer is asked for a motion. A layer without an object is still.
-#[derive(Clone, Copy, PartialEq, Eq, Debug)]
+#[derive(Clone, Copy)]
 pub struct MotionTest {
     pub layer: LayerId,
     pub motion: Motion,
@@ -18,7 +18,7 @@ pub struct MotionTest {
 
 /// What a name of a rule says of a layer: which object stands there, where that is said, and which motion it has, where
 /// a movement word is written.
-#[derive(Clone, Copy, PartialEq, Eq, Debug)]
+#[derive(Clone, Copy)]
 pub struct Claim {
     pub layer: LayerId,
     /// Nothing of a property that is kept loose.
@@ -27,7 +27,7 @@ pub struct Claim {
 }
 
 /// What becomes of a layer's object.
-#[derive(Clone, Copy, PartialEq, Eq, Debug)]
+#[derive(Clone, Copy)]
 pub enum ObjectWrite {
     /// This object is put there.
     Put(ObjectId),
@@ -38,7 +38,7 @@ pub enum ObjectWrite {
 }
 
 /// What becomes of a layer: its object; and its motion, which is kept where none is given.
-#[derive(Clone, Copy, PartialEq, Eq, Debug)]
+#[derive(Clone, Copy)]
 pub struct LayerWrite {
     pub layer: LayerId,
     pub object: ObjectWrite,

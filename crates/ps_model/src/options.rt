@@ -3,7 +3,7 @@
 use crate::rooms::RoomSize;
 
 /// The options of a game, each set by a line of the prelude that begins with its name.
-#[derive(Clone, Copy, PartialEq, Eq, Debug)]
+#[derive(Clone, Copy)]
 pub struct Options {
     /// `noaction`: `x` does nothing but dismiss a message.
     pub no_action: bool,

@@ -2,7 +2,7 @@
 
 /// A word before a name in a rule's brackets, which says how the object moves. The first six turn with the rule's
 /// direction.
-#[derive(Clone, Copy, PartialEq, Eq, Debug)]
+#[derive(Clone, Copy, PartialEq)]
 pub enum MovementWord {
     /// `>`: in the rule's direction.
     Forwards,
@@ -35,7 +35,7 @@ pub enum MovementWord {
 }
 
 /// How many cells a win condition asks for.
-#[derive(Clone, Copy, PartialEq, Eq, Debug)]
+#[derive(Clone, Copy, PartialEq, Debug)]
 pub enum Quantifier {
     /// `No`: none of them.
     No,
@@ -46,7 +46,7 @@ pub enum Quantifier {
 }
 
 /// The two halves of a turn that rules belong to.
-#[derive(Clone, Copy, PartialEq, Eq, Debug)]
+#[derive(Clone, Copy)]
 pub enum Part {
     /// Before the movement.
     Plain,

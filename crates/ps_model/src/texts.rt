@@ -1,7 +1,7 @@
 //! The parts of a text.
 
 /// A part of a line: its bytes from `start` to before `end`, counted from the text's first byte.
-#[derive(Clone, Copy, PartialEq, Eq, Debug)]
+#[derive(Clone, Copy, Debug)]
 pub struct Span {
     /// The line's number, from 1.
     pub line: u32,
@@ -10,7 +10,7 @@ pub struct Span {
 }
 
 /// A section of a text: what stands before the first header, or below a header up to the next.
-#[derive(Clone, Copy, PartialEq, Eq, Debug)]
+#[derive(Clone, Copy, Debug)]
 pub enum Section {
     Prelude,
     Objects,
@@ -23,7 +23,7 @@ pub enum Section {
 }
 
 /// How a line is cut into words.
-#[derive(Clone, Copy, PartialEq, Eq, Debug)]
+#[derive(Clone, Copy)]
 pub enum Cut {
     /// At blanks alone.
     Blanks,
@@ -37,7 +37,7 @@ pub enum Cut {
 }
 
 /// Where a reader of OBJECTS stands when it comes to a line.
-#[derive(Clone, Copy, PartialEq, Eq, Debug)]
+#[derive(Clone, Copy)]
 pub enum ObjectStage {
     /// Between objects: a line that isn't blank names the next one.
     Between,
@@ -50,7 +50,7 @@ pub enum ObjectStage {
 }
 
 /// How a legend line joins the names on its right.
-#[derive(Clone, Copy, PartialEq, Eq, Debug)]
+#[derive(Clone, Copy)]
 pub enum Joiner {
     /// There is one name alone: the line declares a synonym.
     Alone,

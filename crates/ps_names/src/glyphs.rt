@@ -9,7 +9,7 @@ use crate::meaning::Meaning;
 use std::alloc::{AllocError, Global};
 
 /// A character that shows objects in a level and in a frame, as it is written where it is declared.
-#[derive(Drop, Debug)]
+#[derive(Drop)]
 pub struct Glyph {
     pub character: char,
     /// One object, or all of an aggregate's.

@@ -20,7 +20,7 @@ use std::alloc::Global;
 use std::marker::Model;
 
 /// What a known name has.
-#[derive(Clone, Copy, Debug)]
+#[derive(Clone, Copy)]
 pub struct NameDetails {
     /// The name's character as it is written, if it has one alone.
     pub character: Option<char>,

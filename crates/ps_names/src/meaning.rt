@@ -11,7 +11,7 @@ use std::alloc::{AllocError, Global};
 use std::slice;
 
 /// What a name stands for. A legend line's number is counted from 1.
-#[derive(Drop, Debug)]
+#[derive(Drop)]
 pub enum Meaning {
     /// One object.
     One(ObjectId),

@@ -3,7 +3,7 @@
 use ps_model::ObjectId;
 
 /// Whose a name is.
-#[derive(Clone, Copy, PartialEq, Eq, Debug)]
+#[derive(Clone, Copy, PartialEq)]
 pub enum Mention {
     /// An object's.
     Object(ObjectId),

@@ -11,7 +11,7 @@ use ps_text::List;
 
 /// What a cell of a board must have to fit: each needed object, no barred one, one of each list, and each layer's
 /// motion.
-#[derive(Drop, Debug)]
+#[derive(Drop)]
 pub struct CellMask {
     pub needed: List<LayeredObject>,
     pub barred: List<LayeredObject>,
@@ -21,14 +21,14 @@ pub struct CellMask {
 }
 
 /// What becomes of a cell of a board: first these objects go from their layers, and then these layers are written.
-#[derive(Drop, Debug)]
+#[derive(Drop)]
 pub struct CellWrite {
     pub gone: List<LayeredObject>,
     pub layers: List<LayerWrite>,
 }
 
 /// A cell of a compiled rule.
-#[derive(Drop, Debug)]
+#[derive(Drop)]
 pub struct CompiledCell {
     pub mask: CellMask,
     pub write: CellWrite,

@@ -8,7 +8,7 @@ use crate::cells::CompiledCell;
 use ps_text::List;
 
 /// How the cells of a compiled rule lie: each below the one before, or to its right.
-#[derive(Clone, Copy, PartialEq, Eq, Debug)]
+#[derive(Clone, Copy)]
 pub enum Axis {
     Down,
     Right,

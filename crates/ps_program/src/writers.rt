@@ -13,7 +13,7 @@ use crate::rows::CompiledRow;
 use ps_model::{LayerId, LayerWrite, LayeredObject, ObjectWrite, SIDE_LIMIT};
 
 /// The cell that alone changes anything, of a row of two parts.
-#[derive(Clone, Copy, PartialEq, Eq, Debug)]
+#[derive(Clone, Copy, PartialEq, Debug)]
 pub struct Writer {
     /// It is a cell of the first part; else of the second.
     pub leads: bool,

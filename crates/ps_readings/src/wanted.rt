@@ -21,7 +21,7 @@ use ps_rules::{CellPair, Item, Occurrences, is_several};
 use std::alloc::Global;
 
 /// What an item asks of a cell. With a motion, the objects have it; without one, they move or not.
-#[derive(Clone, Copy, Debug)]
+#[derive(Clone, Copy)]
 pub enum Wanted<'r> {
     /// Each of these objects.
     Each(&'r [ObjectId], Option<Motion>),

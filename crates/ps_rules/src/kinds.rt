@@ -13,7 +13,7 @@ use ps_model::{Direction, MovementWord};
 use std::alloc::{AllocError, Global};
 
 /// A kind of words.
-#[derive(Clone, Copy, PartialEq, Eq, Debug)]
+#[derive(Clone, Copy)]
 pub enum Kind {
     /// `[`.
     Open,

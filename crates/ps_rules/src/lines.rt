@@ -26,7 +26,7 @@ use ps_text::Source;
 use std::alloc::Global;
 
 /// The start or the end of a loop.
-#[derive(Clone, Copy, PartialEq, Eq, Debug)]
+#[derive(Clone, Copy)]
 pub enum LoopMark {
     Start,
     End,

@@ -82,7 +82,7 @@ pub fn first_of(sought: Sought<'_>, items: &[Item]) -> Option<u32>
 }
 
 /// What was found so far.
-#[derive(Clone, Copy, PartialEq, Eq, Debug)]
+#[derive(Clone, Copy)]
 pub enum Found {
     Nothing,
     /// One occurrence, at that byte of the text.

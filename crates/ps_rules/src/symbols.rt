@@ -9,7 +9,7 @@ use ps_model::MovementWord;
 use ps_names::Meaning;
 
 /// A command. `sfx0` to `sfx10` are one, and ask nothing.
-#[derive(Clone, Copy, PartialEq, Eq, Debug)]
+#[derive(Clone, Copy)]
 pub enum Command {
     Cancel,
     Restart,

@@ -43,7 +43,7 @@ pub struct CellPair {
 }
 
 /// What a rule asks of the turn besides rewriting.
-#[derive(Drop, Debug)]
+#[derive(Drop)]
 pub struct Commands {
     pub cancel: bool,
     pub restart: bool,

@@ -5,7 +5,7 @@ ghost use Rattle.std.specs.Prelude.{◌≡◌};
 use std::marker::Model;
 
 /// A list, as of a game's levels. Contracts see its items, in order.
-#[derive(Drop, Debug)]
+#[derive(Drop)]
 pub struct List<T> {
     items: Vec<T>,
 }

@@ -21,7 +21,7 @@ use std::alloc::Global;
 
 /// A line: its number, from 1, the byte of the text at which it begins, the section that it stands in, and whether it
 /// is a header.
-#[derive(Drop, Debug)]
+#[derive(Drop)]
 pub struct Row {
     pub number: u32,
     pub start: u32,
@@ -37,7 +37,7 @@ pub struct Row {
 
 /// What a line finds above it: its number, the byte at which it begins, how many comments are open, and the section
 /// that the line above stands in.
-#[derive(Clone, Copy, Debug)]
+#[derive(Clone, Copy)]
 pub struct LineStart {
     pub number: u32,
     pub start: u32,

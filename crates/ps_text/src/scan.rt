@@ -9,7 +9,7 @@ ghost use Rattle.ps_text.specs.WordRanges.{words_with, IsSolid, IsWordRange};
 use ps_model::Cut;
 
 /// Bytes of a line or text: from `start` to before `end`.
-#[derive(Clone, Copy, Debug)]
+#[derive(Clone, Copy)]
 pub struct ByteRange {
     pub start: usize,
     pub end: usize,

@@ -18,7 +18,7 @@ use std::alloc::Global;
 use std::marker::Model;
 
 /// The text of a game. Contracts see its bytes.
-#[derive(Drop, Debug)]
+#[derive(Drop)]
 pub struct Source {
     text: String,
     rows: Vec<Row>,
