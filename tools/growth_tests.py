@@ -2,7 +2,7 @@
 
 A file tools/growths/NAME.test is a module NAME of a crate that exists in copies of the tree alone, since the gate
 proves what stands in crates/, and these tests would take it half an hour. Modules that they name and that don't stand
-there are those of crates/ps_run_tests.
+there are those of crates/ps_tests.
 """
 import re
 import shutil
@@ -11,7 +11,7 @@ from crates import TOP, in_order, read_uses
 
 CRATE = "ps_growths"
 SOURCES = TOP / "tools/growths"
-SHARED = TOP / "crates/ps_run_tests/src"
+SHARED = TOP / "crates/ps_tests/src"
 LEFT_OUT = shutil.ignore_patterns("out", "data", "must-fail", "wrong-bodies")
 
 

@@ -61,8 +61,8 @@ const LINES: [(&[&str], Asked<'static>); 13] = [
     ),
 ];
 
-/// The words of command lines that aren't right, or ask for help or the version.
-const OTHER_LINES: [&[&str]; 20] = [
+/// The words of command lines that aren't right.
+const BAD_LINES: [&[&str]; 18] = [
     &["ps_play", "--check"],
     &["ps_play", "--keys", "a.keys"],
     &["ps_play", "a.game", "--keys"],
@@ -81,8 +81,6 @@ const OTHER_LINES: [&[&str]; 20] = [
     &["ps_play", "a.game", "--view", "24x15"],
     &["ps_play", "a.game", "--view", "24x80", "--view", "24x80"],
     &["ps_play", "--explain", "RU7", "--view", "24x80"],
-    &["ps_play", "--help"],
-    &["ps_play", "--version"],
 ];
 
 /// The words of command lines on files that hold no game, and the fault of each.
@@ -170,20 +168,9 @@ fn done_for(outcome: &Outcome) -> Option<Asked<'_>> {
     }
 }
 
-/// Whether nothing was done for a command line but to tell what is wrong with it, or help or the version.
-fn is_other(outcome: &Outcome) -> bool {
-    let printed = outcome.kept.printed.as_str();
-    let complained = outcome.kept.complained.as_str();
-    let idle = outcome.kept.opened.is_empty() && outcome.reads == 0;
-    if !idle || !outcome.screen.bytes().is_empty() {
-        return false;
-    }
-    let helps = printed.contains("Usage: ps_play") || printed.starts_with("ps_play ");
-    match outcome.status {
-        0 => helps && complained.is_empty(),
-        2 => printed.is_empty() && complained.ends_with("try '--help'.\n"),
-        _ => false,
-    }
+/// Whether no file was opened for a command line, no key asked for, and nothing shown.
+fn is_idle(outcome: &Outcome) -> bool {
+    outcome.kept.opened.is_empty() && outcome.reads == 0 && outcome.screen.bytes().is_empty()
 }
 
 #[test]
@@ -191,9 +178,50 @@ fn knows_what_is_asked_for(rt: HostRuntime) {
     for (words, wanted) in LINES {
         assert_eq!(rt; done_for(&obey(&rt, words)), Some(wanted));
     }
-    for words in OTHER_LINES {
-        assert!(rt; is_other(&obey(&rt, words)));
+}
+
+/// Nothing is done for a command line that isn't right but to tell what is wrong with it.
+#[test]
+fn refuses_bad_lines(rt: HostRuntime) {
+    for words in BAD_LINES {
+        let outcome = obey(&rt, words);
+        assert_eq!(rt; outcome.status, 2);
+        assert!(rt; is_idle(&outcome));
+        assert!(rt; outcome.kept.printed.is_empty());
+        assert!(rt;
+            outcome
+                .kept
+                .complained
+                .as_str()
+                .ends_with("try '--help'.\n")
+        );
     }
+}
+
+/// What is printed for a command line that asks for help or the version, and for which nothing else is done.
+fn printed_for(rt: &(impl Abort + AllocGlobal), option: &str) -> String {
+    let outcome = obey(rt, &["ps_play", option]);
+    assert_eq!(rt; outcome.status, 0);
+    assert!(rt; is_idle(&outcome));
+    assert!(rt; outcome.kept.complained.is_empty());
+    outcome.kept.printed
+}
+
+#[test]
+fn prints_help_and_the_version(rt: HostRuntime) {
+    let help = printed_for(&rt, "--help");
+    assert!(rt; help.contains("Usage: ps_play"));
+    let version = printed_for(&rt, "--version");
+    assert!(rt; version.starts_with("ps_play "));
+}
+
+/// Looks at the status of a command line, at what it has shown and at what it has told on standard error; it has
+/// printed nothing.
+fn expect_told(rt: &impl Abort, outcome: &Outcome, status: u8, shown: &str, complained: &str) {
+    assert_eq!(rt; outcome.status, status);
+    assert_eq!(rt; outcome.screen.bytes(), shown.as_bytes());
+    assert_eq!(rt; outcome.kept.complained.as_str(), complained);
+    assert!(rt; outcome.kept.printed.is_empty());
 }
 
 /// A fault is told on standard error where a game is played, and on the screen where a text is checked; no key is asked
@@ -207,11 +235,8 @@ fn tells_the_fault_of_a_file(rt: HostRuntime) {
         } else {
             ("", fault)
         };
-        assert_eq!(rt; outcome.status, 1);
         assert_eq!(rt; outcome.reads, 0);
-        assert_eq!(rt; outcome.screen.bytes(), shown.as_bytes());
-        assert_eq!(rt; outcome.kept.complained.as_str(), complained);
-        assert!(rt; outcome.kept.printed.is_empty());
+        expect_told(&rt, &outcome, 1, shown, complained);
     }
 }
 
@@ -246,11 +271,8 @@ const MANY_FILES: [(&[&str], &str, &str, u8); 3] = [
 fn checks_many_files(rt: HostRuntime) {
     for (words, shown, complained, status) in MANY_FILES {
         let outcome = obey(&rt, words);
-        assert_eq!(rt; outcome.status, status);
         assert_eq!(rt; outcome.reads, 0);
-        assert_eq!(rt; outcome.screen.bytes(), shown.as_bytes());
-        assert_eq!(rt; outcome.kept.complained.as_str(), complained);
-        assert!(rt; outcome.kept.printed.is_empty());
+        expect_told(&rt, &outcome, status, shown, complained);
     }
 }
 
@@ -276,11 +298,8 @@ const INPUT_LINES: [(&[&str], &str, &str); 4] = [
 fn reads_a_game_from_standard_input(rt: HostRuntime) {
     for (words, shown, opened) in INPUT_LINES {
         let outcome = obey_with(&rt, words, PUSHING);
-        assert_eq!(rt; outcome.status, 0);
-        assert_eq!(rt; outcome.screen.bytes(), shown.as_bytes());
         assert_eq!(rt; outcome.kept.opened.as_str(), opened);
-        assert!(rt; outcome.kept.complained.is_empty());
-        assert!(rt; outcome.kept.printed.is_empty());
+        expect_told(&rt, &outcome, 0, shown, "");
     }
 }
 

@@ -27,6 +27,15 @@ RULES\nWINCONDITIONS\n";
 /// What is written of [`PUSHING`] with the key `d`.
 pub const PUSHED: &str = "= T\n# level 1\n#P*O#\n\n#.P@#\n\n* level 1 done\n* the end\n";
 
+/// The text that these parts make.
+pub fn joined(rt: &(impl Abort + AllocGlobal), parts: &[&str]) -> String {
+    let mut text = String::new(rt.alloc());
+    for part in parts {
+        text.push_str(*part).expect(rt, "memory for a text");
+    }
+    text
+}
+
 /// A text that has `part` so many times between its front and its back.
 pub fn repeated(
     rt: &(impl Abort + AllocGlobal),
@@ -38,5 +47,5 @@ pub fn repeated(
     let middle = part
         .repeat(rt.alloc(), count)
         .expect(rt, "memory for a text");
-    format!(in rt.alloc(); "{front}{middle}{back}").expect(rt, "memory for a text")
+    joined(rt, &[front, middle.as_str(), back])
 }

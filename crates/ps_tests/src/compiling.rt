@@ -60,9 +60,20 @@ struct Counts {
 /// How much is compiled of these rules.
 fn counts_of(alloc: Global, rules: &str) -> Option<Counts> {
     let source = source_of(alloc, rules).ok()?;
-    let names = names_of_game(alloc, &source).ok()?;
-    let text = rules_of_game(alloc, &source, &names).ok()?;
-    let programs = compile(alloc, &names, &text).ok()?;
+    counts_of_source(alloc, &source)
+}
+
+/// How much is compiled of the rules of a text. What is read is lent to a function that reads on, so that it is dropped
+/// on few ways out.
+fn counts_of_source(alloc: Global, source: &Source) -> Option<Counts> {
+    let names = names_of_game(alloc, source).ok()?;
+    counts_by_names(alloc, source, &names)
+}
+
+/// How much is compiled of the rules of a text with these names.
+fn counts_by_names(alloc: Global, source: &Source, names: &Names) -> Option<Counts> {
+    let rules = rules_of_game(alloc, source, names).ok()?;
+    let programs = compile(alloc, names, &rules).ok()?;
     Some(Counts {
         first: first_count(&programs.plain),
         plain: programs.plain.sections().len(),

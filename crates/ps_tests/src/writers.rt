@@ -5,6 +5,7 @@ ghost use Rattle.std.specs.Prelude.{◌≡◌, All, IfOk, IfSome};
 ghost use Rattle.ps_program.specs.Axes.{LiesAlong};
 ghost use Rattle.ps_laws.specs.WholeRows.{HasCells};
 
+use crate::lists::list_of;
 use ps_model::{LayerId, LayerWrite, LayeredObject, Memory, ObjectId, ObjectWrite};
 use ps_program::{
     Axis, CellMask, CellWrite, Commands, CompiledCell, CompiledRow, CompiledRule, PART_LIMIT,
@@ -19,11 +20,26 @@ const LOWEST: LayerId = LayerId(0);
 
 const HIGHEST: LayerId = LayerId(1);
 
-const EMITTER: ObjectId = ObjectId(1);
+const EMITTER: LayeredObject = LayeredObject {
+    object: ObjectId(1),
+    layer: LOWEST,
+};
 
-const MIRROR: ObjectId = ObjectId(2);
+const MIRROR: LayeredObject = LayeredObject {
+    object: ObjectId(2),
+    layer: LOWEST,
+};
 
-const BEAM: ObjectId = ObjectId(3);
+const BEAM: LayeredObject = LayeredObject {
+    object: ObjectId(3),
+    layer: HIGHEST,
+};
+
+const BEAM_PUT: LayerWrite = LayerWrite {
+    layer: HIGHEST,
+    object: ObjectWrite::Put(ObjectId(3)),
+    motion: None,
+};
 
 /// No commands.
 fn nothing() -> Commands {
@@ -37,61 +53,46 @@ fn nothing() -> Commands {
     }
 }
 
-/// A cell of a rule that needs some objects and bars others, and writes these layers.
-fn cell_of(
+/// What a cell asks that needs one object and bars another, or neither.
+fn mask_of(
     alloc: Global,
-    needed: Vec<LayeredObject>,
-    barred: Vec<LayeredObject>,
-    layers: Vec<LayerWrite>,
-) -> CompiledCell {
-    let mask = CellMask {
-        needed: List::from_vec(needed),
-        barred: List::from_vec(barred),
+    needed: Option<LayeredObject>,
+    barred: Option<LayeredObject>,
+) -> Result<CellMask, Memory> {
+    let needed = list_of(alloc, needed)?;
+    let barred = list_of(alloc, barred)?;
+    Ok(CellMask {
+        needed,
+        barred,
         one_of: List::from_vec(Vec::new(alloc)),
         motions: List::from_vec(Vec::new(alloc)),
-    };
-    let write = CellWrite {
-        gone: List::from_vec(Vec::new(alloc)),
-        layers: List::from_vec(layers),
-    };
-    CompiledCell::new(mask, write)
+    })
 }
 
 /// A cell of a rule: the object that must stand on the lowest layer, if there is one, and whether a beam is put above
 /// it, where there is none yet.
-fn cell(alloc: Global, ground: Option<ObjectId>, beams: bool) -> Result<CompiledCell, Memory> {
-    let mut needed = Vec::new(alloc);
-    if let Some(object) = ground {
-        needed.push(LayeredObject {
-            object,
-            layer: LOWEST,
-        })?;
-    }
-    let mut barred = Vec::new(alloc);
-    let mut layers = Vec::new(alloc);
-    if beams {
-        barred.push(LayeredObject {
-            object: BEAM,
-            layer: HIGHEST,
-        })?;
-        layers.push(LayerWrite {
-            layer: HIGHEST,
-            object: ObjectWrite::Put(BEAM),
-            motion: None,
-        })?;
-    }
-    Ok(cell_of(alloc, needed, barred, layers))
+fn cell(alloc: Global, ground: Option<LayeredObject>, beams: bool) -> Result<CompiledCell, Memory> {
+    let (barred, put) = if beams {
+        (Some(BEAM), Some(BEAM_PUT))
+    } else {
+        (None, None)
+    };
+    let mask = mask_of(alloc, ground, barred)?;
+    let layers = list_of(alloc, put)?;
+    let gone = List::from_vec(Vec::new(alloc));
+    Ok(CompiledCell::new(mask, CellWrite { gone, layers }))
 }
 
 /// A part by its letters.
 fn part(alloc: Global, letters: &[u8]) -> Result<List<CompiledCell>, Memory> {
     let mut all = Vec::new(alloc);
     for letter in letters {
-        match *letter {
-            b'E' => all.push(cell(alloc, Some(EMITTER), false)?)?,
-            b'M' => all.push(cell(alloc, Some(MIRROR), true)?)?,
-            _ => all.push(cell(alloc, None, false)?)?,
-        }
+        let (ground, beams) = match *letter {
+            b'E' => (Some(EMITTER), false),
+            b'M' => (Some(MIRROR), true),
+            _ => (None, false),
+        };
+        all.push(cell(alloc, ground, beams)?)?;
     }
     Ok(List::from_vec(all))
 }

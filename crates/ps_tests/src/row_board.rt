@@ -1,8 +1,9 @@
 //! Boards of rows: what two tell of each other. A board may tell more rows and columns than differ, and fewer that are
 //! alike; these don't.
 
+use crate::boards::{BARE, differing_in, expect_set, slot_of};
 use ps_board::{Board, OneWord};
-use ps_model::{Direction, LayerId, Motion, ObjectId, SIDE_LIMIT};
+use ps_model::{Direction, LayerId, Motion, ObjectId};
 use ps_rows::RowBoard;
 use std::test::Fail;
 
@@ -20,14 +21,18 @@ fn copies_rows_alone_and_rests(rt: HostRuntime) -> Result<(), Fail> {
     board.put(1, LayerId(1), Some(ObjectId(0)), Motion::Acting);
     board.put(4, LayerId(1), None, Motion::Still);
     let rows = board.rows_differing(&other);
-    for row in 0..3u32 {
-        assert_eq!(rt; rows.has(row), row == 1);
-    }
+    expect_set(&rt, &rows, &[false, true]);
     board.copy_rows(&mut other, &rows);
     assert!(rt; other.rows_moving_any().is_empty());
-    assert_eq!(rt; other.object(0, LayerId(0)), Some(ObjectId(1)));
-    assert_eq!(rt; other.object(1, LayerId(1)), Some(ObjectId(0)));
-    assert_eq!(rt; other.object(4, LayerId(1)), None);
+    assert_eq!(rt;
+        slot_of(&other, 0, 0),
+        Some((Some(ObjectId(1)), Motion::Still))
+    );
+    assert_eq!(rt;
+        slot_of(&other, 1, 1),
+        Some((Some(ObjectId(0)), Motion::Still))
+    );
+    assert_eq!(rt; slot_of(&other, 4, 1), Some(BARE));
     assert!(rt; other.rows_holding(ObjectId(2)).is_empty());
     assert!(rt; board.rows_differing(&other).is_empty());
     assert!(rt; !board.same(&other));
@@ -44,10 +49,19 @@ fn tells_which_columns_differ(rt: HostRuntime) -> Result<(), Fail> {
     board.put(5, LayerId(1), Some(ObjectId(2)), Motion::Still);
     board.put(5, LayerId(1), None, Motion::Still);
     assert!(rt; board.is_alike(&other));
-    assert!(rt; board.differing(&other, 0).is_empty());
-    assert!(rt; !board.differing(&other, 1).has(0));
-    assert!(rt; board.differing(&other, 1).has(1));
-    assert!(rt; board.differing(&other, 2).is_empty());
+    for (row, wanted) in [(0, false), (1, true), (2, false)] {
+        let columns = differing_in(&board, &other, row).expect(
+            &rt,
+            "a row of boards that are alike",
+        );
+        expect_set(&rt, &columns, &[false, wanted]);
+    }
+    Ok(())
+}
+
+#[test]
+fn tells_which_boards_are_alike(rt: HostRuntime) -> Result<(), Fail> {
+    let board = RowBoard::<OneWord>::try_empty(rt.alloc(), 2, 3, 2, &OWN_LAYERS)?;
     let turned = RowBoard::<OneWord>::try_empty(rt.alloc(), 3, 2, 2, &OWN_LAYERS)?;
     assert!(rt; !board.is_alike(&turned));
     let fewer = RowBoard::<OneWord>::try_empty(rt.alloc(), 2, 3, 2, &[LayerId(1)])?;
@@ -62,13 +76,9 @@ fn tells_which_columns_are_alike(rt: HostRuntime) -> Result<(), Fail> {
     board.put(7, LayerId(1), Some(ObjectId(2)), PUSHED);
     board.put(9, LayerId(1), Some(ObjectId(2)), Motion::Still);
     board.put(9, LayerId(0), Some(ObjectId(1)), Motion::Still);
-    let empty = board.alike(1, 2);
-    let held = board.alike(1, 3);
-    for column in 0..SIDE_LIMIT {
-        assert_eq!(rt; board.alike(0, 4).has(column), column < 5);
-        assert_eq!(rt; empty.has(column), column == 0 || column == 2);
-        assert_eq!(rt; held.has(column), column == 1 || column == 3);
-        assert_eq!(rt; board.alike(1, 4).has(column), column == 4);
-    }
+    expect_set(&rt, &board.alike(0, 4), &[true; 5]);
+    expect_set(&rt, &board.alike(1, 2), &[true, false, true]);
+    expect_set(&rt, &board.alike(1, 3), &[false, true, false, true]);
+    expect_set(&rt, &board.alike(1, 4), &[false, false, false, false, true]);
     Ok(())
 }

@@ -1,5 +1,7 @@
 //! Rows written on boards as a list of slots, on which no game is played, and writes that no rule of a game makes.
 
+use crate::boards::{BARE, Slot, slot_of};
+use crate::lists::list_of;
 use ps_board::{Board, Columns, ListBoard, OneWord};
 use ps_match::Scan;
 use ps_model::{
@@ -7,7 +9,6 @@ use ps_model::{
 };
 use ps_program::CellWrite;
 use ps_rows::RowBoard;
-use ps_text::List;
 use std::alloc::Global;
 use std::process::Abort;
 use std::test::Fail;
@@ -26,27 +27,24 @@ fn write_of(
     object: ObjectWrite,
     motion: Option<Motion>,
 ) -> Result<CellWrite, Memory> {
-    let mut lost = Vec::new(alloc);
-    if let Some(object) = gone {
-        lost.push(LayeredObject {
+    let lost = match gone {
+        Some(object) => Some(LayeredObject {
             object,
             layer: HIGHER,
-        })?;
-    }
-    let mut layers = Vec::new(alloc);
-    layers.push(LayerWrite {
-        layer: HIGHER,
-        object,
-        motion,
-    })?;
-    Ok(CellWrite {
-        gone: List::from_vec(lost),
-        layers: List::from_vec(layers),
-    })
+        }),
+        None => None,
+    };
+    let gone = list_of(alloc, lost)?;
+    let layers = list_of(
+        alloc,
+        Some(LayerWrite {
+            layer: HIGHER,
+            object,
+            motion,
+        }),
+    )?;
+    Ok(CellWrite { gone, layers })
 }
-
-/// What a slot shows.
-type Slot = (Option<ObjectId>, Motion);
 
 /// Writes the first three columns of the lower of two rows, where an object acts, another rests, and none stands; in
 /// the fourth column an object rests.
@@ -55,7 +53,7 @@ fn write_row(
     alloc: Global,
     write: &CellWrite,
     changes: bool,
-    wanted: &[Slot],
+    wanted: &[Slot; 8],
 ) -> Result<(), Fail> {
     let mut list = ListBoard::try_empty(alloc, 4, 2, 2, &OWN_LAYERS)?;
     list.put(1, HIGHER, Some(ObjectId(0)), Motion::Acting);
@@ -63,12 +61,8 @@ fn write_row(
     list.put(7, HIGHER, Some(ObjectId(0)), Motion::Still);
     assert_eq!(rt; list.rewrite(write, 1, &Columns::below(3)), changes);
     for cell in 0..8u32 {
-        let shown = (list.object(cell, HIGHER), list.motion(cell, HIGHER));
-        let slot = match wanted.get(cell as usize) {
-            Some(slot) => *slot,
-            None => (None, Motion::Still),
-        };
-        assert_eq!(rt; shown, slot, "in cell {cell}");
+        let shown = slot_of(&list, cell, HIGHER.0);
+        assert_eq!(rt; shown, wanted.get(cell as usize).copied(), "in cell {cell}");
     }
     assert!(rt; !list.rewrite(write, 1, &Columns::none()));
     Ok(())
@@ -87,25 +81,25 @@ fn a_cell_is_written_and_no_other_one(rt: HostRuntime) -> Result<(), Fail> {
     assert!(&rt; !rows.write(&write, 5, false));
     assert!(&rt; rows.write(&write, 5, true));
     for cell in 0..8u32 {
-        assert_eq!(&rt; rows.object(cell, HIGHER), list.object(cell, HIGHER));
-        assert_eq!(&rt; rows.motion(cell, HIGHER), list.motion(cell, HIGHER));
+        let shown = slot_of(&rows, cell, HIGHER.0);
+        assert!(&rt; shown.is_some());
+        assert_eq!(&rt; shown, slot_of(&list, cell, HIGHER.0));
     }
     Ok(())
 }
 
 #[test]
 fn an_object_is_put_with_a_motion(rt: HostRuntime) -> Result<(), Fail> {
-    let bare = (None, Motion::Still);
     let last = (Some(ObjectId(0)), Motion::Still);
     let write = write_of(rt.alloc(), None, ObjectWrite::Put(ObjectId(0)), Some(RIGHT))?;
     let wanted = [
-        bare,
+        BARE,
         (Some(ObjectId(0)), RIGHT),
-        bare,
+        BARE,
         (Some(ObjectId(0)), RIGHT),
-        bare,
+        BARE,
         (Some(ObjectId(0)), RIGHT),
-        bare,
+        BARE,
         last,
     ];
     write_row(&rt, rt.alloc(), &write, true, &wanted)?;
@@ -114,17 +108,16 @@ fn an_object_is_put_with_a_motion(rt: HostRuntime) -> Result<(), Fail> {
 
 #[test]
 fn an_object_is_put_and_keeps_the_motion_there(rt: HostRuntime) -> Result<(), Fail> {
-    let bare = (None, Motion::Still);
     let last = (Some(ObjectId(0)), Motion::Still);
     let write = write_of(rt.alloc(), None, ObjectWrite::Put(ObjectId(2)), None)?;
     let wanted = [
-        bare,
+        BARE,
         (Some(ObjectId(2)), Motion::Acting),
-        bare,
+        BARE,
         (Some(ObjectId(2)), Motion::Still),
-        bare,
+        BARE,
         (Some(ObjectId(2)), Motion::Still),
-        bare,
+        BARE,
         last,
     ];
     write_row(&rt, rt.alloc(), &write, true, &wanted)?;
@@ -133,17 +126,16 @@ fn an_object_is_put_and_keeps_the_motion_there(rt: HostRuntime) -> Result<(), Fa
 
 #[test]
 fn an_object_goes_and_takes_its_motion_along(rt: HostRuntime) -> Result<(), Fail> {
-    let bare = (None, Motion::Still);
     let last = (Some(ObjectId(0)), Motion::Still);
     let write = write_of(rt.alloc(), Some(ObjectId(0)), ObjectWrite::Leave, None)?;
     let wanted = [
-        bare,
-        bare,
-        bare,
+        BARE,
+        BARE,
+        BARE,
         (Some(ObjectId(2)), Motion::Still),
-        bare,
-        bare,
-        bare,
+        BARE,
+        BARE,
+        BARE,
         last,
     ];
     write_row(&rt, rt.alloc(), &write, true, &wanted)?;
@@ -152,7 +144,6 @@ fn an_object_goes_and_takes_its_motion_along(rt: HostRuntime) -> Result<(), Fail
 
 #[test]
 fn what_stands_is_moved_and_nothing_else(rt: HostRuntime) -> Result<(), Fail> {
-    let bare = (None, Motion::Still);
     let last = (Some(ObjectId(0)), Motion::Still);
     let write = write_of(
         rt.alloc(),
@@ -161,25 +152,25 @@ fn what_stands_is_moved_and_nothing_else(rt: HostRuntime) -> Result<(), Fail> {
         Some(RIGHT),
     )?;
     let wanted = [
-        bare,
-        bare,
-        bare,
+        BARE,
+        BARE,
+        BARE,
         (Some(ObjectId(2)), RIGHT),
-        bare,
-        bare,
-        bare,
+        BARE,
+        BARE,
+        BARE,
         last,
     ];
     write_row(&rt, rt.alloc(), &write, true, &wanted)?;
     let write = write_of(rt.alloc(), None, ObjectWrite::Leave, Some(RIGHT))?;
     let wanted = [
-        bare,
+        BARE,
         (Some(ObjectId(0)), RIGHT),
-        bare,
+        BARE,
         (Some(ObjectId(2)), RIGHT),
-        bare,
-        bare,
-        bare,
+        BARE,
+        BARE,
+        BARE,
         last,
     ];
     write_row(&rt, rt.alloc(), &write, true, &wanted)?;
@@ -188,27 +179,25 @@ fn what_stands_is_moved_and_nothing_else(rt: HostRuntime) -> Result<(), Fail> {
 
 #[test]
 fn a_layer_is_cleared(rt: HostRuntime) -> Result<(), Fail> {
-    let bare = (None, Motion::Still);
     let last = (Some(ObjectId(0)), Motion::Still);
     let write = write_of(rt.alloc(), None, ObjectWrite::Clear, None)?;
-    let wanted = [bare, bare, bare, bare, bare, bare, bare, last];
+    let wanted = [BARE, BARE, BARE, BARE, BARE, BARE, BARE, last];
     write_row(&rt, rt.alloc(), &write, true, &wanted)?;
     Ok(())
 }
 
 #[test]
 fn nothing_written_changes_nothing(rt: HostRuntime) -> Result<(), Fail> {
-    let bare = (None, Motion::Still);
     let last = (Some(ObjectId(0)), Motion::Still);
     let write = write_of(rt.alloc(), None, ObjectWrite::Leave, None)?;
     let wanted = [
-        bare,
+        BARE,
         (Some(ObjectId(0)), Motion::Acting),
-        bare,
+        BARE,
         (Some(ObjectId(2)), Motion::Still),
-        bare,
-        bare,
-        bare,
+        BARE,
+        BARE,
+        BARE,
         last,
     ];
     write_row(&rt, rt.alloc(), &write, false, &wanted)?;

@@ -4,7 +4,7 @@ use Rattle.ps_model.specs.game.Games.{game}
 use Rattle.ps_laws.proofs.texts.BoundedNames.{game-bounded}
 use Rattle.ps_laws.proofs.texts.ObjectsThere.{game-has}
 use Rattle.ps_laws.proofs.texts.SizedRooms.{game-rooms}
-use Rattle.ps_run_tests.proofs.playable.playable_game.Goals as goal
+use Rattle.ps_tests.proofs.playable.playable_game.Goals as goal
 
 pub returns-in-Ok-clause-playable : goal.returns-in-Ok-clause-playable
 returns-in-Ok-clause-playable c =

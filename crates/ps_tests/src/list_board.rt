@@ -1,5 +1,6 @@
 //! Boards as a list of slots: what one shows behind each call.
 
+use crate::boards::{BARE, Slot, differing_in, expect_set, slot_of};
 use ps_board::{Board, LayerId, ListBoard, Motion, ObjectId};
 use ps_model::Direction;
 use std::test::Fail;
@@ -8,6 +9,9 @@ const CRATE: ObjectId = ObjectId(7);
 
 const PUSHED: Motion = Motion::Going(Direction::Left);
 
+/// What the slot of a crate that is pushed shows.
+const PUSHED_CRATE: Slot = (Some(CRATE), PUSHED);
+
 #[test]
 fn an_empty_board_has_no_object(rt: HostRuntime) -> Result<(), Fail> {
     let board = ListBoard::try_empty(rt.alloc(), 2, 1, 4, &[])?;
@@ -15,8 +19,7 @@ fn an_empty_board_has_no_object(rt: HostRuntime) -> Result<(), Fail> {
     assert_eq!(rt; board.layers(), 4);
     for cell in 0..2u32 {
         for layer in 0..4u32 {
-            assert_eq!(rt; board.object(cell, LayerId(layer)), None);
-            assert_eq!(rt; board.motion(cell, LayerId(layer)), Motion::Still);
+            assert_eq!(rt; slot_of(&board, cell, layer), Some(BARE));
         }
     }
     Ok(())
@@ -29,13 +32,8 @@ fn put_sets_one_slot_and_no_other(rt: HostRuntime) -> Result<(), Fail> {
     for cell in 0..2u32 {
         for layer in 0..4u32 {
             let here = cell == 1 && layer == 2;
-            let (object, motion) = if here {
-                (Some(CRATE), PUSHED)
-            } else {
-                (None, Motion::Still)
-            };
-            assert_eq!(rt; board.object(cell, LayerId(layer)), object);
-            assert_eq!(rt; board.motion(cell, LayerId(layer)), motion);
+            let wanted = if here { PUSHED_CRATE } else { BARE };
+            assert_eq!(rt; slot_of(&board, cell, layer), Some(wanted));
         }
     }
     Ok(())
@@ -49,9 +47,8 @@ fn a_copy_is_equal_and_apart(rt: HostRuntime) -> Result<(), Fail> {
     board.put(1, LayerId(0), None, Motion::Still);
     assert_eq!(rt; copy.size(), (1, 2));
     assert_eq!(rt; copy.layers(), 1);
-    assert_eq!(rt; copy.object(0, LayerId(0)), None);
-    assert_eq!(rt; copy.object(1, LayerId(0)), Some(CRATE));
-    assert_eq!(rt; copy.motion(1, LayerId(0)), PUSHED);
+    assert_eq!(rt; slot_of(&copy, 0, 0), Some(BARE));
+    assert_eq!(rt; slot_of(&copy, 1, 0), Some(PUSHED_CRATE));
     Ok(())
 }
 
@@ -65,11 +62,9 @@ fn copies_into_another_and_rests(rt: HostRuntime) -> Result<(), Fail> {
     assert!(rt; board.same(&other));
     board.clear_moves();
     assert!(rt; !board.same(&other));
-    assert_eq!(rt; board.object(1, LayerId(0)), Some(CRATE));
-    assert_eq!(rt; board.motion(1, LayerId(0)), Motion::Still);
-    assert_eq!(rt; other.object(0, LayerId(0)), None);
-    assert_eq!(rt; other.object(1, LayerId(0)), Some(CRATE));
-    assert_eq!(rt; other.motion(1, LayerId(0)), PUSHED);
+    assert_eq!(rt; slot_of(&board, 1, 0), Some((Some(CRATE), Motion::Still)));
+    assert_eq!(rt; slot_of(&other, 0, 0), Some(BARE));
+    assert_eq!(rt; slot_of(&other, 1, 0), Some(PUSHED_CRATE));
     Ok(())
 }
 
@@ -79,10 +74,13 @@ fn tells_which_columns_differ(rt: HostRuntime) -> Result<(), Fail> {
     let other = board.try_copy(rt.alloc())?;
     board.put(4, LayerId(0), Some(CRATE), Motion::Still);
     assert!(rt; board.is_alike(&other));
-    assert!(rt; board.differing(&other, 0).is_empty());
-    assert!(rt; !board.differing(&other, 1).has(0));
-    assert!(rt; board.differing(&other, 1).has(1));
-    assert!(rt; board.differing(&other, 2).is_empty());
+    for (row, wanted) in [(0, false), (1, true), (2, false)] {
+        let columns = differing_in(&board, &other, row).expect(
+            &rt,
+            "a row of boards that are alike",
+        );
+        expect_set(&rt, &columns, &[false, wanted]);
+    }
     let wider = ListBoard::try_empty(rt.alloc(), 3, 3, 1, &[])?;
     assert!(rt; !board.is_alike(&wider));
     Ok(())

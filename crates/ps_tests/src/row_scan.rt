@@ -1,6 +1,7 @@
 //! Boards of rows: on which rows an object stands, and something moves. A board may tell more rows than that; this one
 //! doesn't.
 
+use crate::boards::expect_set;
 use ps_board::{Board, OneWord};
 use ps_match::Scan;
 use ps_model::{LayerId, LayeredObject, Motion, MotionTest, ObjectId};
@@ -21,51 +22,62 @@ const ELSEWHERE: LayeredObject = LayeredObject {
 };
 
 #[test]
-fn tells_the_rows_that_have_an_object(rt: HostRuntime) -> Result<(), Fail> {
+fn tells_whether_an_object_is_lacking(rt: HostRuntime) -> Result<(), Fail> {
     let mut board = RowBoard::<OneWord>::try_empty(rt.alloc(), 2, 3, 2, &OWN_LAYERS)?;
     assert!(rt; board.lacks(&SOUGHT));
     board.put(2, LayerId(1), Some(ObjectId(2)), Motion::Still);
     board.put(4, LayerId(1), Some(ObjectId(2)), Motion::Acting);
     assert!(rt; !board.lacks(&SOUGHT));
+    Ok(())
+}
+
+#[test]
+fn tells_the_rows_that_have_an_object(rt: HostRuntime) -> Result<(), Fail> {
+    let mut board = RowBoard::<OneWord>::try_empty(rt.alloc(), 2, 3, 2, &OWN_LAYERS)?;
+    board.put(2, LayerId(1), Some(ObjectId(2)), Motion::Still);
+    board.put(4, LayerId(1), Some(ObjectId(2)), Motion::Acting);
     let copy = board.try_copy(rt.alloc())?;
     board.put(2, LayerId(1), Some(ObjectId(0)), Motion::Still);
     board.clear_moves();
-    for row in 0..3u32 {
-        assert_eq!(rt; board.rows_with(&SOUGHT).has(row), row == 1);
-        assert_eq!(rt; copy.rows_with(&SOUGHT).has(row), row != 0);
-        assert!(rt; !copy.rows_with(&ELSEWHERE).has(row));
-    }
+    expect_set(&rt, &board.rows_with(&SOUGHT), &[false, true]);
+    expect_set(&rt, &copy.rows_with(&SOUGHT), &[false, true, true]);
+    expect_set(&rt, &copy.rows_with(&ELSEWHERE), &[]);
     copy.copy_into(&mut board);
-    for row in 0..3u32 {
-        assert_eq!(rt; board.rows_with(&SOUGHT).has(row), row != 0);
-    }
+    expect_set(&rt, &board.rows_with(&SOUGHT), &[false, true, true]);
     board.put(2, LayerId(1), None, Motion::Still);
     board.put(4, LayerId(1), None, Motion::Still);
     assert!(rt; board.lacks(&SOUGHT));
     Ok(())
 }
 
+const ACTS: MotionTest = MotionTest {
+    layer: LayerId(1),
+    motion: Motion::Acting,
+};
+
 #[test]
 fn tells_the_rows_where_something_moves(rt: HostRuntime) -> Result<(), Fail> {
     let mut board = RowBoard::<OneWord>::try_empty(rt.alloc(), 2, 3, 2, &OWN_LAYERS)?;
     let mut other = board.try_copy(rt.alloc())?;
-    let acts = MotionTest {
-        layer: LayerId(1),
-        motion: Motion::Acting,
-    };
     board.put(2, LayerId(1), Some(ObjectId(2)), Motion::Still);
     board.put(4, LayerId(1), Some(ObjectId(2)), Motion::Acting);
     board.copy_into(&mut other);
-    for row in 0..3u32 {
-        assert_eq!(rt; other.rows_moving(&acts).has(row), row == 1);
-        assert_eq!(rt; other.rows_moving_any().has(row), row == 1);
-        assert_eq!(rt; other.rows_holding(ObjectId(2)).has(row), row != 0);
-        assert!(rt; !other.rows_holding(ObjectId(9)).has(row));
-    }
+    expect_set(&rt, &other.rows_moving(&ACTS), &[false, true]);
+    expect_set(&rt, &other.rows_moving_any(), &[false, true]);
+    expect_set(&rt, &other.rows_holding(ObjectId(2)), &[false, true, true]);
+    expect_set(&rt, &other.rows_holding(ObjectId(9)), &[]);
+    Ok(())
+}
+
+#[test]
+fn tells_no_row_where_all_rests(rt: HostRuntime) -> Result<(), Fail> {
+    let mut board = RowBoard::<OneWord>::try_empty(rt.alloc(), 2, 3, 2, &OWN_LAYERS)?;
+    board.put(4, LayerId(1), Some(ObjectId(2)), Motion::Acting);
+    let mut other = board.try_copy(rt.alloc())?;
     board.clear_moves();
-    assert!(rt; board.rows_moving(&acts).is_empty());
+    expect_set(&rt, &board.rows_moving(&ACTS), &[]);
     board.copy_into(&mut other);
-    assert!(rt; other.rows_moving_any().is_empty());
+    expect_set(&rt, &other.rows_moving_any(), &[]);
     assert!(rt; other.same(&board));
     Ok(())
 }
