@@ -26,12 +26,13 @@ use Rattle.ps_program.specs.Needs.{asked_by_part, asked_by_row, asked_by_rows, c
 use Rattle.ps_program.specs.Needs.{rows_need}
 use Rattle.ps_board.specs.ColumnSets.{set_columns}
 use Rattle.ps_board.proofs.ColumnLaws.{none_in}
-use Rattle.ps_match.specs.Nowhere.{HasMovesIn, IsNowhere, NoneMovesOnRow}
+use Rattle.ps_match.specs.Nowhere.{HasMovesIn, IsNowhere}
 use Rattle.ps_program.specs.declared.rows.CompiledRow.{CompiledRow}
 use Rattle.ps_places.specs.Lines.{cell_meaning}
 use Rattle.ps_places.specs.RowPlaces.{cells_meaning, parts_meaning, row_meaning}
 use Rattle.ps_places.proofs.OnlyOn.{last_off}
 use Rattle.ps_places.proofs.Ranges.{flat_map-none}
+use Rattle.ps_engine.specs.Lacking.{MovesNowhere}
 use Rattle.ps_engine.proofs.Choosing.{cells_in-meant}
 use Rattle.ps_engine.proofs.Combinations.{get-shown_twice, no_combination}
 
@@ -184,10 +185,6 @@ rule_lacking g table direction rows objects k d is low nowhere =
     direction rows objects k d is low refl
 
 -- a motion that nothing has -------------------------------------------------------------------------------------------
-
--- no row of the board has it
-abbrev pub MovesNowhere : Grid → MotionTest → Type 0
-MovesNowhere g test = (row : ℕ) → row < g.height → NoneMovesOnRow g test row
 
 cell_still : (g : Grid) (table : Option (List ℕ)) (test : MotionTest) → IsGrid g → MovesNowhere g test →
     (cell : CompiledCell) → Contains (cell_moves cell) test →

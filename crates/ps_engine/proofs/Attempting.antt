@@ -7,7 +7,7 @@ use Rattle.ps_model.specs.meaning.RuleMeanings.{CellMeaning, RuleMeaning}
 use Rattle.ps_model.specs.declared.pieces.Direction.{Direction}
 use Rattle.ps_program.specs.declared.cells.CompiledCell.{CompiledCell}
 use Rattle.ps_program.specs.declared.rows.CompiledRow.{CompiledRow}
-use Rattle.ps_places.specs.Lines.{cell_meaning, part_meaning}
+use Rattle.ps_places.specs.Lines.{part_meaning}
 use Rattle.ps_places.specs.RowPlaces.{parts_meaning, row_meaning}
 use Rattle.ps_engine.specs.Choosing.{rows_meaning}
 use Rattle.ps_engine.specs.OnePart.{one_part, rows_parts}

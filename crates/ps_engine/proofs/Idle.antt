@@ -1,17 +1,19 @@
 -- A group of which no rule has a combination does nothing.
-use Rattle.std.proofs.Common.{◌≡◌, ◌∙◌, ℕ, ◌+◌, suc, Bool, true, false, Option, List, [], ◌∷◌, map, refl, sym, ap}
-use Rattle.std.proofs.Common.{arith}
-use Rattle.std.specs.Prelude.{All}
+use Rattle.std.proofs.Common.{◌≡◌, ◌∙◌, ℕ, ◌+◌, ◌-◌, ◌<◌, ◌≤◌, suc, zero, Bool, true, false, Option, List, [], ◌∷◌, map}
+use Rattle.std.proofs.Common.{drop, get_or, refl, sym, ap, arith}
+use Rattle.std.proofs.Math.Bool.{or-false}
+use Rattle.std.proofs.lemmas.List.{drop-drop, get_or-drop}
 use Rattle.std.proofs.lemmas.List.Elements.{All-head, All-tail}
 use Rattle.ps_model.specs.declared.limits.TheConstants.{ROUND_LIMIT}
 use Rattle.ps_model.specs.board.Attempts.{Result, State, attempt, attempt_by, combinations_on}
-use Rattle.ps_model.specs.board.Programs.{Progress, after_change, group, round, section_run, settled}
+use Rattle.ps_model.specs.board.Programs.{Progress, after_change, group, round, section_run}
 use Rattle.ps_model.specs.meaning.RuleMeanings.{RuleMeaning}
 use Rattle.ps_program.specs.declared.rules.CompiledRule.{CompiledRule}
 use Rattle.ps_program.specs.declared.program.CompiledSection.{CompiledSection}
-use Rattle.ps_program.specs.declared.program.CompiledSection.TheVariants.{Group}
 use Rattle.ps_engine.specs.RulesInRoom.{rule_meaning, rules_meaning, section_meaning}
+use Rattle.ps_engine.specs.Lacking.{AreIdleBetween}
 use Rattle.ps_engine.specs.Watched.{AreIdleOn, IsIdleOn}
+use Rattle.ps_laws.proofs.alike.AlikeRounds.{change_grouped}
 use Rattle.ps_engine.proofs.Sequences.{group_is, settled_off}
 
 abbrev still : State → Result
@@ -51,3 +53,34 @@ pub section_still : (table : Option (List ℕ)) (section : CompiledSection) (rep
 section_still table section repeats state idle = rw idle.group
     (ap (λ (r : Result). let p : Progress = record { state = r.state; repeats = repeats; stopped = false } in p)
     (group_still table idle.rules state idle.idle))
+
+-- rules of a round without a combination are passed over
+passed_front : (table : Option (List ℕ)) (rules : List CompiledRule) (count : ℕ) (changed : Bool) (state : State) →
+    ((k : ℕ) (d : CompiledRule) → k < count →
+    combinations_on state.grid (rule_meaning table (get_or rules k d)) ≡ []) →
+    after_change changed (round (map (rule_meaning table) (drop count rules)) state)
+    ≡ after_change changed (round (rules_meaning table rules) state)
+passed_front table [] zero changed state idle = refl
+passed_front table [] (suc count) changed state idle = refl
+passed_front table (rule ∷ rules) zero changed state idle = refl
+passed_front table (rule ∷ rules) (suc count) changed state idle =
+    let rest : Result = round (rules_meaning table rules) state in
+    passed_front table rules count changed state (λ k d low. idle (suc k) d (omega (arith, low)))
+    ∙ sym (ap (λ (b : Bool). after_change b rest) (or-false changed))
+    ∙ sym (change_grouped changed false rest)
+    ∙ sym (ap (λ (r : Result). after_change changed (after_change r.changed (round (rules_meaning table rules) r.state)))
+    (attempt_still (rule_meaning table rule) state (idle 0 rule (omega arith))))
+
+pub rules_passed : (table : Option (List ℕ)) (rules : List CompiledRule) (n m : ℕ) (changed : Bool) (state : State) →
+    n ≤ m → AreIdleBetween state.grid table rules n m →
+    after_change changed (round (map (rule_meaning table) (drop m rules)) state)
+    ≡ after_change changed (round (map (rule_meaning table) (drop n rules)) state)
+rules_passed table rules n m changed state from idle =
+    let far : n + (m - n) ≡ m = omega (arith, from) in
+    ap (λ (k : ℕ). after_change changed (round (map (rule_meaning table) (drop k rules)) state)) (sym far)
+    ∙ ap (λ (rs : List CompiledRule). after_change changed (round (map (rule_meaning table) rs) state))
+    (sym (drop-drop (m - n) n rules))
+    ∙ passed_front table (drop n rules) (m - n) changed state
+    (λ k d low.
+    ap (λ (r : CompiledRule). combinations_on state.grid (rule_meaning table r)) (get_or-drop n rules k d)
+    ∙ idle (n + k) d (omega arith) (omega (arith, low, from)))

@@ -14,6 +14,7 @@ pub mod WrittenBehind
 pub mod WriterPlaces
 pub mod WriterAttempts
 pub mod Absent
+pub mod AskedFor
 pub mod RoomsFor
 pub mod Sleeping
 pub mod RowsAsleep

@@ -1,10 +1,10 @@
 -- Grids that differ in nothing that rules ask about: the rules have the same combinations on both.
-use Rattle.std.proofs.Common.{◌≡◌, ◌∙◌, ℕ, ◌+◌, ◌*◌, ◌%◌, ◌<◌, ◌≤◌, ◌&&◌, ◌||◌, inl, inr, Bool, true, false, not}
-use Rattle.std.proofs.Common.{Option, Some, None}
-use Rattle.std.proofs.Common.{List, [], ◌∷◌, length, map, filter, get_or, refl, sym, ap, ap₂, arith}
+use Rattle.std.proofs.Common.{◌≡◌, ◌∙◌, ℕ, ◌<◌, ◌&&◌, inl, inr, Bool, true, false, not}
+use Rattle.std.proofs.Common.{Option}
+use Rattle.std.proofs.Common.{List, [], ◌∷◌, length, map, get_or, refl, sym, ap, ap₂, arith}
 use Rattle.std.specs.Prelude.{All, slice_get}
-use Rattle.std.specs.List.{flat_map, list_all, list_any}
-use Rattle.std.proofs.lemmas.Bool.{and_parts, cases_lt}
+use Rattle.std.specs.List.{list_all, list_any}
+use Rattle.std.proofs.lemmas.Bool.{cases_lt}
 use Rattle.std.proofs.lemmas.Option.{slice_get-get_or, slice_get_past}
 use Rattle.std.proofs.lemmas.List.Elements.{All-head, All-tail}
 use mathlib.Core.Path.{fun_ext}
@@ -15,8 +15,8 @@ use Rattle.ps_model.specs.declared.pieces.Slot.{Slot}
 use Rattle.ps_model.specs.declared.compiled.LayeredObject.{LayeredObject}
 use Rattle.ps_model.specs.declared.compiled.MotionTest.{MotionTest}
 use Rattle.ps_model.specs.board.Grid.{Grid, cell_at}
-use Rattle.ps_model.specs.board.Attempts.{combinations, combinations_on}
-use Rattle.ps_model.specs.board.Places.{cells_in, fits_along, fits_there, places, search_order, stretches}
+use Rattle.ps_model.specs.board.Attempts.{combinations}
+use Rattle.ps_model.specs.board.Places.{cells_in, fits_along, fits_there, places}
 use Rattle.ps_model.specs.meaning.Compiled.{is_held_in, mask_fits, moves_as_asked}
 use Rattle.ps_model.specs.meaning.RuleMeanings.{CellMeaning}
 use Rattle.ps_laws.proofs.common.Everywhere.{All-joined}
@@ -25,16 +25,14 @@ use Rattle.ps_program.specs.declared.cells.CompiledCell.{CompiledCell}
 use Rattle.ps_program.specs.declared.rows.CompiledRow.{CompiledRow}
 use Rattle.ps_program.specs.declared.rules.CompiledRule.{CompiledRule}
 use Rattle.ps_program.specs.declared.program.CompiledSection.{CompiledSection}
-use Rattle.ps_program.specs.declared.program.CompiledSection.TheVariants.{Group}
 use Rattle.ps_program.specs.Axes.{direction_of}
 use Rattle.ps_program.specs.ProgramShown.{mask_shown}
 use Rattle.ps_board.specs.ColumnSets.{both_columns, column_at, set_columns}
 use Rattle.ps_board.proofs.ColumnLaws.{column_at-where, none_in}
-use Rattle.ps_match.specs.Topics.{DifferOnlyAbout, HoldAlike, MoveAlike, motion_topic, object_topic}
+use Rattle.ps_match.specs.Topics.{DifferOnlyAbout, motion_topic, object_topic}
 use Rattle.ps_match.proofs.TopicSets.{motion_low, object_low}
 use Rattle.ps_places.specs.Lines.{cell_meaning}
 use Rattle.ps_places.specs.RowPlaces.{row_meaning}
-use Rattle.ps_engine.specs.RulesInRoom.{rule_meaning}
 use Rattle.ps_engine.specs.TopicsAsked.{HasGroup, HasMask, HasMotion, HasObject, HasPart, HasParts, HasRows, HasRules}
 use Rattle.ps_engine.specs.Watched.{AreIdleOn, IsIdleOn}
 use Rattle.ps_engine.proofs.Absent.{all_cells, cells_meaning-all}

@@ -1,16 +1,15 @@
 -- What tells that nothing has changed leaves the grid as it is.
-use Rattle.std.proofs.Common.{◌≡◌, ◌∙◌, ℕ, zero, suc, Bool, true, false, ◌||◌, not, Option, Some, None, List, [], ◌∷◌}
+use Rattle.std.proofs.Common.{◌≡◌, ◌∙◌, ℕ, zero, suc, Bool, true, false, not, Option, Some, None, List, [], ◌∷◌}
 use Rattle.std.proofs.Common.{fold, refl, sym, ap}
 use Rattle.std.specs.Prelude.{slice_get}
 use Rattle.std.proofs.lemmas.Bool.{false≢true, not-false, or_parts}
 use Rattle.ps_model.specs.declared.pieces.Slot.{Slot}
 use Rattle.ps_model.specs.declared.limits.TheConstants.{ROUND_LIMIT}
-use Rattle.ps_model.specs.board.Grid.{Grid}
 use Rattle.ps_model.specs.board.Places.{cells_in}
-use Rattle.ps_model.specs.board.Attempts.{Result, Rewritten, State, all_applied, all_fit, applied, attempt}
+use Rattle.ps_model.specs.board.Attempts.{Result, Rewritten, State, all_fit, applied, attempt}
 use Rattle.ps_model.specs.board.Attempts.{combinations_on, rewritten_along, rewritten_cell, rewritten_rows, same_cell}
 use Rattle.ps_model.specs.board.Attempts.{with_cell}
-use Rattle.ps_model.specs.board.Programs.{after_change, group, round, settled}
+use Rattle.ps_model.specs.board.Programs.{group, round, settled}
 use Rattle.ps_model.specs.meaning.RuleMeanings.{CellMeaning, RuleMeaning}
 use Rattle.ps_laws.proofs.alike.TurnedAttempts.{chosen_by}
 use Rattle.ps_laws.proofs.common.SameThings.{same_cell-true}

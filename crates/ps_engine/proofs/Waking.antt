@@ -1,5 +1,5 @@
 -- What is known of sections that are woken, forgotten, or looked at anew.
-use Rattle.std.proofs.Common.{◌≡◌, ◌≢◌, ◌∙◌, ℕ, zero, suc, ◌+◌, ◌*◌, ◌<◌, ◌≤◌, ◌++◌, inl, inr, Bool, true, false}
+use Rattle.std.proofs.Common.{◌≡◌, ◌≢◌, ◌∙◌, ℕ, zero, suc, ◌+◌, ◌*◌, ◌<◌, ◌≤◌, ◌++◌, inl, inr, Bool, true}
 use Rattle.std.proofs.Common.{Option, Some, None, List, []}
 use Rattle.std.proofs.Common.{◌∷◌, length, get_or, refl, sym, ap, ap₂, subst, arith}
 use Rattle.std.specs.Prelude.{option_map, slice_get, slice_set}
@@ -11,13 +11,11 @@ use Rattle.std.proofs.Math.Seq.{get_or-append_seam}
 use Rattle.std.proofs.lemmas.Option.{get_or_from_slice_get, same_Some, slice_get-get_or, slice_get_past}
 use Rattle.std.proofs.lemmas.Option.{slice_get_within}
 use Rattle.ps_model.specs.board.Grid.{Grid, IsGrid}
-use Rattle.ps_model.specs.declared.limits.TheConstants.{SIDE_LIMIT}
-use Rattle.ps_board.specs.ColumnSets.{both_columns, columns_below, set_columns}
-use Rattle.ps_match.specs.InRoom.{sides_of}
+use Rattle.ps_board.specs.ColumnSets.{both_columns, set_columns}
 use Rattle.ps_match.specs.Topics.{DifferOnlyAbout}
 use Rattle.ps_program.specs.declared.program.CompiledSection.{CompiledSection}
 use Rattle.ps_engine.specs.TopicsAsked.{HasGroup}
-use Rattle.ps_engine.specs.Waking.{AreForgotten, AreUnknown, AreWoken, IsForgotten, IsSameBut, IsUnknown, IsWoken}
+use Rattle.ps_engine.specs.Waking.{AreForgotten, AreUnknown, AreWoken, IsSameBut, IsUnknown}
 use Rattle.ps_engine.specs.Watched.{AreKnown, IsIdleOn, IsKnown}
 use Rattle.ps_engine.specs.declared.watched.SectionWatch.{SectionWatch}
 use Rattle.ps_engine.proofs.Stirred.{differ_back, section_idle}

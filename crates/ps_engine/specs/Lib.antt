@@ -8,3 +8,4 @@ pub mod Watching
 pub mod TopicsAsked
 pub mod Watched
 pub mod Waking
+pub mod Lacking

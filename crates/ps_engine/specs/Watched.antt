@@ -1,10 +1,10 @@
 -- What is known of a program's groups: those that have no combination on a grid that is kept.
-use Rattle.std.specs.Prelude.{◌≡◌, ℕ, true, false, Option, Some, List, [], All, slice_get}
+use Rattle.std.specs.Prelude.{◌≡◌, ℕ, true, Option, Some, List, [], All, slice_get}
 use Rattle.ps_model.specs.board.Grid.{Grid}
 use Rattle.ps_model.specs.board.Attempts.{combinations_on}
 use Rattle.ps_program.specs.declared.rules.CompiledRule.{CompiledRule}
 use Rattle.ps_program.specs.declared.program.CompiledSection.{CompiledSection}
-use Rattle.ps_program.specs.declared.program.CompiledSection.TheVariants.{Group, Loop}
+use Rattle.ps_program.specs.declared.program.CompiledSection.TheVariants.{Group}
 use Rattle.ps_engine.specs.RulesInRoom.{rule_meaning}
 use Rattle.ps_engine.specs.TopicsAsked.{HasGroup}
 use Rattle.ps_engine.specs.declared.watched.SectionWatch.{SectionWatch}

@@ -9,27 +9,12 @@ ghost use Rattle.ps_engine.specs.RulesInRoom.{rule_meaning};
 
 use crate::asking::{attempt_commands, rows_have_places};
 use crate::lent_queue::LentQueue;
-use crate::one_part::{attempt_part, only_part};
+use crate::one_part::{attempt_part, is_idle_part, only_part};
 use crate::walking::walk;
 use crate::writing::attempt_writer;
-use ps_match::{Scan, recall_shape};
+use ps_match::Scan;
 use ps_places::{RoomFor, find_starts};
 use ps_program::CompiledRule;
-
-/// Whether the board knows that nothing has a motion which a rule asks for; then the rule has no combination. No memory
-/// is taken.
-fn lacks_motion<B: Scan>(board: &B, rule: &CompiledRule) -> bool
-    ensures { result ≡ true →
-        combinations_on (B.grid board.now) (rule_meaning (B.table board.now) rule.now) ≡ [] }
-{
-    recall_shape(board);
-    for test in rule.moving.as_slice() {
-        if board.rows_moving(test).is_empty() {
-            return true;
-        }
-    }
-    false
-}
 
 /// Whether the board knows that an object which a rule needs is nowhere; then the rule has no combination. No memory is
 /// taken.
@@ -43,18 +28,6 @@ fn lacks_object<B: Scan>(board: &B, rule: &CompiledRule) -> bool
         }
     }
     false
-}
-
-/// Whether the board knows that it lacks what a rule asks for; then the rule has no combination. Motions come first: in
-/// most attempts nothing moves as it is asked for. No memory is taken.
-fn lacks_needed<B: Scan>(board: &B, rule: &CompiledRule) -> bool
-    ensures { result ≡ true →
-        combinations_on (B.grid board.now) (rule_meaning (B.table board.now) rule.now) ≡ [] }
-{
-    if lacks_motion(board, rule) {
-        return true;
-    }
-    lacks_object(board, rule)
 }
 
 /// Finds where each row of a rule fits on the board as it is, and chooses the first place of each. Answers whether
@@ -91,7 +64,10 @@ pub fn is_idle<'r, B: Scan>(board: &B, rule: &CompiledRule<'r>, rooms: &mut [Roo
     ensures idle { result ≡ true → combinations_on (B.grid board.now) (rule_meaning (B.table board.now) rule.now) ≡ [] }
     ensures long { length rooms.new ≡ length rooms.old }
 {
-    lacks_needed(board, rule) || !rows_have_places(board, rule, rooms)
+    if let Some(part) = only_part(rule.rows.as_slice()) {
+        return is_idle_part(board, rule, part, rooms);
+    }
+    lacks_object(board, rule) || !rows_have_places(board, rule, rooms)
 }
 
 /// An attempt of a rule that rewrites cells, its combinations walked one after the other: each is applied if every row
@@ -138,7 +114,7 @@ pub fn attempt<'r, B: Scan>(
     ensures sides { sides_of (B.grid board.new) ≡ sides_of (B.grid board.old) }
     ensures rooms { length rooms.new ≡ length rooms.old }
 {
-    if lacks_needed(board, rule) {
+    if lacks_object(board, rule) {
         return false;
     }
     if !rule.rewrites {

@@ -4,6 +4,7 @@
 mod asking;
 mod attempts;
 mod kept_board;
+mod lacking;
 mod lent_queue;
 mod one_part;
 mod programs;

@@ -1,8 +1,8 @@
 //! An attempt of a rule of one row of one part. Where its places leave each other alone, each still fits when its turn
 //! comes, and so all are written together, row by row of the board.
 
-ghost use Rattle.std.specs.Prelude.{◌≡◌, ◌≤◌, IfSome, length, true};
-ghost use Rattle.ps_model.specs.board.Attempts.{Result as Meant, State, attempt};
+ghost use Rattle.std.specs.Prelude.{◌≡◌, ◌≤◌, IfSome, [], length, true};
+ghost use Rattle.ps_model.specs.board.Attempts.{Result as Meant, State, attempt, combinations_on};
 ghost use Rattle.ps_match.specs.InRoom.{sides_of};
 ghost use Rattle.ps_laws.specs.WholeRows.{HasCells};
 ghost use Rattle.ps_engine.specs.OnePart.{one_part, rows_parts};
@@ -11,7 +11,7 @@ ghost use Rattle.ps_engine.specs.RulesInRoom.{rule_meaning};
 use crate::attempts::attempt_rows;
 use crate::lent_queue::LentQueue;
 use ps_match::Scan;
-use ps_places::RoomFor;
+use ps_places::{RoomFor, begins_nowhere};
 use ps_program::{CompiledCell, CompiledRow, CompiledRule};
 
 /// The part of rows that are one row of one part; nothing, where there is more or less.
@@ -27,6 +27,25 @@ pub fn only_part(rows: &[CompiledRow]) -> Option<&[CompiledCell]>
         return None;
     }
     Some(parts[0].as_slice())
+}
+
+/// Whether a rule whose only part this is is known to have no combination. No memory is taken.
+pub fn is_idle_part<'r, B: Scan>(
+    board: &B,
+    rule: &CompiledRule<'r>,
+    part: &[CompiledCell],
+    rooms: &mut [RoomFor<B>],
+) -> bool
+    requires only { rows_parts rule.now.rows ≡ one_part part.now }
+    requires whole { HasCells part.now }
+    requires rooms { length rule.now.rows ≤ length rooms.old }
+    ensures idle { result ≡ true → combinations_on (B.grid board.now) (rule_meaning (B.table board.now) rule.now) ≡ [] }
+    ensures long { length rooms.new ≡ length rooms.old }
+{
+    if begins_nowhere(board, rule.axis, part) {
+        return true;
+    }
+    rooms[0].find_part(board, rule.axis, part).is_empty()
 }
 
 /// An attempt of a rule whose only part this is. Where a place of it asks for what another one's cells may change, its

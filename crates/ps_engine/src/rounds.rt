@@ -9,6 +9,7 @@ ghost use Rattle.ps_match.specs.InRoom.{sides_of};
 
 use crate::attempts::attempt;
 use crate::kept_board::KeptBoard;
+use crate::lacking::behind_lacking;
 use crate::lent_queue::LentQueue;
 use crate::watch::Watch;
 use ps_match::Scan;
@@ -17,7 +18,8 @@ use ps_places::RoomFor;
 use ps_program::CompiledRule;
 use ps_text::List;
 
-/// A round: the attempts of a group's rules in order. Answers whether one changed something.
+/// A round: the attempts of a group's rules in order, but for those that ask for a motion which nothing has. Answers
+/// whether one changed something.
 fn round<'r, B: Scan>(
     rules: &[CompiledRule<'r>],
     board: &mut B,
@@ -34,8 +36,15 @@ fn round<'r, B: Scan>(
     ensures rooms { length rooms.new ≡ length rooms.old }
 {
     let mut changed = false;
-    for rule in rules {
-        changed |= attempt(rule, board, queue, rooms);
+    let mut number = 0;
+    while number < rules.len() {
+        let next = behind_lacking(board, rules, number);
+        if next == number {
+            changed |= attempt(&rules[number], board, queue, rooms);
+            number += 1;
+        } else {
+            number = next;
+        }
     }
     changed
 }

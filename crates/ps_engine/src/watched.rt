@@ -16,6 +16,7 @@ ghost use Rattle.ps_engine.specs.declared.watched.SectionWatch.{SectionWatch};
 ghost use Rattle.ps_engine.specs.Waking.{AreForgotten, AreUnknown, AreWoken, IsSameBut, IsWoken};
 
 use crate::attempts::is_idle;
+use crate::lacking::behind_lacking;
 use crate::topics_asked::topics_of_section;
 use ps_match::{Columns, Scan, Topics, recall_shape};
 use ps_model::Memory;
@@ -116,9 +117,16 @@ fn are_idle<B: Scan>(rules: &[CompiledRule], board: &B, rooms: &mut [RoomFor<B>]
     ensures idle { result ≡ true → AreIdleOn (B.grid board.now) (B.table board.now) rules.now }
     ensures rooms { length rooms.new ≡ length rooms.old }
 {
-    for rule in rules {
-        if !is_idle(board, rule, rooms) {
-            return false;
+    let mut number = 0;
+    while number < rules.len() {
+        let next = behind_lacking(board, rules, number);
+        if next == number {
+            if !is_idle(board, &rules[number], rooms) {
+                return false;
+            }
+            number += 1;
+        } else {
+            number = next;
         }
     }
     true

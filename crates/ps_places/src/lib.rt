@@ -14,5 +14,6 @@ mod starts;
 mod targets;
 mod ways;
 
+pub use part_starts::begins_nowhere;
 pub use room::{RoomFor, RowRoom};
 pub use starts::find_starts;

@@ -1,6 +1,6 @@
 //! Where one part of a row of a rule begins as the board is, row by row of the board.
 
-ghost use Rattle.std.specs.Prelude.{◌≡◌, ◌≢◌, ◌+◌, ◌<◌, ◌≤◌, ◌∷◌, [], length, replicate};
+ghost use Rattle.std.specs.Prelude.{◌≡◌, ◌≢◌, ◌+◌, ◌<◌, ◌≤◌, ◌∷◌, [], length, replicate, true};
 ghost use Rattle.ps_model.specs.declared.limits.TheConstants.{SIDE_LIMIT};
 ghost use Rattle.ps_model.specs.board.Places.{places};
 ghost use Rattle.ps_board.specs.ColumnSets.{no_columns, set_columns};
@@ -194,6 +194,20 @@ fn rows_begun<W: ColumnWords>(rows: Columns<W>, starts: &[Columns<W>]) -> Column
         begun = begun.with(row, !starts[row as usize].is_empty());
     }
     begun
+}
+
+/// Whether it is known by what the cells of a part ask for that it begins nowhere; it needn't be known where it does so.
+/// No memory is taken.
+pub fn begins_nowhere<B: Scan>(board: &B, axis: Axis, part: &[CompiledCell]) -> bool
+    requires { HasCells part.now }
+    ensures { let meant = part_meaning (B.table board.now) part.now in
+        result ≡ true → places (B.grid board.now) (direction_of axis) (meant ∷ []) ≡ [] }
+{
+    let (_width, height) = board.size();
+    let count = rows_with_room(axis, height, part.len());
+    rows_of_part(board, axis, part)
+        .both(Columns::below(count))
+        .is_empty()
 }
 
 /// Finds the columns of each row of the board in which a part begins, and answers the rows that have one. What is in

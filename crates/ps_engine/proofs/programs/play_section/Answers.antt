@@ -1,7 +1,6 @@
-use Rattle.std.proofs.Common.{◌≡◌, ◌∙◌, List, sym, ap}
+use Rattle.std.proofs.Common.{◌≡◌, ◌∙◌, sym, ap}
 use Rattle.ps_model.specs.board.Attempts.{State, Result}
 use Rattle.ps_model.specs.board.Programs.{group}
-use Rattle.ps_model.specs.meaning.RuleMeanings.{RuleMeaning}
 use Rattle.ps_engine.specs.RulesInRoom.{rules_meaning}
 use Rattle.ps_engine.proofs.Unchanged.{group_kept}
 use Rattle.ps_engine.proofs.programs.play_section.Goals as goal

@@ -1,26 +1,62 @@
-use Rattle.std.proofs.Common.{◌≡◌, ◌∙◌, ℕ, List, Option, ap}
+use Rattle.std.proofs.Common.{◌≡◌, ◌∙◌, ℕ, List, Option, ap, subst, arith}
 use Rattle.ps_model.specs.board.Attempts.{State, Result, attempt}
+use Rattle.ps_engine.specs.Lacking.{AreIdleBetween}
 use Rattle.ps_engine.specs.RulesInRoom.{rule_meaning}
-use Rattle.ps_engine.proofs.Sequences.{round_more}
+use Rattle.ps_engine.proofs.Idle.{rules_passed}
+use Rattle.ps_engine.proofs.Sequences.{round_end, round_more}
 use Rattle.ps_engine.proofs.rounds.round.Goals as goal
 
-pub loop-rule-preserved : goal.loop-rule-preserved
-loop-rule-preserved g c =
+pub loop-number-preserved-then-next-number : goal.loop-number-preserved-then-next-number
+loop-number-preserved-then-next-number g c =
     let table : Option (List ℕ) = g.B.Board.table c.args.board.now in
-    let now : State = record { grid = g.B.Board.grid c.loop-rule.board; queue = c.loop-rule.queue } in
+    let was = c.loop-number.invariant in
+    let now : State = record { grid = g.B.Board.grid c.loop-number.board; queue = c.loop-number.queue } in
     let next : State = record {
       grid = g.B.Board.grid c.attempt-changed.new.board;
       queue =
           c.attempt-changed.new.queue;
     } in
     let after : Result = record { state = next; changed = c.attempt-changed.result } in
-    let made : after ≡ attempt (rule_meaning table c.rule-item.result) now =
-    c.attempt-changed.ensures.attempt ∙ ap (λ (t : Option (List ℕ)). attempt (rule_meaning t c.rule-item.result) now)
-    c.loop-rule.invariant.table in
+    let made : after ≡ attempt (rule_meaning table c.index-rules-number.result) now =
+    c.attempt-changed.ensures.attempt
+    ∙ ap (λ (t : Option (List ℕ)). attempt (rule_meaning t c.index-rules-number.result) now) was.table in
     record {
-      round = round_more (rule_meaning table) c.args.rules.now c.loop-rule.rule-index c.rule-item.result
-          c.loop-rule.changed c.attempt-changed.result now next c.loop-rule-test.true c.rule-item.is made
-          ∙ c.loop-rule.invariant.round;
-      table = c.attempt-changed.ensures.table ∙ c.loop-rule.invariant.table;
-      sides = c.attempt-changed.ensures.sides ∙ c.loop-rule.invariant.sides;
+      round = round_more (rule_meaning table) c.args.rules.now c.loop-number.number c.index-rules-number.result
+          c.loop-number.changed c.attempt-changed.result now next c.loop-number-test.true c.index-rules-number.is made
+          ∙ was.round;
+      table = c.attempt-changed.ensures.table ∙ was.table;
+      sides = c.attempt-changed.ensures.sides ∙ was.sides;
+      rooms = c.attempt-changed.ensures.rooms ∙ was.rooms;
     }
+
+pub loop-number-preserved : goal.loop-number-preserved
+loop-number-preserved g c =
+    let table : Option (List ℕ) = g.B.Board.table c.args.board.now in
+    let was = c.loop-number.invariant in
+    let now : State = record { grid = g.B.Board.grid c.loop-number.board; queue = c.loop-number.queue } in
+    let idle : AreIdleBetween now.grid table c.args.rules.now c.loop-number.number c.behind_lacking-next.result =
+    subst (λ (t : Option (List ℕ)). AreIdleBetween now.grid t c.args.rules.now c.loop-number.number
+    c.behind_lacking-next.result) was.table c.behind_lacking-next.ensures.idle in
+    record {
+      round =
+          rules_passed table c.args.rules.now c.loop-number.number c.behind_lacking-next.result c.loop-number.changed
+          now c.behind_lacking-next.ensures.from idle
+          ∙ was.round;
+      table = was.table;
+      sides = was.sides;
+      rooms = was.rooms;
+    }
+
+pub returns-clause-round : goal.returns-clause-round
+returns-clause-round g c =
+    let table : Option (List ℕ) = g.B.Board.table c.args.board.now in
+    let now : State = record { grid = g.B.Board.grid c.loop-number.board; queue = c.loop-number.queue } in
+    round_end (rule_meaning table) c.args.rules.now c.loop-number.number c.loop-number.changed now
+    (omega (arith, c.loop-number-test.false))
+    ∙ c.loop-number.invariant.round
+
+pub returns-clause-table : goal.returns-clause-table
+returns-clause-table g c = c.loop-number.invariant.table
+
+pub returns-clause-sides : goal.returns-clause-sides
+returns-clause-sides g c = c.loop-number.invariant.sides

@@ -1,4 +1,4 @@
-use Rattle.std.proofs.Common.{◌≡◌, drop, map}
+use Rattle.std.proofs.Common.{◌≡◌, ◌-◌, drop, length, map}
 use Rattle.ps_match.specs.InRoom.{sides_of}
 use Rattle.ps_model.specs.board.Attempts.{State}
 use Rattle.ps_model.specs.board.Programs.{after_change, round}
@@ -6,14 +6,18 @@ use Rattle.ps_engine.specs.RulesInRoom.{rule_meaning, rules_meaning}
 use Rattle.ps_engine.proofs.rounds.round.Given as goal
 
 -- the rules passed by were attempted
-abbrev pub invariant-loop-rule : goal.invariant-loop-rule
-invariant-loop-rule g l =
+abbrev pub invariant-loop-number : goal.invariant-loop-number
+invariant-loop-number g l =
     let before : State = record { grid = g.B.Board.grid l.fn.board; queue = l.fn.queue } in
     let now : State = record { grid = g.B.Board.grid l.board; queue = l.queue } in
     let table = g.B.Board.table l.fn.board in
     record {
-      round : after_change l.changed (round (map (rule_meaning table) (drop l.rule-index l.rules)) now) ≡ round
+      round : after_change l.changed (round (map (rule_meaning table) (drop l.number l.rules)) now) ≡ round
           (rules_meaning table l.rules) before;
       table : g.B.Board.table l.board ≡ table;
       sides : sides_of (g.B.Board.grid l.board) ≡ sides_of (g.B.Board.grid l.fn.board);
+      rooms : length l.rooms ≡ length l.fn.rooms;
     }
+
+abbrev pub decreases-loop-number : goal.decreases-loop-number
+decreases-loop-number g l = length l.rules - l.number

@@ -1,4 +1,3 @@
-use Rattle.std.proofs.Common.{◌≡◌}
 use Rattle.ps_engine.specs.TopicsAsked.{HasRows}
 use Rattle.ps_engine.proofs.RoomsFor.{AllBefore}
 use Rattle.ps_engine.proofs.topics_asked.topics_of_rules.Given as goal

@@ -1,5 +1,4 @@
-use Rattle.std.proofs.Common.{◌≡◌, ◌∙◌, List, subst, sym}
-use Rattle.ps_program.specs.declared.rules.CompiledRule.{CompiledRule}
+use Rattle.std.proofs.Common.{◌∙◌, subst, sym}
 use Rattle.ps_engine.specs.TopicsAsked.{HasRules}
 use Rattle.ps_engine.proofs.TopicsKept.{same_Group}
 use Rattle.ps_engine.proofs.topics_asked.topics_of_section.Goals as goal

@@ -1,4 +1,3 @@
-use Rattle.std.proofs.Common.{◌≡◌}
 use Rattle.std.specs.Prelude.{All}
 use Rattle.ps_match.specs.Topics.{HasTopicsOf}
 use Rattle.ps_engine.specs.TopicsAsked.{HasObject}

@@ -1,4 +1,3 @@
-use Rattle.std.proofs.Common.{◌≡◌}
 use Rattle.ps_match.specs.Topics.{HasTopicsOf}
 use Rattle.ps_engine.specs.TopicsAsked.{HasPart}
 use Rattle.ps_engine.proofs.RoomsFor.{AllBefore}

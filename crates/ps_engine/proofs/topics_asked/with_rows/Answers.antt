@@ -1,4 +1,4 @@
-use Rattle.std.proofs.Common.{◌≡◌, ◌∙◌, ℕ, ◌+◌, List, Bool, get_or, length, refl, subst, sym, ap, arith}
+use Rattle.std.proofs.Common.{ℕ, ◌+◌, List, Bool, refl, subst, arith}
 use Rattle.ps_engine.specs.TopicsAsked.{HasParts}
 use Rattle.ps_engine.proofs.TopicsKept.{before_more, item_told, parts_kept}
 use Rattle.ps_engine.proofs.topics_asked.with_rows.Goals as goal

@@ -1,11 +1,14 @@
-use Rattle.std.proofs.Common.{◌≡◌, []}
-use Rattle.ps_model.specs.board.Attempts.{combinations_on}
-use Rattle.ps_engine.specs.RulesInRoom.{rule_meaning}
-use Rattle.ps_engine.proofs.RoomsFor.{AllBefore}
+use Rattle.std.proofs.Common.{◌≡◌, ◌-◌, length}
+use Rattle.ps_engine.specs.Lacking.{AreIdleBetween}
 use Rattle.ps_engine.proofs.watched.are_idle.Given as goal
 
 -- no rule that was passed by has a combination
-abbrev pub invariant-loop-rule : goal.invariant-loop-rule
-invariant-loop-rule g l =
-    AllBefore (λ rule. combinations_on (g.B.Board.grid l.board) (rule_meaning (g.B.Board.table l.board) rule) ≡ [])
-    l.rules l.rule-index
+abbrev pub invariant-loop-number : goal.invariant-loop-number
+invariant-loop-number g l =
+    record {
+      idle : AreIdleBetween (g.B.Board.grid l.board) (g.B.Board.table l.board) l.rules 0 l.number;
+      rooms : length l.rooms ≡ length l.fn.rooms;
+    }
+
+abbrev pub decreases-loop-number : goal.decreases-loop-number
+decreases-loop-number g l = length l.rules - l.number

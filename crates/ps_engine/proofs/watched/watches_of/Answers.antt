@@ -1,4 +1,4 @@
-use Rattle.std.proofs.Common.{◌≡◌, ◌∙◌, refl, rules, false}
+use Rattle.std.proofs.Common.{refl, rules, false}
 use Rattle.ps_engine.specs.declared.watched.SectionWatch.{SectionWatch}
 use Rattle.ps_engine.proofs.Waking.{unknown_more}
 use Rattle.ps_engine.proofs.watched.watches_of.Goals as goal

@@ -1,7 +1,4 @@
-use Rattle.std.proofs.Common.{◌≡◌, ℕ, Some, length}
-use Rattle.std.specs.Prelude.{slice_get}
-use Rattle.ps_program.specs.declared.program.CompiledSection.{CompiledSection}
-use Rattle.ps_engine.specs.declared.watched.SectionWatch.{SectionWatch}
+use Rattle.std.proofs.Common.{◌≡◌, length}
 use Rattle.ps_engine.specs.Waking.{AreUnknown}
 use Rattle.ps_engine.proofs.watched.watches_of.Given as goal
 

@@ -1,4 +1,4 @@
-use Rattle.std.proofs.Common.{◌≡◌, ◌∙◌, Some}
+use Rattle.std.proofs.Common.{◌∙◌, Some}
 use Rattle.ps_engine.proofs.Waking.{known_forgotten}
 use Rattle.ps_engine.proofs.watched.WatchedProgram.keep.Goals as goal
 

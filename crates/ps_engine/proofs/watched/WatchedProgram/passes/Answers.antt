@@ -1,11 +1,8 @@
-use Rattle.std.proofs.Common.{◌≡◌, ◌∙◌, ℕ, Bool, true, not, Option, Some, List, [], refl, sym, ap, subst}
-use Rattle.std.specs.Prelude.{option_map, slice_get}
-use Rattle.std.specs.Option.{is_some}
-use Rattle.std.proofs.lemmas.Option.{get_or_from_slice_get, slice_get-get_or}
-use Rattle.ps_model.specs.board.Grid.{Grid}
+use Rattle.std.proofs.Common.{◌≡◌, ◌∙◌, ℕ, not, Some, [], sym, ap, subst}
+use Rattle.std.specs.Prelude.{slice_get}
+use Rattle.std.proofs.lemmas.Option.{get_or_from_slice_get}
 use Rattle.ps_board.specs.ColumnSets.{both_columns, set_columns}
 use Rattle.ps_program.specs.declared.program.CompiledSection.{CompiledSection}
-use Rattle.ps_engine.specs.Waking.{IsSameBut}
 use Rattle.ps_engine.specs.Watched.{IsIdleOn, Watching}
 use Rattle.ps_engine.specs.declared.watched.SectionWatch.{SectionWatch}
 use Rattle.ps_engine.proofs.Waking.{known_idle, known_noted, section_there, watch_same, watch_there}

@@ -1,4 +1,4 @@
-use Rattle.std.proofs.Common.{◌≡◌, ◌∙◌, Option, List, Some, ℕ, refl, sym, ap, subst, length}
+use Rattle.std.proofs.Common.{◌∙◌, Option, List, ℕ, refl, ap, subst}
 use Rattle.std.specs.Prelude.{option_map}
 use Rattle.ps_model.specs.board.Grid.{Grid}
 use Rattle.ps_engine.specs.Watched.{AreKnown}

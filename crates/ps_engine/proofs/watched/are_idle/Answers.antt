@@ -1,0 +1,33 @@
+use Rattle.std.proofs.Common.{◌+◌, ◌∙◌, arith, refl, rules}
+use Rattle.ps_engine.proofs.AskedFor.{idle_further, one_idle}
+use Rattle.ps_engine.proofs.watched.are_idle.Goals as goal
+
+pub loop-number-init : goal.loop-number-init
+loop-number-init g c = record { idle = λ k d from to. absurd (omega (arith, to)); rooms = refl }
+
+pub loop-number-preserved-then-next-number : goal.loop-number-preserved-then-next-number
+loop-number-preserved-then-next-number g c =
+    let grid = g.B.Board.grid c.args.board.now in
+    let table = g.B.Board.table c.args.board.now in
+    record {
+      idle =
+          idle_further grid table c.args.rules.now 0 c.loop-number.number (c.loop-number.number + 1)
+          c.loop-number.invariant.idle
+          (one_idle grid table c.args.rules.now c.loop-number.number c.index-rules-number.result
+          c.loop-number-test.true c.index-rules-number.is (c.is_idle.ensures.idle (search rules)));
+      rooms = c.is_idle.ensures.long ∙ c.loop-number.invariant.rooms;
+    }
+
+pub loop-number-preserved : goal.loop-number-preserved
+loop-number-preserved g c =
+    record {
+      idle =
+          idle_further (g.B.Board.grid c.args.board.now) (g.B.Board.table c.args.board.now) c.args.rules.now 0
+          c.loop-number.number c.behind_lacking-next.result c.loop-number.invariant.idle
+          c.behind_lacking-next.ensures.idle;
+      rooms = c.loop-number.invariant.rooms;
+    }
+
+pub returns-clause-idle : goal.returns-clause-idle
+returns-clause-idle g c = λ e. λ k d low.
+    c.loop-number.invariant.idle k d (omega arith) (omega (arith, low, c.loop-number-test.false))
