@@ -6,6 +6,7 @@ use Rattle.std.proofs.lemmas.Bool.{cases_eq, cases_lt, le-ltb, lt-ltb}
 use Rattle.std.proofs.lemmas.List.{at_drop_all, at_drop_more, get_or_default, get_or-set_other, get_or-set_same}
 use Rattle.std.proofs.lemmas.List.{length-set, same_lists, set_past}
 use Rattle.ps_board.specs.ColumnSets.{column_at, no_columns, unlike_columns}
+use Rattle.ps_board.proofs.ColumnLaws.{columns-agree}
 use Rattle.ps_rows.specs.Planes.{IsSet, row_of}
 use Rattle.ps_rows.specs.RowDifferences.{Difference, Lead, LeadBothWays, row_changed, rows_changed}
 use Rattle.ps_rows.specs.Sameness.{DifferOnlyOnRows}
@@ -36,6 +37,17 @@ unlike_forth a b is =
     unlike_at a (unlike_columns a b) x low
     ∙ ap (λ (u : Bool). if column_at a x then not u else u) (unlike_at a b x low)
     ∙ again (column_at a x) (column_at b x))
+
+never : (p : Bool) → (if p then not p else p) ≡ false
+never true = refl
+never false = refl
+
+-- two rows that are the same
+pub unlike_same : (a b : List Bool) → a ≡ b → unlike_columns a b ≡ no_columns
+unlike_same a b same =
+    ap (unlike_columns a) (sym same)
+    ∙ columns-agree (λ x. if column_at a x then not (column_at a x) else column_at a x) (λ x. false)
+    (λ x low. never (column_at a x))
 
 pub unlike_back : (a b : List Bool) → IsSet a → unlike_columns b (unlike_columns a b) ≡ a
 unlike_back a b is =

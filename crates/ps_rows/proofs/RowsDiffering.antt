@@ -47,17 +47,15 @@ neither_marked count count' height height' plane long long' first second index i
     whole' here there marked marked'
     (none_in (either_columns (row_of index plane) (row_of index' plane)) row none (omega (arith, under, short))) under
 
--- one row more is compared
-pub one_row_more : (height plane row : ℕ) (rows unlike : List Bool) (empty : Bool) (first second : List (List Bool)) →
+-- a row is compared: it is taken out of the set where it is the same
+pub row_compared : (height plane row : ℕ) (rows unlike : List Bool) (empty : Bool) (first second : List (List Bool)) →
     row < height → height ≤ SIDE_LIMIT →
     IsSet (row_of first (plane * height + row)) → IsSet (row_of second (plane * height + row)) →
     unlike ≡ unlike_columns (row_of first (plane * height + row)) (row_of second (plane * height + row)) →
     (empty ≡ true → set_columns unlike ≡ []) →
-    ((y : ℕ) → y < row → column_at rows y ≡ false →
-    row_of first (plane * height + y) ≡ row_of second (plane * height + y)) →
-    (y : ℕ) → y < row + 1 → column_at (with_column rows row (not empty)) y ≡ false →
-    row_of first (plane * height + y) ≡ row_of second (plane * height + y)
-one_row_more height plane row rows unlike empty first second under short here there is told before y below none =
+    DifferOnlyOnRows height plane first second rows →
+    DifferOnlyOnRows height plane first second (with_column rows row (not empty))
+row_compared height plane row rows unlike empty first second under short here there is told before = λ y below none.
     let mine : List Bool = row_of first (plane * height + row) in
     let other : List Bool = row_of second (plane * height + row) in
     elim (cases_eq y row) [
@@ -67,8 +65,7 @@ one_row_more height plane row rows unlike empty first second under short here th
           let nothing : set_columns (unlike_columns mine other) ≡ [] = ap set_columns (sym is)
           ∙ told (not-false empty silent) in
           rw e (same_set mine other here there (same_by_unlike mine other nothing))
-      | inr n ↦ before y (omega arith) (sym (with_other rows row y (not empty) (omega (arith, below, under, short)) n)
-          ∙ none)
+      | inr n ↦ before y below (sym (with_other rows row y (not empty) (omega (arith, below, short)) n) ∙ none)
     ]
 
 -- one plane more is compared

@@ -5,7 +5,7 @@ ghost use Rattle.std.specs.Prelude.{nat_eq, nat_lt, replicate, slice_index_or, s
 ghost use Rattle.std.specs.List.{list_any};
 ghost use Rattle.ps_model.specs.board.Movement.{is_number};
 ghost use Rattle.ps_model.specs.declared.limits.TheConstants.{SIDE_LIMIT};
-ghost use Rattle.ps_board.specs.ColumnSets.{column_at, no_columns, with_column};
+ghost use Rattle.ps_board.specs.ColumnSets.{column_at, no_columns, unlike_columns, with_column};
 ghost use Rattle.ps_rows.specs.Planes.{AreSets, HavePlanes, IsSet, has_cell, row_of, with_cell, with_cell_in};
 ghost use Rattle.ps_rows.specs.PlaneCopies.{ArePlanesOf, AreRowsOf};
 ghost use Rattle.ps_rows.specs.RowIndex.{AreRowsMarked};
@@ -385,7 +385,24 @@ impl<W: ColumnWords> Planes<W> {
         self.has_same_words(other, plane)
     }
 
-    /// The rows in which a plane may have other columns than on others, as many of the same height.
+    /// The columns of a row of a plane that it has on one of two sides alone. A row that neither has marked isn't read.
+    pub fn row_difference(&self, other: &Planes<W>, plane: u32, row: u32) -> Columns<W>
+        requires row { row < self.now.height }
+        requires height { other.now.height ≡ self.now.height }
+        requires here { (plane + 1) * self.now.height ≤ vec_len self.now.words }
+        requires there { (plane + 1) * self.now.height ≤ vec_len other.now.words }
+        ensures { let place = plane * self.now.height + row in
+            result ≡ unlike_columns (row_of self.now.words.items place) (row_of other.now.words.items place) }
+    {
+        let marked = self.rows_of(plane).either(other.rows_of(plane));
+        if !marked.has(row) {
+            return Columns::none();
+        }
+        self.row(plane, row).unlike(other.row(plane, row))
+    }
+
+    /// The rows in which a plane may have other columns than on others, as many of the same height. Those that neither
+    /// side has marked aren't read.
     fn differing_rows(&self, other: &Planes<W>, plane: u32) -> Columns<W>
         requires height { other.now.height ≡ self.now.height }
         requires here { (plane + 1) * self.now.height ≤ vec_len self.now.words }
@@ -395,8 +412,9 @@ impl<W: ColumnWords> Planes<W> {
         if self.has_same_plane(other, plane) {
             return Columns::none();
         }
-        let mut rows = Columns::none();
-        for row in 0..self.height {
+        let mut rows = self.rows_of(plane).either(other.rows_of(plane));
+        let mut left = rows.both(Columns::below(self.height));
+        while let Some(row) = left.take_first() {
             let unlike = self.row(plane, row).unlike(other.row(plane, row));
             rows = rows.with(row, !unlike.is_empty());
         }

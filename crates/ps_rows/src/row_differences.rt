@@ -63,7 +63,7 @@ fn add_differences<W: ColumnWords>(
         return Ok(());
     }
     for row in 0..first.height {
-        let columns = first.row(plane, row).unlike(second.row(plane, row));
+        let columns = first.row_difference(second, plane, row);
         if !columns.is_empty() {
             found.push(RowDifference {
                 plane,

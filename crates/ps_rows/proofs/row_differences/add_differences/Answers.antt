@@ -21,11 +21,7 @@ loop-row-preserved g c =
     let place : ℕ = c.args.plane * p.height + c.loop-row.row in
     let here : List Bool = row_of p.words.items place in
     let there : List Bool = row_of o.words.items place in
-    let also : c.row-in-loop-row.result ≡ there =
-    c.row-in-loop-row.ensures ∙ ap (λ (h : ℕ).
-    row_of o.words.items (c.args.plane * h + c.loop-row.row)) c.requires.height in
-    let unlike : c.unlike-columns.result ≡ unlike_columns here there = c.unlike-columns.ensures
-    ∙ ap₂ unlike_columns c.row.ensures also in
+    let unlike : c.row_difference-columns.result ≡ unlike_columns here there = c.row_difference-columns.ensures in
     let long : length o.words.items ≡ length p.words.items =
     omega (arith, c.requires.count, p.words.ok.0, o.words.ok.0) in
     let within : place < length p.words.items = omega (arith, c.loop-row-test.true, c.requires.plane, p.words.ok.0) in

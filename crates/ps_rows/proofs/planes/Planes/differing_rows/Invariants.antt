@@ -1,11 +1,16 @@
-use Rattle.std.proofs.Common.{◌≡◌, ◌+◌, ◌*◌, ◌<◌, ℕ, false}
-use Rattle.ps_board.specs.ColumnSets.{column_at}
-use Rattle.ps_rows.specs.Planes.{row_of}
+use Rattle.std.proofs.Common.{length}
+use Rattle.ps_board.specs.ColumnSets.{set_columns}
+use Rattle.ps_board.proofs.Taken.{AreBelow}
+use Rattle.ps_rows.specs.Sameness.{DifferOnlyOnRows}
 use Rattle.ps_rows.proofs.planes.Planes.differing_rows.Given as goal
 
--- the rows passed by
+-- rows outside of the set are the same
 abbrev pub invariant-loop-row : goal.invariant-loop-row
 invariant-loop-row g l =
-    (row : ℕ) → row < l.row → column_at l.rows row ≡ false →
-    row_of l.self.words.items (l.plane * l.self.height + row) ≡ row_of l.other.words.items
-    (l.plane * l.self.height + row)
+    record {
+      low : AreBelow l.self.height l.left;
+      same : DifferOnlyOnRows l.self.height l.plane l.self.words.items l.other.words.items l.rows;
+    }
+
+abbrev pub decreases-loop-row : goal.decreases-loop-row
+decreases-loop-row g l = length (set_columns l.left)
