@@ -19,8 +19,8 @@ use crate::room::RowRoom;
 use ps_match::{ColumnWords, Columns, Scan, recall_shape};
 use ps_program::{Axis, CompiledCell};
 
-/// Rewrites the places of a part that goes down from some columns of a row of the board, of which each fits now: none
-/// of them stops another one from fitting. Answers whether a cell changed.
+/// Rewrites the places of a part that goes down from a row of the board, in those of some columns where it fits now:
+/// none of them stops another one from fitting. Answers whether a cell changed.
 fn rewrite_fitting<B: Scan>(
     board: &mut B,
     part: &[CompiledCell],
