@@ -1,6 +1,8 @@
 -- What an attempt comes to.
-use Rattle.std.proofs.Common.{◌≡◌, ◌≢◌, ◌∙◌, ℕ, Bool, true, false, Option, List, [], ◌∷◌, map, fold, refl, sym, ap, ap₂}
+use Rattle.std.proofs.Common.{◌≡◌, ◌≢◌, ◌∙◌, ℕ, Bool, true, false, Option, List, [], ◌∷◌, map, fold, refl, subst, sym}
+use Rattle.std.proofs.Common.{ap, ap₂}
 use Rattle.ps_model.specs.board.Grid.{Grid}
+use Rattle.ps_model.specs.board.Places.{places}
 use Rattle.ps_model.specs.board.Attempts.{Result, Rewritten, applied, attempt_by, combinations, queued}
 use Rattle.ps_model.specs.rules.SourceRules.{Commands}
 use Rattle.ps_model.specs.meaning.RuleMeanings.{CellMeaning, RuleMeaning}
@@ -102,3 +104,25 @@ some_alone (p ∷ ps) some none = absurd (cc)
 
 pub none_alone : (ps : List (List ℕ)) → ps ≡ [] → combinations (ps ∷ []) ≡ []
 none_alone ps none = ap (λ (xs : List (List ℕ)). combinations (xs ∷ [])) none
+
+-- all places of an only part are applied
+pub attempt_part-written : (table : Option (List ℕ)) (direction : Direction) (rows : List CompiledRow)
+    (part : List CompiledCell) (rewrites : Bool) (commands : Commands) (g : Grid) (queue : Commands) (r : Rewritten) →
+    rows_parts rows ≡ one_part part → rewrites ≡ true →
+    places g direction (part_meaning table part ∷ []) ≢ [] →
+    r ≡ fold (applied ((part_meaning table part ∷ []) ∷ [])) (unchanged g)
+    (combinations (places g direction (part_meaning table part ∷ []) ∷ [])) →
+    (let s : Result = record {
+      state = record { grid = r.grid; queue = queued queue commands };
+      changed =
+          r.changed;
+    } in s) ≡ attempt_by (rule_of direction (rows_meaning table rows) rewrites commands)
+    (record { grid = g; queue = queue }) (combinations (map (places g direction) (rows_meaning table rows)))
+attempt_part-written table direction rows part rewrites commands g queue r only does some made =
+    let all : List (List (List CellMeaning)) → List (List (List ℕ)) = λ meant.
+    combinations (map (places g direction) meant) in
+    let is : rows_meaning table rows ≡ (part_meaning table part ∷ []) ∷ [] = only_part_meant table rows part only in
+    attempt_written direction (rows_meaning table rows) rewrites commands g queue (all (rows_meaning table rows)) r does
+    (subst (λ (meant : List (List (List CellMeaning))). all meant ≢ []) (sym is)
+    (some_alone (places g direction (part_meaning table part ∷ [])) some))
+    (made ∙ sym (ap (λ (meant : List (List (List CellMeaning))). fold (applied meant) (unchanged g) (all meant)) is))

@@ -1,5 +1,6 @@
 //! An attempt of a rule of one row of one part. Where its places leave each other alone, each still fits when its turn
-//! comes, and so all are written together, row by row of the board.
+//! comes, and so all are written together, row by row of the board. So are those that go down where they don't: of each
+//! row those that still fit.
 
 ghost use Rattle.std.specs.Prelude.{◌≡◌, ◌≤◌, IfSome, [], length, true};
 ghost use Rattle.ps_model.specs.board.Attempts.{Result as Meant, State, attempt, combinations_on};
@@ -12,7 +13,7 @@ use crate::attempts::attempt_rows;
 use crate::lent_queue::LentQueue;
 use ps_match::Scan;
 use ps_places::{RoomFor, begins_nowhere};
-use ps_program::{CompiledCell, CompiledRow, CompiledRule};
+use ps_program::{Axis, CompiledCell, CompiledRow, CompiledRule};
 
 /// The part of rows that are one row of one part; nothing, where there is more or less.
 pub fn only_part(rows: &[CompiledRow]) -> Option<&[CompiledCell]>
@@ -48,8 +49,9 @@ pub fn is_idle_part<'r, B: Scan>(
     rooms[0].find_part(board, rule.axis, part).is_empty()
 }
 
-/// An attempt of a rule whose only part this is. Where a place of it asks for what another one's cells may change, its
-/// combinations are walked one after the other. Answers whether a cell changed. No memory is taken.
+/// An attempt of a rule whose only part this is. Where it goes right and a place of it asks for what another one's
+/// cells may change, its combinations are walked one after the other. Answers whether a cell changed. No memory is
+/// taken.
 pub fn attempt_part<'r, B: Scan>(
     rule: &CompiledRule<'r>,
     part: &[CompiledCell],
@@ -74,9 +76,15 @@ pub fn attempt_part<'r, B: Scan>(
     if starts.is_empty() {
         return false;
     }
-    if !room.lie_alone(rule.axis, part, starts) {
-        return attempt_rows(rule, board, queue, rooms);
+    if room.lie_alone(rule.axis, part, starts) {
+        queue.enter(rule.commands);
+        return room.rewrite_places(board, rule.axis, part, starts);
     }
-    queue.enter(rule.commands);
-    room.rewrite_places(board, rule.axis, part, starts)
+    match rule.axis {
+        Axis::Down => {
+            queue.enter(rule.commands);
+            room.rewrite_in_turn(board, part, starts)
+        }
+        Axis::Right => attempt_rows(rule, board, queue, rooms),
+    }
 }

@@ -22,7 +22,7 @@ abbrev pub written_by : (ℕ → ℕ → Bool) → ℕ → List CellMeaning → 
 written_by done k [] n cell = cell
 written_by done k (m ∷ ms) n cell = if done k n then m.rewritten cell else written_by done (k + 1) ms n cell
 
-by-none : (done : ℕ → ℕ → Bool) (k : ℕ) (ms : List CellMeaning) (n : ℕ) (cell : List Slot) →
+pub by-none : (done : ℕ → ℕ → Bool) (k : ℕ) (ms : List CellMeaning) (n : ℕ) (cell : List Slot) →
     ((j : ℕ) → k ≤ j → j < k + length ms → done j n ≡ false) → written_by done k ms n cell ≡ cell
 by-none done k [] n cell none = refl
 by-none done k (m ∷ ms) n cell none =

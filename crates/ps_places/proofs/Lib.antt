@@ -28,6 +28,7 @@ pub mod PlacesWritten
 pub mod KeepingMasks
 pub mod PartPlaces
 pub mod StartNumbers
+pub mod RowOfPlaces
 pub mod RowsTogether
 pub mod AlonePlaces
 pub mod FoundRows
@@ -35,3 +36,8 @@ pub mod AnyOf
 pub mod TargetCells
 pub mod TargetColumns
 pub mod TargetRows
+pub mod TwoOrders
+pub mod Apart
+pub mod OneRow
+pub mod DownTurns
+pub mod ChangedBefore

@@ -70,7 +70,7 @@ rightwards g row x low =
     (let e : 0 + x ≡ x = omega arith in e)
 
 -- cells column by column
-column_lists : {X : Type 0} (f : ℕ → List X) (h a n : ℕ) →
+pub column_lists : {X : Type 0} (f : ℕ → List X) (h a n : ℕ) →
     flat_map f (range_with_len (a * h) (n * h)) ≡ flat_map (λ x. flat_map (λ y. f (x * h + y)) (range_with_len 0 h))
     (range_with_len a n)
 column_lists f h a zero = let none : 0 * h ≡ 0 = omega arith in

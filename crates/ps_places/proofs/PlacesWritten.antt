@@ -40,6 +40,22 @@ applied_one r all place fits =
     ap (λ (b : Bool). if_fits r (rewritten_along r (cells_in (all ∷ [])) place) b) fit
     ∙ ap (λ (ms : List CellMeaning). rewritten_along r ms place) only
 
+-- a place that leaves the others alone is done
+pub place_done : (g : Grid) (step : ℕ) (starts : ℕ → Bool) (all : List CellMeaning) (changes : ℕ → Bool)
+    (apart : AreAlone starts step all changes) → AreIdle all changes → (done more : ℕ → Bool) (n : ℕ) →
+    starts n ≡ true → done n ≡ false → fits_along g all (cells_from step n (length all)) ≡ true →
+    ((k : ℕ) → k < length g.cells → starts k ≡ true → more k ≡ (done k || nat_eq k n)) →
+    applied (rows_of all) (after g starts step all changes apart done) (cells_from step n (length all) ∷ [])
+    ≡ after g starts step all changes apart more
+place_done g step starts all changes apart idle done more n on free fits e =
+    let here : ℕ → Bool = λ k. nat_eq k n in
+    ap (λ (r : Rewritten). applied (rows_of all) r (cells_from step n (length all) ∷ []))
+    (during-start g starts step all changes apart done here)
+    ∙ applied_one (during g starts step all changes apart done here 0) all (cells_from step n (length all))
+    (still_fits g starts step all changes apart idle done n on free fits)
+    ∙ place_written g starts step all changes apart idle done n on free fits
+    ∙ during-end g starts step all changes apart done here more e
+
 -- the places from a cell on
 abbrev pub places_from : Grid → Direction → List CellMeaning → ℕ → List (List ℕ)
 places_from g direction all n = filter (fits_along g (cells_in (all ∷ []))) (stretches g direction (length all ∷ []) n)
@@ -55,20 +71,6 @@ module _ (g : Grid) (direction : Direction) (step : ℕ) (starts : ℕ → Bool)
 
   abbrev acts : Rewritten → List (List ℕ) → Rewritten
   acts r combination = applied (rows_of all) r combination
-
-  started : (done more : ℕ → Bool) (n : ℕ) → n < length g.cells → starts n ≡ true → done n ≡ false →
-      IsOneMore g done more n →
-      acts (done_at done) (cells_from step n (length all) ∷ []) ≡ done_at more
-  started done more n low on free e =
-      let here : ℕ → Bool = λ k. nat_eq k n in
-      let first : Rewritten = during g starts step all changes apart done here 0 in
-      let good : fits_along g all (cells_from step n (length all)) ≡ true = fits n low on in
-      ap (λ (r : Rewritten). acts r (cells_from step n (length all) ∷ []))
-      (during-start g starts step all changes apart done here)
-      ∙ applied_one first all (cells_from step n (length all))
-      (still_fits g starts step all changes apart idle done n on free good)
-      ∙ place_written g starts step all changes apart idle done n on free good
-      ∙ during-end g starts step all changes apart done here more (λ k below yes. e k below)
 
   not_started : (done more : ℕ → Bool) (n : ℕ) → starts n ≡ false → IsOneMore g done more n →
       done_at done ≡ done_at more
@@ -86,7 +88,8 @@ module _ (g : Grid) (direction : Direction) (step : ℕ) (starts : ℕ → Bool)
       ∙ elim (cases_Bool (starts n)) [
         | inl on ↦
             ap (λ (b : Bool). fold acts (done_at done) (map alone (cond b (cells_from step n (length all) ∷ []) []))) on
-            ∙ started done more n low on free e
+            ∙ place_done g step starts all changes apart idle done more n on free (fits n low on)
+            (λ k below yes. e k below)
         | inr off ↦
             ap (λ (b : Bool). fold acts (done_at done) (map alone (cond b (cells_from step n (length all) ∷ []) [])))
             off

@@ -1,14 +1,12 @@
 -- The places of a part written row by row of the board, and on a row one cell of the part after the other.
-use Rattle.std.proofs.Common.{◌≡◌, ◌∙◌, ℕ, zero, suc, ◌+◌, ◌-◌, ◌*◌, ◌/◌, ◌%◌, ◌<◌, ◌≤◌, ◌&&◌, ◌||◌, not, inl, inr}
-use Rattle.std.proofs.Common.{Bool, true, false, Option, Some}
+use Rattle.std.proofs.Common.{◌≡◌, ◌∙◌, ℕ, ◌+◌, ◌-◌, ◌*◌, ◌/◌, ◌%◌, ◌<◌, ◌≤◌, ◌&&◌, ◌||◌, not, inl, inr}
+use Rattle.std.proofs.Common.{Bool, true, false, Option}
 use Rattle.std.proofs.Common.{List, [], ◌∷◌, length, fold, refl, subst, sym, ap, ap₂, arith}
-use Rattle.std.specs.Prelude.{nat_eq, nat_le, nat_lt, slice_get}
+use Rattle.std.specs.Prelude.{nat_eq, nat_le, nat_lt}
 use Rattle.std.proofs.Math.Nat.{add-mul}
-use Rattle.std.proofs.lemmas.Bool.{and_parts, cases_Bool, cases_eq, eq-eqb, eqb-true, lt-ltb, ne_eqb, and_from}
+use Rattle.std.proofs.lemmas.Bool.{and_parts, cases_eq, eq-eqb, eqb-true, lt-ltb, ne_eqb, and_from}
 use Rattle.std.proofs.lemmas.Bool.Decides.{nat_tests}
-use Rattle.std.proofs.lemmas.List.{length-map}
 use Rattle.std.proofs.lemmas.Nat.{div-add-mod', div-mul-add, div_below, mod-mul-add, mod_below}
-use Rattle.std.proofs.lemmas.Option.{slice_get_within}
 use Rattle.std.proofs.Math.Bool.{or-true, or-false}
 use Rattle.ps_model.specs.declared.limits.TheConstants.{SIDE_LIMIT}
 use Rattle.ps_model.specs.board.Grid.{Grid, IsGrid}
@@ -26,15 +24,15 @@ use Rattle.ps_match.proofs.RowWritten.{told}
 use Rattle.ps_program.specs.declared.cells.CompiledCell.{CompiledCell}
 use Rattle.ps_program.specs.declared.rows.Axis.{Axis}
 use Rattle.ps_program.specs.declared.rows.Axis.TheVariants.{Down, Right}
-use Rattle.ps_places.specs.Lines.{cell_meaning, part_meaning, step_along}
+use Rattle.ps_places.specs.Lines.{part_meaning, step_along}
 use Rattle.ps_places.specs.LeavingAlone.{PlacesLieAlone}
 use Rattle.ps_places.specs.PartStarts.{AreStarts, begins_at, columns_on, is_start}
-use Rattle.ps_places.specs.WrittenTogether.{cell_changed, cells_behind, cells_changed, if_changes, row_at, then_where}
-use Rattle.ps_places.proofs.InGroups.{AreAlone, after, after-agree, after-none, cell_now, covers, covers-parts, during}
-use Rattle.ps_places.proofs.InGroups.{during-end, during-start, idle_step, next_step}
-use Rattle.ps_places.proofs.StartNumbers.{all_applied, begins_good, begins_start, changes_in, changes_of, places_alone}
+use Rattle.ps_places.specs.WrittenTogether.{cells_behind, cells_changed, row_at}
+use Rattle.ps_places.proofs.InGroups.{AreAlone, after, after-agree, after-none, covers, covers-parts}
+use Rattle.ps_places.proofs.InGroups.{during-end, during-start}
+use Rattle.ps_places.proofs.RowOfPlaces.{row_written}
+use Rattle.ps_places.proofs.StartNumbers.{all_applied, begins_good, begins_start, changes_of, places_alone}
 use Rattle.ps_places.proofs.StartNumbers.{room_by, starts_number}
-use Rattle.ps_places.proofs.WrittenAs.{as_then, height-as}
 
 pub le_true : (a b : ℕ) → a ≤ b → nat_le a b ≡ true
 le_true a b low = grind (arith, nat_tests, low)
@@ -66,10 +64,6 @@ module _ (g : Grid) (table : Option (List ℕ)) (axis : Axis) (part : List Compi
   abbrev pub rows_done : List Bool → Rewritten
   rows_done left = after g (starts_number g rows starts) (step_along axis g.height) (part_meaning table part)
       (changes_of part) apart (done_but left)
-
-  abbrev pub row_done : List Bool → ℕ → ℕ → Rewritten
-  row_done left row i = during g (starts_number g rows starts) (step_along axis g.height) (part_meaning table part)
-      (changes_of part) apart (done_but left) (on_this row) i
 
   -- the cells of a row's places with an index -------------------------------------------------------------------------
 
@@ -178,73 +172,9 @@ module _ (g : Grid) (table : Option (List ℕ)) (axis : Axis) (part : List Compi
   here_by Down same row i n under on low few = here_down same row i n under on low few
   here_by Right same row i n under on low few = here_right row i n under on low
 
-  -- one cell of the part more -----------------------------------------------------------------------------------------
-
   fresh : (left : List Bool) (row : ℕ) → column_at left row ≡ true → (n : ℕ) → on_this row n ≡ true →
       done_but left n ≡ false
   fresh left row still n here = let at : n % g.height ≡ row = eqb-true (n % g.height) row here in rw (at, still) refl
-
-  cell_step : (left : List Bool) (row i : ℕ) (cell : CompiledCell) → row < g.height → column_at rows row ≡ true →
-      column_at left row ≡ true →
-      slice_get part i ≡ Some cell →
-      cell_changed (row_done left row i) table axis row (columns_on starts row) i cell ≡ row_done left row (i + 1)
-  cell_step left row i cell under on still is = elim (cases_Bool cell.changes) [
-    | inl does ↦
-        let few : i < length part = slice_get_within part i cell is in
-        let size : length (part_meaning table part) ≡ length part = length-map part (cell_meaning table) in
-        let first : ℕ → _ = cell_now g (starts_number g rows starts) (step_along axis g.height)
-        (part_meaning table part) (changes_of part) apart (done_but left) (on_this row) i in
-        let second : ℕ → _ = cell_now g (starts_number g rows starts) (step_along axis g.height)
-        (part_meaning table part) (changes_of part) apart (done_but left) (on_this row) (i + 1) in
-        let meant : slice_get (part_meaning table part) i ≡ Some (cell_meaning table cell) =
-        slice_get-map-some table part i cell is in
-        let chosen : ℕ → Bool = cells_behind axis g.height row (columns_on starts row) i in
-        let on_index : changes_of part i ≡ true = ap changes_in is ∙ does in
-        ap (λ (b : Bool). if_changes b (then_where (row_done left row i) (cell_meaning table cell).rewritten
-        (cells_behind axis (row_done left row i).grid.height row (columns_on starts row) i)) (row_done left row i))
-        does
-        ∙ (ap (λ (h : ℕ). then_where (row_done left row i) (cell_meaning table cell).rewritten
-        (cells_behind axis h row (columns_on starts row) i)) (height-as g first)
-        ∙ as_then g first second (cell_meaning table cell).rewritten chosen
-        (λ n low.
-        next_step g (starts_number g rows starts) (step_along axis g.height) (part_meaning table part)
-        (changes_of part) apart (done_but left) (on_this row)
-        (fresh left row still) i (cell_meaning table cell) (omega (arith, few, size)) meant chosen n
-        (here_by axis refl row i n under on low few
-        ∙ ap (λ (b : Bool). (b && covers (starts_number g rows starts) (step_along axis g.height) i n) && on_this row
-        (n - i * step_along axis g.height)) (sym on_index))))
-    | inr not_does ↦
-        let off : changes_of part i ≡ false = ap changes_in is ∙ not_does in
-        ap (λ (b : Bool). if_changes b (then_where (row_done left row i) (cell_meaning table cell).rewritten
-        (cells_behind axis (row_done left row i).grid.height row (columns_on starts row) i)) (row_done left row i))
-        not_does
-        ∙ (idle_step g (starts_number g rows starts) (step_along axis g.height) (part_meaning table part)
-        (changes_of part) apart (done_but left) (on_this row) i off)
-  ] where
-    slice_get-map-some : (t : Option (List ℕ)) (cells : List CompiledCell) (k : ℕ) (one : CompiledCell) →
-        slice_get cells k ≡ Some one →
-        slice_get (part_meaning t cells) k ≡ Some (cell_meaning t one)
-    slice_get-map-some t [] k one e = absurd (cc)
-    slice_get-map-some t (c ∷ cells) zero one e = let same : c ≡ one = cc in
-        ap (λ (x : CompiledCell). Some (cell_meaning t x)) same
-    slice_get-map-some t (c ∷ cells) (suc k) one e = slice_get-map-some t cells k one e
-
-  cells_step : (left : List Bool) (row i : ℕ) (cells : List CompiledCell) → row < g.height → column_at rows row ≡ true →
-      column_at left row ≡ true →
-      ((j : ℕ) (cell : CompiledCell) → slice_get cells j ≡ Some cell → slice_get part (i + j) ≡ Some cell) →
-      cells_changed (row_done left row i) table axis row (columns_on starts row) i cells
-      ≡ row_done left row (i + length cells)
-  cells_step left row i [] under on still same = let none : i + 0 ≡ i = omega arith in rw none refl
-  cells_step left row i (cell ∷ cells) under on still same =
-      let at : i + 0 ≡ i = omega arith in
-      let is : slice_get part i ≡ Some cell = ap (slice_get part) (sym at) ∙ same 0 cell refl in
-      let end : i + 1 + length cells ≡ i + suc (length cells) = omega arith in
-      ap (λ (r : Rewritten). cells_changed r table axis row (columns_on starts row) (i + 1) cells)
-      (cell_step left row i cell under on still is)
-      ∙ cells_step left row (i + 1) cells under on still
-      (λ j other there. let next : i + 1 + j ≡ i + suc j = omega arith in ap (slice_get part) next
-      ∙ same (suc j) other there)
-      ∙ ap (row_done left row) end
 
   -- one row more ------------------------------------------------------------------------------------------------------
 
@@ -267,16 +197,13 @@ module _ (g : Grid) (table : Option (List ℕ)) (axis : Axis) (part : List Compi
   row_more left rest row now next is on so made =
       let still = (first_in left row (set_columns rest) is).0 in
       let under : row < g.height = found.below row on in
-      let size : length (part_meaning table part) ≡ length part = length-map part (cell_meaning table) in
-      let none : 0 + length part ≡ length (part_meaning table part) = omega (arith, size) in
       let high : g.height ≤ SIDE_LIMIT = grid.rows in
       made
       ∙ ap (λ (r : Rewritten). cells_changed r table axis row (columns_on starts row) 0 part)
       (so ∙ during-start g (starts_number g rows starts) (step_along axis g.height) (part_meaning table part)
       (changes_of part) apart (done_but left) (on_this row))
-      ∙ cells_step left row 0 part under on still (λ j cell there. let at : 0 + j ≡ j = omega arith in
-      ap (slice_get part) at ∙ there)
-      ∙ ap (row_done left row) none
+      ∙ row_written g table axis part row (columns_on starts row) (starts_number g rows starts) apart (done_but left)
+      (on_this row) (fresh left row still) (λ i n low few. here_by axis refl row i n under on low few)
       ∙ during-end g (starts_number g rows starts) (step_along axis g.height) (part_meaning table part)
       (changes_of part) apart (done_but left) (on_this row) (done_but rest)
       (λ n low begins. let inside : n % g.height < g.height = mod_below n g.height grid.some_row in

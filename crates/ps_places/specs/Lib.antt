@@ -15,3 +15,4 @@ pub mod LeavingAlone
 pub mod WrittenTogether
 pub mod PartTargets
 pub mod Room
+pub mod InTurn

@@ -4,6 +4,7 @@
 mod candidates;
 mod chosen;
 mod columns;
+mod in_turn;
 mod leaving_alone;
 mod lines;
 mod part_starts;

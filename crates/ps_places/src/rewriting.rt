@@ -46,7 +46,7 @@ fn rewrite_cell<B: Scan>(
 
 /// Rewrites all places of a part that begin in some columns of a row of the board, one cell of the part after the
 /// other. Answers whether a cell changed, or something had `changed` before.
-fn rewrite_row<B: Scan>(
+pub fn rewrite_row<B: Scan>(
     board: &mut B,
     axis: Axis,
     part: &[CompiledCell],
