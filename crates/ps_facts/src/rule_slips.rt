@@ -11,7 +11,7 @@ use crate::slips::RuleSlip;
 use ps_text::Word;
 
 /// Whether a word begins or ends a loop.
-fn is_loop_word(word: &str) -> bool
+pub fn is_loop_word(word: &str) -> bool
     ensures { result ≡ is_loop_word word.now }
 {
     is_sign(Sign::LoopStart, word) || is_sign(Sign::LoopEnd, word)

@@ -11,7 +11,9 @@ use Rattle.ps_causes.specs.declared.causes.Hint.TheVariants.{Nothing, Near, Stra
 use Rattle.ps_causes.specs.declared.causes.Cause.{Cause}
 use Rattle.ps_causes.specs.declared.causes.Cause.TheVariants.{Untold, Undeclared, Meaningless, Unlayered, UnknownGlyph}
 use Rattle.ps_causes.specs.declared.causes.Cause.TheVariants.{BrokenRow, LateHeader, MissingSection, Twice, Slip}
-use Rattle.ps_causes.specs.declared.causes.Cause.TheVariants.{InRule, InObject, BrokenByte}
+use Rattle.ps_causes.specs.declared.causes.Cause.TheVariants.{InRule, InLoop, InWhole, InObject, OnlyCommas}
+use Rattle.ps_causes.specs.declared.causes.Cause.TheVariants.{BrokenByte}
+use Rattle.ps_why.specs.GameWording.{loop_sentence, whole_sentence}
 use Rattle.ps_why.specs.ObjectWording.{object_sentence}
 use Rattle.ps_why.specs.RuleWording.{rule_sentence}
 use Rattle.ps_why.specs.SectionNames.{section_name}
@@ -124,6 +126,10 @@ broken_byte_words place byte =
     codes "Byte " ++ (decimal place ++ (codes " of the text, " ++ (digits 16 true byte ++
     codes " in hexadecimal, is in no whole character of UTF-8.")))
 
+-- that a line has no name
+abbrev pub commas_words : List ℕ
+commas_words = codes "A line of COLLISIONLAYERS is names, parted by commas or blanks: this one has only commas."
+
 -- what is told of a fault
 abbrev pub sentence : Cause → List ℕ
 sentence Untold = []
@@ -137,5 +143,8 @@ sentence (MissingSection section clue) = missing_words section clue
 sentence (Twice word first) = twice_words word.text.now first.line first.name.now
 sentence (Slip word slip) = slip_words slip word.text.now
 sentence (InRule cause) = rule_sentence cause
+sentence (InLoop cause) = loop_sentence cause
+sentence (InWhole cause) = whole_sentence cause
 sentence (InObject cause) = object_sentence cause
+sentence (OnlyCommas place) = commas_words
 sentence (BrokenByte place byte) = broken_byte_words place byte

@@ -4,8 +4,9 @@ ghost use Rattle.std.specs.Prelude.{◌≡◌, IfOk, string_bytes};
 ghost use Rattle.ps_why.specs.Wording.{zeros, code_words, sentence, hint_words, blank_words, near_words, strange_words};
 ghost use Rattle.ps_why.specs.Wording.{undeclared_words, meaningless_words, unlayered_words, glyph_words, broken_words};
 ghost use Rattle.ps_why.specs.Wording.{late_words, like_words, open_words, returns_words, clue_words, missing_words};
-ghost use Rattle.ps_why.specs.Wording.{case_words, twice_words, broken_byte_words};
+ghost use Rattle.ps_why.specs.Wording.{case_words, twice_words, broken_byte_words, commas_words};
 
+use crate::game_wording::{loop_sentence, whole_sentence};
 use crate::object_wording::object_sentence;
 use crate::rule_wording::rule_sentence;
 use crate::section_names::section_name;
@@ -226,6 +227,17 @@ fn broken_byte_words(alloc: Global, place: usize, byte: u8) -> Result<String, Me
     Ok(words)
 }
 
+/// That a line has no name.
+fn commas_words(alloc: Global) -> Result<String, Memory>
+    ensures { IfOk result (λ words. string_bytes words ≡ commas_words) }
+{
+    let words = String::from_str(
+        alloc,
+        "A line of COLLISIONLAYERS is names, parted by commas or blanks: this one has only commas.",
+    )?;
+    Ok(words)
+}
+
 /// What is told of a fault: a sentence or two, and nothing where nothing is told.
 pub fn sentence(alloc: Global, cause: Cause<'_>) -> Result<String, Memory>
     ensures { IfOk result (λ words. string_bytes words ≡ sentence cause.entry) }
@@ -251,7 +263,10 @@ pub fn sentence(alloc: Global, cause: Cause<'_>) -> Result<String, Memory>
         Cause::Twice { word, first } => twice_words(alloc, word.text(), first.line, first.name),
         Cause::Slip { word, slip } => slip_words(alloc, slip, word.text()),
         Cause::InRule(cause) => rule_sentence(alloc, cause),
+        Cause::InLoop(cause) => loop_sentence(alloc, cause),
+        Cause::InWhole(cause) => whole_sentence(alloc, cause),
         Cause::InObject(cause) => object_sentence(alloc, cause),
+        Cause::OnlyCommas { .. } => commas_words(alloc),
         Cause::BrokenByte { place, byte } => broken_byte_words(alloc, place, byte),
     }
 }
