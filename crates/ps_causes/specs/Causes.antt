@@ -2,7 +2,7 @@
 use Rattle.std.specs.Prelude.{◌≡◌, ◌≤◌, ◌<◌, ℕ, nat_eq, ◌-◌, Bool, false, true, ◌&&◌, ⊤, Some}
 use Rattle.std.specs.Prelude.{List, [], ◌∷◌, ◌++◌, codes}
 use Rattle.std.specs.Prelude.{slice_get, encode_utf8, slice_index_or}
-use Rattle.std.specs.List.{IsAmong, list_any}
+use Rattle.std.specs.List.{IsAmong, list_any, starts_with}
 use Rattle.std.specs.Str.{bytes_eq, chars}
 use Rattle.std.specs.Str.Lossy.{utf8_valid_len}
 use Rattle.ps_model.specs.declared.texts.Section.{Section}
@@ -20,10 +20,11 @@ use Rattle.ps_causes.specs.declared.causes.Hint.TheVariants.{Nothing, Near, Stra
 use Rattle.ps_causes.specs.declared.causes.Cause.{Cause}
 use Rattle.ps_causes.specs.declared.causes.Cause.TheVariants.{Untold, Undeclared, Meaningless, Unlayered, UnknownGlyph}
 use Rattle.ps_causes.specs.declared.causes.Cause.TheVariants.{BrokenRow, LateHeader, MissingSection, Twice, Slip}
+use Rattle.ps_causes.specs.declared.causes.Cause.TheVariants.{Slashes, LikeHeader}
 use Rattle.ps_causes.specs.declared.causes.Cause.TheVariants.{InRule, InLoop, InWhole, InObject, OnlyCommas, BrokenByte}
 use Rattle.ps_facts.specs.declared.names.Named.{Named}
 use Rattle.ps_facts.specs.declared.slips.Slip as slips
-use Rattle.ps_causes.specs.Clues.{IsClue}
+use Rattle.ps_causes.specs.Clues.{IsClue, IsNoHeader}
 use Rattle.ps_facts.specs.Declarations.{is_declared, IsDeclaredAt}
 use Rattle.ps_facts.specs.KeyWords.{is_key_word}
 use Rattle.ps_facts.specs.LayerWords.{is_in_layers}
@@ -127,6 +128,17 @@ pub record IsTwice (text : List ℕ) (line : ℕ) (word : Word) (first : Named) 
   pub above : first.line < line
   pub same : bytes_eq (folded word.text.now) (folded first.name.now) ≡ true
 
+-- a word of the line begins with `//`
+pub record IsSlashes (text : List ℕ) (line : ℕ) (word : Word) : Type 0 where
+  pub stands : IsWordOf text line word
+  pub slashes : starts_with nat_eq word.text.now (47 ∷ 47 ∷ []) ≡ true
+
+-- a word of a line that is no header, where no line is a header of the section
+pub record IsLikeHeader (text : List ℕ) (line : ℕ) (word : Word) (section : Section) : Type 0 where
+  pub stands : IsWordOf text line word
+  pub no_header : IsNoHeader text line
+  pub missing : has_section (header_lines (lines_of text)) section ≡ false
+
 -- a word of a line of its section that stands where it can't
 pub record IsSlip (text : List ℕ) (line : ℕ) (word : Word) (slip : slips.Slip) : Type 0 where
   pub stands : IsWordOf text line word
@@ -155,6 +167,8 @@ IsToldAt text line (BrokenRow row blank) = IsBrokenRow text line row blank
 IsToldAt text line (LateHeader header section above other) = IsLateHeader text line header section above other
 IsToldAt text line (MissingSection section clue) = IsMissing text section clue
 IsToldAt text line (Twice word first) = IsTwice text line word first
+IsToldAt text line (Slashes word) = IsSlashes text line word
+IsToldAt text line (LikeHeader word section) = IsLikeHeader text line word section
 IsToldAt text line (Slip word slip) = IsSlip text line word slip
 IsToldAt text line (InRule cause) = IsToldOfRule text line cause
 IsToldAt text line (InLoop cause) = IsToldOfLoop text line cause

@@ -65,6 +65,15 @@ pub enum Cause<'a> {
         word: Word<'a>,
         first: Named<'a>,
     },
+    /// The word begins with `//`.
+    Slashes {
+        word: Word<'a>,
+    },
+    /// The line, of which the word is the first, is written much like the header of a section that the text hasn't.
+    LikeHeader {
+        word: Word<'a>,
+        section: Section,
+    },
     /// The word stands where it can't.
     Slip {
         word: Word<'a>,

@@ -23,6 +23,7 @@ mod pairs;
 mod returns;
 mod rule_words;
 mod shares;
+mod slashes;
 mod slip_causes;
 mod twice;
 mod unbound;

@@ -5,7 +5,7 @@ use ps_model::FaultKind;
 
 /// Those of a rule whose brackets, bars and arrow make none, the ones first that bring others with them.
 const BROKEN_RULE: [Slip; 13] = [
-    Slip::Rule(RuleSlip::Slashes),
+    Slip::Shape(ShapeSlip::LikeBracket),
     Slip::Rule(RuleSlip::MessageAlone),
     Slip::Rule(RuleSlip::LoopWords),
     Slip::Shape(ShapeSlip::LikeArrow),
@@ -57,7 +57,6 @@ pub fn slips_of(kind: FaultKind) -> &'static [Slip] {
         FaultKind::BadLine => &BROKEN_LEGEND,
         FaultKind::BadWin => &BROKEN_WIN,
         FaultKind::NotInProfile => &LEFT_OUT,
-        FaultKind::UnknownWord => &[Slip::Rule(RuleSlip::Slashes)],
         FaultKind::NothingRight => &[Slip::Shape(ShapeSlip::NothingRight)],
         FaultKind::NameTwice => &[Slip::Rule(RuleSlip::TwiceInCell)],
         FaultKind::Twice => &[Slip::Form(FormSlip::NameAgain)],

@@ -1,16 +1,15 @@
 -- What may be wrong with a word of a line, by the words before it and behind it.
 use Rattle.std.specs.Prelude.{ℕ, ◌%◌, nat_eq, Bool, true, ◌&&◌, ◌||◌, not, List, [], ◌∷◌, length}
-use Rattle.std.specs.List.{starts_with}
 use Rattle.ps_model.specs.declared.texts.Section.{Section}
 use Rattle.ps_model.specs.declared.texts.Section.TheVariants.{Prelude, Objects, Legend, Rules, Wins}
 use Rattle.ps_facts.specs.declared.signs.Sign.{Sign}
 use Rattle.ps_facts.specs.declared.signs.Sign.TheVariants as sign
 use Rattle.ps_facts.specs.declared.slips.ShapeSlip.{ShapeSlip}
-use Rattle.ps_facts.specs.declared.slips.ShapeSlip.TheVariants.{LikeArrow, NoArrow, SecondArrow, Nested, Unclosed}
+use Rattle.ps_facts.specs.declared.slips.ShapeSlip.TheVariants.{LikeArrow, LikeBracket, NoArrow, SecondArrow, Nested, Unclosed}
 use Rattle.ps_facts.specs.declared.slips.ShapeSlip.TheVariants.{LoneClosing, NothingLeft, NothingRight, BarOutside}
 use Rattle.ps_facts.specs.declared.slips.ShapeSlip.TheVariants.{DirectionOutside, WordOutside}
 use Rattle.ps_facts.specs.declared.slips.RuleSlip.{RuleSlip}
-use Rattle.ps_facts.specs.declared.slips.RuleSlip.TheVariants.{Slashes, LoopWords, MessageAlone, LateMove, Chance}
+use Rattle.ps_facts.specs.declared.slips.RuleSlip.TheVariants.{LoopWords, MessageAlone, LateMove, Chance}
 use Rattle.ps_facts.specs.declared.slips.RuleSlip.TheVariants.{Rigid}
 use Rattle.ps_facts.specs.declared.slips.RuleSlip.TheVariants.{TwiceInCell}
 use Rattle.ps_facts.specs.declared.slips.PlaceSlip.{PlaceSlip}
@@ -60,6 +59,7 @@ lacks sign before word behind = not (has_sign sign before) && (not (is_sign sign
 -- what is wrong with brackets, bars and arrow
 abbrev pub has_shape_slip : ShapeSlip → List (List ℕ) → List ℕ → List (List ℕ) → Bool
 has_shape_slip LikeArrow before word behind = lacks sign.Arrow before word behind
+has_shape_slip LikeBracket before word behind = not (is_edge word)
 has_shape_slip NoArrow before word behind = lacks sign.Arrow before word behind && are_so_many 0 behind
 has_shape_slip SecondArrow before word behind = is_sign sign.Arrow word && has_sign sign.Arrow before
 has_shape_slip Nested before word behind = is_sign sign.Opening word && comes_first sign.Opening behind
@@ -80,7 +80,6 @@ is_loop_word word = is_sign sign.LoopStart word || is_sign sign.LoopEnd word
 
 -- what is wrong with other words of a rule
 abbrev pub has_rule_slip : RuleSlip → List (List ℕ) → List ℕ → List (List ℕ) → Bool
-has_rule_slip Slashes before word behind = starts_with nat_eq word (47 ∷ 47 ∷ [])
 has_rule_slip LoopWords before word behind = is_loop_word word && not (are_so_many 0 behind)
 has_rule_slip MessageAlone before word behind = is_sign sign.Message word && lacks sign.Arrow before word behind
 has_rule_slip LateMove before word behind = is_movement word && (has_sign sign.Late before && is_inside before)

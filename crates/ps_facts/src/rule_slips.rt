@@ -30,7 +30,6 @@ pub fn has_rule_slip(slip: RuleSlip, before: &[Word<'_>], word: &str, behind: &[
     ensures { result ≡ true → has_rule_slip slip (map text_of before.now) word.now (map text_of behind.now) ≡ true }
 {
     match slip {
-        RuleSlip::Slashes => word.as_bytes().starts_with(b"//"),
         RuleSlip::LoopWords => is_loop_word(word) && !behind.is_empty(),
         RuleSlip::MessageAlone => is_sign(Sign::Message, word)
             && lacks(Sign::Arrow, before, word, behind),

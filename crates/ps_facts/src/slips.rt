@@ -10,6 +10,8 @@ use ps_model::Section;
 pub enum ShapeSlip {
     /// The line has no `->`; the word is written much like one.
     LikeArrow,
+    /// The word is written in place of a bracket.
+    LikeBracket,
     /// The line has no `->`; the word is its last.
     NoArrow,
     /// A `->` behind another one.
@@ -35,8 +37,6 @@ pub enum ShapeSlip {
 /// What may be wrong with other words of a rule.
 #[derive(Clone, Copy)]
 pub enum RuleSlip {
-    /// The word begins with `//`.
-    Slashes,
     /// `startloop` or `endloop` with words behind it.
     LoopWords,
     /// `message` in a line without `->`.

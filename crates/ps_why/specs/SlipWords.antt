@@ -1,11 +1,11 @@
 -- What is told of a word that has a slip: what stands before it, the word, and what stands behind it.
 use Rattle.std.specs.Prelude.{ℕ, List, ◌++◌, codes}
 use Rattle.ps_facts.specs.declared.slips.ShapeSlip.{ShapeSlip}
-use Rattle.ps_facts.specs.declared.slips.ShapeSlip.TheVariants.{LikeArrow, NoArrow, SecondArrow, Nested, Unclosed}
+use Rattle.ps_facts.specs.declared.slips.ShapeSlip.TheVariants.{LikeArrow, LikeBracket, NoArrow, SecondArrow, Nested, Unclosed}
 use Rattle.ps_facts.specs.declared.slips.ShapeSlip.TheVariants.{LoneClosing, NothingLeft, NothingRight, BarOutside}
 use Rattle.ps_facts.specs.declared.slips.ShapeSlip.TheVariants.{DirectionOutside, WordOutside}
 use Rattle.ps_facts.specs.declared.slips.RuleSlip.{RuleSlip}
-use Rattle.ps_facts.specs.declared.slips.RuleSlip.TheVariants.{Slashes, LoopWords, MessageAlone, LateMove, Chance}
+use Rattle.ps_facts.specs.declared.slips.RuleSlip.TheVariants.{LoopWords, MessageAlone, LateMove, Chance}
 use Rattle.ps_facts.specs.declared.slips.RuleSlip.TheVariants.{Rigid}
 use Rattle.ps_facts.specs.declared.slips.RuleSlip.TheVariants.{TwiceInCell}
 use Rattle.ps_facts.specs.declared.slips.PlaceSlip.{PlaceSlip}
@@ -22,6 +22,7 @@ use Rattle.ps_facts.specs.declared.slips.Slip.TheVariants.{Shape, Rule, Place, F
 -- what stands before a word with a wrong bracket, bar or arrow
 abbrev pub shape_front : ShapeSlip → List ℕ
 shape_front LikeArrow = codes "No `->` stands in the line: `"
+shape_front LikeBracket = codes "The brackets of a rule are `[` and `]`: `"
 shape_front NoArrow = codes "No `->` stands in the line, which ends behind `"
 shape_front SecondArrow = codes "`"
 shape_front Nested = codes "Another `[` stands behind this `"
@@ -36,6 +37,7 @@ shape_front WordOutside = codes "`"
 -- what stands behind it
 abbrev pub shape_back : ShapeSlip → List ℕ
 shape_back LikeArrow = codes "` isn't one."
+shape_back LikeBracket = codes "` is neither."
 shape_back NoArrow = codes "`: a rule has one, and is written in one line."
 shape_back SecondArrow = codes "` stands a second time."
 shape_back Nested = codes "` before a `]`: brackets don't nest."
@@ -49,7 +51,6 @@ shape_back WordOutside = codes "` stands outside brackets."
 
 -- what stands before another word of a rule
 abbrev pub rule_front : RuleSlip → List ℕ
-rule_front Slashes = codes "A comment stands between `(` and `)`, and doesn't begin as `"
 rule_front LoopWords = codes "`"
 rule_front MessageAlone = codes "`"
 rule_front LateMove = codes "`"
@@ -59,7 +60,6 @@ rule_front TwiceInCell = codes "`"
 
 -- what stands behind it
 abbrev pub rule_back : RuleSlip → List ℕ
-rule_back Slashes = codes "`."
 rule_back LoopWords = codes "` has to stand alone in its line."
 rule_back MessageAlone = codes "` stands in a line without `->`: a rule has its message behind that."
 rule_back LateMove = codes "` stands in the brackets of a late rule: behind the movement nothing moves."

@@ -105,6 +105,8 @@ pub fn marks_of(cause: Cause<'_>) -> Option<Marks> {
         | Cause::Meaningless { word, .. }
         | Cause::Unlayered { word }
         | Cause::Twice { word, .. }
+        | Cause::Slashes { word }
+        | Cause::LikeHeader { word, .. }
         | Cause::Slip { word, .. } => mark_of_word(word),
         Cause::InRule(cause) => marks_in_rule(cause),
         Cause::InLoop(cause) => mark_of_word(marked_in_loop(cause)),

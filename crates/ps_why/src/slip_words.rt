@@ -15,6 +15,7 @@ fn shape_front(slip: ShapeSlip) -> &'static str
 {
     match slip {
         ShapeSlip::LikeArrow => "No `->` stands in the line: `",
+        ShapeSlip::LikeBracket => "The brackets of a rule are `[` and `]`: `",
         ShapeSlip::NoArrow => "No `->` stands in the line, which ends behind `",
         ShapeSlip::Nested => "Another `[` stands behind this `",
         ShapeSlip::Unclosed => "No `]` closes this `",
@@ -34,6 +35,7 @@ fn shape_back(slip: ShapeSlip) -> &'static str
 {
     match slip {
         ShapeSlip::LikeArrow => "` isn't one.",
+        ShapeSlip::LikeBracket => "` is neither.",
         ShapeSlip::NoArrow => "`: a rule has one, and is written in one line.",
         ShapeSlip::SecondArrow => "` stands a second time.",
         ShapeSlip::Nested => "` before a `]`: brackets don't nest.",
@@ -53,7 +55,6 @@ fn rule_front(slip: RuleSlip) -> &'static str
     ensures { result.now ≡ rule_front slip }
 {
     match slip {
-        RuleSlip::Slashes => "A comment stands between `(` and `)`, and doesn't begin as `",
         RuleSlip::LoopWords
         | RuleSlip::MessageAlone
         | RuleSlip::LateMove
@@ -68,7 +69,6 @@ fn rule_back(slip: RuleSlip) -> &'static str
     ensures { result.now ≡ rule_back slip }
 {
     match slip {
-        RuleSlip::Slashes => "`.",
         RuleSlip::LoopWords => "` has to stand alone in its line.",
         RuleSlip::MessageAlone =>
             "` stands in a line without `->`: a rule has its message behind that.",
