@@ -2,13 +2,15 @@
 use Rattle.std.specs.Prelude.{◌≡◌, ◌≤◌, ◌<◌, ℕ, nat_eq, ◌-◌, Bool, false, true, ◌&&◌, ⊤, Some}
 use Rattle.std.specs.Prelude.{List, [], ◌∷◌, ◌++◌, codes}
 use Rattle.std.specs.Prelude.{slice_get, encode_utf8, slice_index_or}
-use Rattle.std.specs.List.{IsAmong, list_any}
+use Rattle.std.specs.List.{IsAmong, list_any, starts_with}
 use Rattle.std.specs.Str.{bytes_eq, chars}
 use Rattle.std.specs.Str.Lossy.{utf8_valid_len}
 use Rattle.ps_model.specs.declared.texts.Section.{Section}
+use Rattle.ps_model.specs.declared.texts.Section.TheVariants.{Layers}
 use Rattle.ps_model.specs.text.LineNumbers.{line_at, HasLine}
 use Rattle.ps_model.specs.text.Lines.{Line, lines_of, folded}
 use Rattle.ps_model.specs.text.Sections.{rank, header_lines, has_section}
+use Rattle.ps_model.specs.text.TextFaults.{line_of_place}
 use Rattle.ps_text.specs.declared.cutting.Word.{Word}
 use Rattle.ps_causes.specs.declared.causes.Blank.{Blank}
 use Rattle.ps_causes.specs.declared.causes.Blank.TheVariants.{Space, Tab, CarriageReturn, Comment}
@@ -18,17 +20,20 @@ use Rattle.ps_causes.specs.declared.causes.Hint.TheVariants.{Nothing, Near, Stra
 use Rattle.ps_causes.specs.declared.causes.Cause.{Cause}
 use Rattle.ps_causes.specs.declared.causes.Cause.TheVariants.{Untold, Undeclared, Meaningless, Unlayered, UnknownGlyph}
 use Rattle.ps_causes.specs.declared.causes.Cause.TheVariants.{BrokenRow, LateHeader, MissingSection, Twice, Slip}
-use Rattle.ps_causes.specs.declared.causes.Cause.TheVariants.{InRule, InObject, BrokenByte}
+use Rattle.ps_causes.specs.declared.causes.Cause.TheVariants.{Slashes, LikeHeader}
+use Rattle.ps_causes.specs.declared.causes.Cause.TheVariants.{InRule, InLoop, InWhole, InObject, OnlyCommas, BrokenByte}
 use Rattle.ps_facts.specs.declared.names.Named.{Named}
 use Rattle.ps_facts.specs.declared.slips.Slip as slips
-use Rattle.ps_causes.specs.Clues.{IsClue}
+use Rattle.ps_causes.specs.Clues.{IsClue, IsNoHeader}
 use Rattle.ps_facts.specs.Declarations.{is_declared, IsDeclaredAt}
 use Rattle.ps_facts.specs.KeyWords.{is_key_word}
 use Rattle.ps_facts.specs.LayerWords.{is_in_layers}
 use Rattle.ps_facts.specs.LineWords.{IsWordOf, texts_of}
 use Rattle.ps_facts.specs.NamesShown.{is_own}
 use Rattle.ps_causes.specs.ObjectCauses.{IsToldOfObject}
+use Rattle.ps_causes.specs.Loops.{IsToldOfLoop}
 use Rattle.ps_causes.specs.RuleCauses.{IsToldOfRule}
+use Rattle.ps_causes.specs.WholeCauses.{IsToldOfWhole}
 use Rattle.ps_facts.specs.Slips.{section_of, has_slip}
 
 -- words ---------------------------------------------------------------------------------------------------------------
@@ -123,6 +128,17 @@ pub record IsTwice (text : List ℕ) (line : ℕ) (word : Word) (first : Named) 
   pub above : first.line < line
   pub same : bytes_eq (folded word.text.now) (folded first.name.now) ≡ true
 
+-- a word of the line begins with `//`
+pub record IsSlashes (text : List ℕ) (line : ℕ) (word : Word) : Type 0 where
+  pub stands : IsWordOf text line word
+  pub slashes : starts_with nat_eq word.text.now (47 ∷ 47 ∷ []) ≡ true
+
+-- a word of a line that is no header, where no line is a header of the section
+pub record IsLikeHeader (text : List ℕ) (line : ℕ) (word : Word) (section : Section) : Type 0 where
+  pub stands : IsWordOf text line word
+  pub no_header : IsNoHeader text line
+  pub missing : has_section (header_lines (lines_of text)) section ≡ false
+
 -- a word of a line of its section that stands where it can't
 pub record IsSlip (text : List ℕ) (line : ℕ) (word : Word) (slip : slips.Slip) : Type 0 where
   pub stands : IsWordOf text line word
@@ -131,6 +147,14 @@ pub record IsSlip (text : List ℕ) (line : ℕ) (word : Word) (slip : slips.Sli
   pub behind : List (List ℕ)
   pub parts : texts_of text line ≡ before ++ word.text.now ∷ behind
   pub holds : has_slip slip before word.text.now behind ≡ true
+
+-- a line of COLLISIONLAYERS has no word, and a comma stands in it at that place of the text, from 1
+pub record AreOnlyCommas (text : List ℕ) (line place : ℕ) : Type 0 where
+  pub own : is_own Layers (line_at text line) ≡ true
+  pub nameless : texts_of text line ≡ []
+  pub counted : 1 ≤ place
+  pub comma : slice_get text (place - 1) ≡ Some 44
+  pub in_line : line_of_place text (place - 1) ≡ line
 
 -- what is told of a line is true of the text
 abbrev pub IsToldAt : List ℕ → ℕ → Cause → Type 0
@@ -143,7 +167,12 @@ IsToldAt text line (BrokenRow row blank) = IsBrokenRow text line row blank
 IsToldAt text line (LateHeader header section above other) = IsLateHeader text line header section above other
 IsToldAt text line (MissingSection section clue) = IsMissing text section clue
 IsToldAt text line (Twice word first) = IsTwice text line word first
+IsToldAt text line (Slashes word) = IsSlashes text line word
+IsToldAt text line (LikeHeader word section) = IsLikeHeader text line word section
 IsToldAt text line (Slip word slip) = IsSlip text line word slip
 IsToldAt text line (InRule cause) = IsToldOfRule text line cause
+IsToldAt text line (InLoop cause) = IsToldOfLoop text line cause
+IsToldAt text line (InWhole cause) = IsToldOfWhole text line cause
 IsToldAt text line (InObject cause) = IsToldOfObject text line cause
+IsToldAt text line (OnlyCommas place) = AreOnlyCommas text line place
 IsToldAt text line (BrokenByte place byte) = IsBrokenByte text place byte

@@ -1,6 +1,10 @@
 pub mod Causes
 pub mod Clues
 pub mod GoingOn
+pub mod Loops
+pub mod Meant
 pub mod ObjectCauses
 pub mod Pairs
 pub mod RuleCauses
+pub mod Unbound
+pub mod WholeCauses

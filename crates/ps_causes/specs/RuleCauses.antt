@@ -1,50 +1,30 @@
 -- Why a rule has a fault where more words than one say so, and when that is true of the text.
 use Rattle.std.specs.Prelude.{◌≡◌, ◌-◌, ℕ, true, Some, List, ◌∷◌, ◌++◌, length, slice_get}
-use Rattle.ps_model.specs.declared.texts.Section.{Section}
 use Rattle.ps_model.specs.declared.texts.Section.TheVariants.{Rules}
 use Rattle.ps_model.specs.text.LineNumbers.{line_at, HasLine}
 use Rattle.ps_text.specs.declared.cutting.Word.{Word}
 use Rattle.ps_causes.specs.declared.causes.Further.{Further}
 use Rattle.ps_causes.specs.declared.causes.RuleCause.{RuleCause}
 use Rattle.ps_causes.specs.declared.causes.RuleCause.TheVariants.{Pair, Several, Unbound, Rows, Cells, GoesOn}
-use Rattle.ps_facts.specs.declared.names.Named.{Named}
-use Rattle.ps_facts.specs.declared.signs.Sign.TheVariants.{Arrow, And}
+use Rattle.ps_facts.specs.declared.signs.Sign.TheVariants.{Arrow}
 use Rattle.ps_facts.specs.Counts.{cell_counts}
-use Rattle.ps_facts.specs.Declarations.{IsDeclaredAt}
 use Rattle.ps_causes.specs.GoingOn.{is_part}
-use Rattle.ps_facts.specs.Joined.{IsJoinedAt}
+use Rattle.ps_causes.specs.Meant.{names_in, meant, is_aggregate_at}
 use Rattle.ps_facts.specs.LineWords.{IsWordOf, texts_of}
 use Rattle.ps_facts.specs.NamesShown.{is_own}
-use Rattle.ps_causes.specs.Pairs.{are_pair}
-use Rattle.ps_facts.specs.Signs.{is_same, is_sign, has_sign}
-use Rattle.ps_facts.specs.Occurrences.{occurrences}
+use Rattle.ps_facts.specs.Places.{is_barred}
+use Rattle.ps_facts.specs.Signs.{is_sign}
+use Rattle.ps_causes.specs.Pairs.{IsPair}
+use Rattle.ps_causes.specs.Unbound.{IsUnbound}
 
--- a word of a line with another one before it in its cell, and a line of the section that has both
-pub record IsPair (text : List ℕ) (line : ℕ) (word : Word) (other : List ℕ) (section : Section) (shared : ℕ) : Type 0
-  where
-    pub stands : IsWordOf text line word
-    pub before : List (List ℕ)
-    pub behind : List (List ℕ)
-    pub parts : texts_of text line ≡ before ++ word.text.now ∷ behind
-    pub there : HasLine text shared
-    pub own : is_own section (line_at text shared) ≡ true
-    pub holds : are_pair (texts_of text shared) before word.text.now other ≡ true
-
--- a word of a line that a line of LEGEND with `and` declares
-pub record IsSeveral (text : List ℕ) (line : ℕ) (word : Word) (first : Named) : Type 0 where
-  pub stands : IsWordOf text line word
-  pub declared_there : IsDeclaredAt text first.line first.name.now
-  pub same : is_same word.text.now first.name.now ≡ true
-  pub joined : IsJoinedAt text first.line And
-
--- a word of a line that stands behind the arrow, and so often before it
-pub record IsUnbound (text : List ℕ) (line : ℕ) (word : Word) (times : ℕ) : Type 0 where
+-- a word of a line that stands behind `no`, and for several objects at once, which a line declares
+pub record IsSeveral (text : List ℕ) (line : ℕ) (word : Word) (declared : ℕ) : Type 0 where
   pub stands : IsWordOf text line word
   pub before : List (List ℕ)
   pub behind : List (List ℕ)
   pub parts : texts_of text line ≡ before ++ word.text.now ∷ behind
-  pub on_the_right : has_sign Arrow before ≡ true
-  pub counted : times ≡ occurrences word.text.now before
+  pub barred : is_barred before ≡ true
+  pub several : is_aggregate_at declared (meant (names_in text) word.text.now) ≡ true
 
 -- a word of a line that is the arrow, with these words before it and behind it
 pub record IsArrowOf (text : List ℕ) (line : ℕ) (arrow : Word) (before behind : List (List ℕ)) : Type 0 where
@@ -76,9 +56,9 @@ pub record IsFurther (text : List ℕ) (further : Further) : Type 0 where
 
 -- what is told of a rule is true
 abbrev pub IsToldOfRule : List ℕ → ℕ → RuleCause → Type 0
-IsToldOfRule text line (Pair word other section shared) = IsPair text line word other.now section shared
-IsToldOfRule text line (Several word first) = IsSeveral text line word first
-IsToldOfRule text line (Unbound word times) = IsUnbound text line word times
+IsToldOfRule text line (Pair word other shared) = IsPair text line word other shared
+IsToldOfRule text line (Several word declared) = IsSeveral text line word declared
+IsToldOfRule text line (Unbound word times could) = IsUnbound text line word times could
 IsToldOfRule text line (Rows arrow left right) = IsRows text line arrow left right
 IsToldOfRule text line (Cells arrow row left right) = IsCells text line arrow row left right
 IsToldOfRule text line (GoesOn word further) = IsWordOf text line word × IsFurther text further

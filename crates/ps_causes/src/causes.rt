@@ -65,6 +65,15 @@ pub enum Cause<'a> {
         word: Word<'a>,
         first: Named<'a>,
     },
+    /// The word begins with `//`.
+    Slashes {
+        word: Word<'a>,
+    },
+    /// The line, of which the word is the first, is written much like the header of a section that the text hasn't.
+    LikeHeader {
+        word: Word<'a>,
+        section: Section,
+    },
     /// The word stands where it can't.
     Slip {
         word: Word<'a>,
@@ -72,8 +81,16 @@ pub enum Cause<'a> {
     },
     /// The words of a rule are wrong together, or by what a line of another section says of them.
     InRule(RuleCause<'a>),
+    /// A loop begins or ends where it can't, or doesn't end.
+    InLoop(LoopCause<'a>),
+    /// `Background` or `Player` can't be what it is.
+    InWhole(WholeCause<'a>),
     /// An object isn't written as one.
     InObject(ObjectCause<'a>),
+    /// A line of COLLISIONLAYERS has no name. A comma of it stands at that place of the text, from 1.
+    OnlyCommas {
+        place: usize,
+    },
     /// The byte, at that place of the text from 1, is in no whole character of UTF-8.
     BrokenByte {
         place: usize,
@@ -94,22 +111,22 @@ impl<'a> Cause<'a> {
 /// Why a rule has a fault, where more words than one say so.
 #[derive(Clone, Copy)]
 pub enum RuleCause<'a> {
-    /// The other word stands before the word in one cell, and a line of the section has both.
+    /// The other word stands before the word in one cell, and what the two share can't stand there twice.
     Pair {
         word: Word<'a>,
-        other: &'a str,
-        section: Section,
-        shared: u32,
+        other: Word<'a>,
+        shared: Shared<'a>,
     },
-    /// A line of LEGEND makes the word several objects at once.
+    /// The word stands behind `no`, and for several objects at once, which the line of LEGEND declares.
     Several {
         word: Word<'a>,
-        first: Named<'a>,
+        declared: u32,
     },
     /// The word stands on the right, and so often on the left without `no`.
     Unbound {
         word: Word<'a>,
         times: usize,
+        could: Could<'a>,
     },
     /// How many rows stand on the two sides of the arrow.
     Rows {
@@ -128,6 +145,64 @@ pub enum RuleCause<'a> {
     GoesOn {
         word: Word<'a>,
         further: Further,
+    },
+}
+
+/// What two names of one cell share.
+#[derive(Clone, Copy)]
+pub enum Shared<'a> {
+    /// An object, by its name.
+    Object(Named<'a>),
+    /// The property that the line of LEGEND declares.
+    Property(u32),
+    /// A layer, the line of COLLISIONLAYERS.
+    Layer(u32),
+}
+
+/// What of the left a word of the right could mean.
+#[derive(Clone, Copy)]
+pub enum Could<'a> {
+    /// Nothing is told.
+    Nothing,
+    /// Either of two words, or a further one if there are more.
+    Either { first: Spot<'a>, second: Spot<'a> },
+    /// Another property.
+    Other(Spot<'a>),
+}
+
+/// A word of a rule's left.
+#[derive(Clone, Copy)]
+pub struct Spot<'a> {
+    pub word: Word<'a>,
+    /// The number of its cell, from 1, counted through all rows.
+    pub cell: usize,
+}
+
+/// Why a loop has a fault.
+#[derive(Clone, Copy)]
+pub enum LoopCause<'a> {
+    /// The loop that begins at that line has no end above.
+    Nested { word: Word<'a>, open_line: u32 },
+    /// No loop begins above, or none behind the end of the last one, at that line.
+    Unbegun { word: Word<'a>, ended: Option<u32> },
+    /// No loop ends below.
+    Unended { word: Word<'a> },
+}
+
+/// Why `Background` or `Player` has a fault.
+#[derive(Clone, Copy)]
+pub enum WholeCause<'a> {
+    /// A line of LEGEND makes the word several objects at once.
+    AllAtOnce {
+        word: Word<'a>,
+        first: Named<'a>,
+    },
+    /// Two words stand in two lines of COLLISIONLAYERS.
+    OnTwoLayers {
+        word: Word<'a>,
+        layer: u32,
+        other: Word<'a>,
+        other_layer: u32,
     },
 }
 

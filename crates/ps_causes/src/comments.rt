@@ -39,7 +39,7 @@ fn never_closes(bytes: &[u8]) -> bool
 }
 
 /// The number of the line that a place of a text stands in.
-fn line_of(text: &[u8], place: usize) -> usize
+pub fn line_of(text: &[u8], place: usize) -> usize
     requires { place ≤ length text.now }
     ensures { result ≡ line_of_place text.now place }
 {

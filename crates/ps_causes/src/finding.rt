@@ -9,21 +9,27 @@ use crate::causes::Cause;
 use crate::counts::counts_cause;
 use crate::glyphs::glyph_cause;
 use crate::going_on::going_on_cause;
-use crate::headers::{late_cause, missing_cause};
-use crate::looked_for::slips_of;
-use crate::object_causes::object_cause;
+use crate::headers::{late_cause, like_header_cause, missing_cause};
+use crate::looked_for::{MISPLACED, slips_of};
+use crate::loops::loop_cause;
+use crate::object_causes::{object_cause, row_name_cause};
+use crate::only_commas::commas_cause;
 use crate::pairs::pair_cause;
 use crate::rule_words::meaningless_cause;
+use crate::shares::Sought;
+use crate::slashes::slashes_cause;
 use crate::slip_causes::slip_cause;
 use crate::twice::twice_cause;
 use crate::unbound::unbound_cause;
 use crate::undeclared::undeclared_cause;
 use crate::unlayered::unlayered_cause;
-use ps_model::{Fault, FaultKind, Memory, Section};
+use crate::wholes::whole_cause;
+use ps_facts::{declared_names, is_among};
+use ps_model::{Fault, FaultKind, Memory};
 use ps_text::Source;
 use std::alloc::Global;
 
-/// The names of a cell that name one object: a word that stands there twice, or else two that LEGEND has in one line.
+/// The names of a cell that name one object: a word that stands there twice, or else two that stand for one.
 fn name_twice_cause<'a>(alloc: Global, source: &'a Source, line: u32) -> Result<Cause<'a>, Memory>
     requires { HasLine source.now line }
     ensures { IfOk result (IsToldAt source.now line) }
@@ -32,19 +38,91 @@ fn name_twice_cause<'a>(alloc: Global, source: &'a Source, line: u32) -> Result<
     if cause.is_told() {
         return Ok(cause);
     }
-    pair_cause(alloc, source, line, Section::Legend)
+    pair_cause(alloc, source, line, Sought::Name)
 }
 
-/// A word of a rule that begins no comment, or else one that means nothing.
+/// The names of a cell that never stand in one: two that share a layer whatever is chosen, or else two that share one.
+fn impossible_cause<'a>(alloc: Global, source: &'a Source, line: u32) -> Result<Cause<'a>, Memory>
+    requires { HasLine source.now line }
+    ensures { IfOk result (IsToldAt source.now line) }
+{
+    let cause = pair_cause(alloc, source, line, Sought::Layer)?;
+    if cause.is_told() {
+        return Ok(cause);
+    }
+    pair_cause(alloc, source, line, Sought::SomeLayer)
+}
+
+/// A name that is declared above, or else in its own line before.
+fn name_again_cause<'a>(alloc: Global, source: &'a Source, line: u32) -> Result<Cause<'a>, Memory>
+    requires { HasLine source.now line }
+    ensures { IfOk result (IsToldAt source.now line) }
+{
+    let cause = twice_cause(alloc, source, line)?;
+    if cause.is_told() {
+        return Ok(cause);
+    }
+    slip_cause(alloc, source, line, slips_of(FaultKind::Twice))
+}
+
+/// A word of a rule that means nothing, or else one that can't stand where it stands.
 fn unknown_word_cause<'a>(alloc: Global, source: &'a Source, line: u32) -> Result<Cause<'a>, Memory>
     requires { HasLine source.now line }
     ensures { IfOk result (IsToldAt source.now line) }
 {
-    let cause = slip_cause(alloc, source, line, slips_of(FaultKind::UnknownWord))?;
+    let cause = meaningless_cause(alloc, source, line)?;
     if cause.is_told() {
         return Ok(cause);
     }
-    meaningless_cause(alloc, source, line)
+    slip_cause(alloc, source, line, &MISPLACED)
+}
+
+/// An object that no layer has, or else one that is read from a row of a sprite.
+fn no_layer_cause<'a>(alloc: Global, source: &'a Source, line: u32) -> Result<Cause<'a>, Memory>
+    requires { HasLine source.now line }
+    ensures { IfOk result (IsToldAt source.now line) }
+{
+    let cause = row_name_cause(alloc, source, line)?;
+    if cause.is_told() {
+        return Ok(cause);
+    }
+    unlayered_cause(alloc, source, line)
+}
+
+/// A comment of a row that begins as elsewhere, where `/` is no name; or else a character of the row that is none.
+fn row_cause<'a>(
+    alloc: Global,
+    text: &[u8],
+    source: &'a Source,
+    line: u32,
+) -> Result<Cause<'a>, Memory>
+    requires line { HasLine source.now line }
+    requires text { source.now ≡ text.now }
+    ensures { IfOk result (IsToldAt source.now line) }
+{
+    let cause = slashes_cause(alloc, source, line)?;
+    if cause.is_told() && !is_among(&declared_names(alloc, source)?, "/") {
+        return Ok(cause);
+    }
+    glyph_cause(alloc, text, source, line)
+}
+
+/// Where a line of LEGEND leaves its forms, or a comma of a line of COLLISIONLAYERS without a name.
+fn bad_line_cause<'a>(
+    alloc: Global,
+    text: &[u8],
+    source: &'a Source,
+    line: u32,
+) -> Result<Cause<'a>, Memory>
+    requires line { HasLine source.now line }
+    requires text { source.now ≡ text.now }
+    ensures { IfOk result (IsToldAt source.now line) }
+{
+    let cause = slip_cause(alloc, source, line, slips_of(FaultKind::BadLine))?;
+    if cause.is_told() {
+        return Ok(cause);
+    }
+    commas_cause(alloc, text, source, line)
 }
 
 /// That a rule goes on in the next line, or else what is wrong with its arrow, rows and cells.
@@ -62,8 +140,41 @@ fn shape_cause<'a>(alloc: Global, source: &'a Source, fault: Fault) -> Result<Ca
     slip_cause(alloc, source, fault.line, slips_of(fault.kind))
 }
 
-/// The cause of a fault at a line of the text.
-fn cause_at<'a>(
+/// Whether a line with that fault may be meant as a comment or as a header.
+fn may_be_another(kind: FaultKind) -> bool {
+    match kind {
+        FaultKind::BadObject
+        | FaultKind::UnknownName
+        | FaultKind::BadLine
+        | FaultKind::BadBracket
+        | FaultKind::UnknownWord
+        | FaultKind::BadWin
+        | FaultKind::UnknownWinName => true,
+        _ => false,
+    }
+}
+
+/// A comment that begins as elsewhere, or a line that is written much like a header, where a line may be either.
+fn other_line_cause<'a>(
+    alloc: Global,
+    source: &'a Source,
+    fault: Fault,
+) -> Result<Cause<'a>, Memory>
+    requires { HasLine source.now fault.line }
+    ensures { IfOk result (IsToldAt source.now fault.line) }
+{
+    if !may_be_another(fault.kind) {
+        return Ok(Cause::Untold);
+    }
+    let cause = slashes_cause(alloc, source, fault.line)?;
+    if cause.is_told() || fault.kind == FaultKind::BadObject {
+        return Ok(cause);
+    }
+    like_header_cause(alloc, source, fault.line)
+}
+
+/// The cause of a fault at a line of the text, as its section has it.
+fn own_cause<'a>(
     alloc: Global,
     text: &[u8],
     source: &'a Source,
@@ -78,13 +189,16 @@ fn cause_at<'a>(
             alloc, source, fault.line,
         ),
         FaultKind::UnknownWord => unknown_word_cause(alloc, source, fault.line),
-        FaultKind::NoLayer => unlayered_cause(alloc, source, fault.line),
+        FaultKind::NoLayer => no_layer_cause(alloc, source, fault.line),
         FaultKind::SectionOrder => late_cause(alloc, source, fault.line),
         FaultKind::NoSection => missing_cause(alloc, text, source),
-        FaultKind::Twice => twice_cause(alloc, source, fault.line),
-        FaultKind::UnknownGlyph => glyph_cause(alloc, text, source, fault.line),
+        FaultKind::Twice => name_again_cause(alloc, source, fault.line),
+        FaultKind::UnknownGlyph => row_cause(alloc, text, source, fault.line),
         FaultKind::NameTwice => name_twice_cause(alloc, source, fault.line),
-        FaultKind::Impossible => pair_cause(alloc, source, fault.line, Section::Layers),
+        FaultKind::Impossible => impossible_cause(alloc, source, fault.line),
+        FaultKind::BadLine => bad_line_cause(alloc, text, source, fault.line),
+        FaultKind::BadBackground | FaultKind::BadPlayer => whole_cause(alloc, source, fault.line),
+        FaultKind::Loop => loop_cause(alloc, source, fault.line),
         FaultKind::BadObject => object_cause(alloc, source, fault.line),
         FaultKind::BadBracket | FaultKind::RowsDiffer | FaultKind::NothingRight => shape_cause(
             alloc, source, fault,
@@ -93,6 +207,24 @@ fn cause_at<'a>(
         FaultKind::Unbound => unbound_cause(alloc, source, fault.line),
         _ => slip_cause(alloc, source, fault.line, slips_of(fault.kind)),
     }
+}
+
+/// The cause of a fault at a line of the text.
+fn cause_at<'a>(
+    alloc: Global,
+    text: &[u8],
+    source: &'a Source,
+    fault: Fault,
+) -> Result<Cause<'a>, Memory>
+    requires line { HasLine source.now fault.line }
+    requires text { source.now ≡ text.now }
+    ensures { IfOk result (IsToldAt source.now fault.line) }
+{
+    let cause = other_line_cause(alloc, source, fault)?;
+    if cause.is_told() {
+        return Ok(cause);
+    }
+    own_cause(alloc, text, source, fault)
 }
 
 /// The cause of a fault of a text. Of a line that the text hasn't nothing is told.

@@ -91,9 +91,14 @@ const MOST_WORDS: usize = 4;
 /// The word of a section's header.
 fn header_of(section: Section) -> &'static str {
     match section {
+        Section::Prelude => "",
         Section::Objects => "objects",
+        Section::Legend => "legend",
+        Section::Sounds => "sounds",
         Section::Layers => "collisionlayers",
-        _ => "levels",
+        Section::Rules => "rules",
+        Section::Wins => "winconditions",
+        Section::Levels => "levels",
     }
 }
 
@@ -184,4 +189,53 @@ pub fn missing_cause<'a>(
     };
     let clue = clue_of(alloc, text, source, section)?;
     Ok(Cause::MissingSection { section, clue })
+}
+
+/// The sections that may have no header.
+const OPTIONAL: [Section; 4] = [
+    Section::Legend,
+    Section::Sounds,
+    Section::Rules,
+    Section::Wins,
+];
+
+/// That a line is written much like the header of a section, if the text hasn't that.
+fn like_cause<'a>(
+    alloc: Global,
+    source: &'a Source,
+    line: u32,
+    section: Section,
+) -> Result<Cause<'a>, Memory>
+    requires { HasLine source.now line }
+    ensures { IfOk result (IsToldAt source.now line) }
+{
+    if has_section(source, section) || !is_like(alloc, source, line, header_of(section))? {
+        return Ok(Cause::Untold);
+    }
+    let words = words_of(alloc, source, line)?;
+    if words.is_empty() {
+        return Ok(Cause::Untold);
+    }
+    Ok(Cause::LikeHeader {
+        word: words[0],
+        section,
+    })
+}
+
+/// That a line is written much like a header that the text hasn't.
+pub fn like_header_cause<'a>(
+    alloc: Global,
+    source: &'a Source,
+    line: u32,
+) -> Result<Cause<'a>, Memory>
+    requires { HasLine source.now line }
+    ensures { IfOk result (IsToldAt source.now line) }
+{
+    for at in 0..OPTIONAL.len() {
+        let cause = like_cause(alloc, source, line, OPTIONAL[at])?;
+        if cause.is_told() {
+            return Ok(cause);
+        }
+    }
+    Ok(Cause::Untold)
 }

@@ -3,6 +3,7 @@
 //! [`cause_of`] finds them, and each cause is true of the text.
 #![tactic(auto)]
 
+mod alike;
 mod barred;
 mod broken_bytes;
 mod causes;
@@ -14,18 +15,25 @@ mod going_on;
 mod headers;
 mod hints;
 mod looked_for;
+mod loops;
+mod meanings;
 mod object_causes;
+mod only_commas;
 mod pairs;
 mod returns;
 mod rule_words;
+mod shares;
+mod slashes;
 mod slip_causes;
 mod twice;
 mod unbound;
 mod undeclared;
 mod unlayered;
+mod wholes;
 
 pub use broken_bytes::broken_byte;
 pub use causes::{
-    Blank, Cause, Clue, Further, Hint, NoRow, ObjectCause, Part, RuleCause, WhyNoRow,
+    Blank, Cause, Clue, Could, Further, Hint, LoopCause, NoRow, ObjectCause, Part, RuleCause,
+    Shared, Spot, WholeCause, WhyNoRow,
 };
 pub use finding::cause_of;

@@ -1,11 +1,11 @@
 //! Which slips are looked for at which fault.
 
-use ps_facts::{FormSlip, RuleSlip, ShapeSlip, Slip};
+use ps_facts::{FormSlip, PlaceSlip, RuleSlip, ShapeSlip, Slip};
 use ps_model::FaultKind;
 
 /// Those of a rule whose brackets, bars and arrow make none, the ones first that bring others with them.
 const BROKEN_RULE: [Slip; 13] = [
-    Slip::Rule(RuleSlip::Slashes),
+    Slip::Shape(ShapeSlip::LikeBracket),
     Slip::Rule(RuleSlip::MessageAlone),
     Slip::Rule(RuleSlip::LoopWords),
     Slip::Shape(ShapeSlip::LikeArrow),
@@ -39,6 +39,17 @@ const BROKEN_WIN: [Slip; 4] = [
 /// Those of a rule with a word that is left out here.
 const LEFT_OUT: [Slip; 2] = [Slip::Rule(RuleSlip::Chance), Slip::Rule(RuleSlip::Rigid)];
 
+/// Those of a rule with a word that can't stand where it stands, though it means something.
+pub const MISPLACED: [Slip; 7] = [
+    Slip::Place(PlaceSlip::Ahead),
+    Slip::Place(PlaceSlip::KeyWordInCell),
+    Slip::Place(PlaceSlip::CommandInCell),
+    Slip::Place(PlaceSlip::Nameless),
+    Slip::Place(PlaceSlip::OutsideLeft),
+    Slip::Place(PlaceSlip::BeforeRow),
+    Slip::Place(PlaceSlip::NoCommand),
+];
+
 /// The slips that are looked for at a fault, in this order.
 pub fn slips_of(kind: FaultKind) -> &'static [Slip] {
     match kind {
@@ -46,9 +57,9 @@ pub fn slips_of(kind: FaultKind) -> &'static [Slip] {
         FaultKind::BadLine => &BROKEN_LEGEND,
         FaultKind::BadWin => &BROKEN_WIN,
         FaultKind::NotInProfile => &LEFT_OUT,
-        FaultKind::UnknownWord => &[Slip::Rule(RuleSlip::Slashes)],
         FaultKind::NothingRight => &[Slip::Shape(ShapeSlip::NothingRight)],
         FaultKind::NameTwice => &[Slip::Rule(RuleSlip::TwiceInCell)],
+        FaultKind::Twice => &[Slip::Form(FormSlip::NameAgain)],
         FaultKind::LateMove => &[Slip::Rule(RuleSlip::LateMove)],
         FaultKind::Realtime => &[Slip::Form(FormSlip::RealTime)],
         _ => &[],

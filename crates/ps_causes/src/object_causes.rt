@@ -206,7 +206,7 @@ fn row_name<'a>(names: &[Named<'a>], word: Word<'a>, line: u32) -> Cause<'a>
 }
 
 /// That the first word of a line, which is written much like a row of a sprite, names an object.
-fn row_name_cause<'a>(alloc: Global, source: &'a Source, line: u32) -> Result<Cause<'a>, Memory>
+pub fn row_name_cause<'a>(alloc: Global, source: &'a Source, line: u32) -> Result<Cause<'a>, Memory>
     requires { HasLine source.now line }
     ensures { IfOk result (IsToldAt source.now line) }
 {

@@ -1,5 +1,6 @@
 pub mod KeyWordsSought
-pub mod LineWords
+pub mod LayerLines
+mod LineWords
 pub mod ObjectNames
 pub mod OwnLines
 pub mod RowsBelow

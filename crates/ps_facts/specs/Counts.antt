@@ -1,5 +1,5 @@
 -- How many rows and cells stand on a side of a rule.
-use Rattle.std.specs.Prelude.{ℕ, ◌+◌, if◌then◌else◌, List, [], ◌∷◌}
+use Rattle.std.specs.Prelude.{ℕ, ◌+◌, ◌||◌, if◌then◌else◌, List, [], ◌∷◌, fold}
 use Rattle.ps_facts.specs.declared.signs.Sign.TheVariants.{Opening, Bar}
 use Rattle.ps_facts.specs.Signs.{is_sign, is_edge}
 
@@ -13,3 +13,11 @@ cells_from count (word ∷ words) =
 abbrev pub cell_counts : List (List ℕ) → List ℕ
 cell_counts [] = []
 cell_counts (word ∷ words) = if is_sign Opening word then cells_from 1 words ∷ cell_counts words else cell_counts words
+
+-- one more cell behind a word that begins one: a `[` or a bar
+abbrev pub begun_behind : ℕ → List ℕ → ℕ
+begun_behind count word = if is_sign Opening word || is_sign Bar word then count + 1 else count
+
+-- how many cells begin among words
+abbrev pub cells_begun : List (List ℕ) → ℕ
+cells_begun words = fold begun_behind 0 words

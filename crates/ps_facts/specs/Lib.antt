@@ -7,7 +7,6 @@ pub mod LayerWords
 pub mod LineWords
 pub mod NamesShown
 pub mod Objects
-pub mod Occurrences
 pub mod Places
 pub mod Signs
 pub mod Slips

@@ -1,7 +1,8 @@
 -- Where a word of a rule stands: in brackets or not, and in which cell.
 use Rattle.std.specs.Prelude.{ℕ, Bool, false, ◌||◌, if◌then◌else◌, List, [], ◌∷◌, fold}
 use Rattle.ps_facts.specs.declared.signs.Sign.{Sign}
-use Rattle.ps_facts.specs.declared.signs.Sign.TheVariants.{Opening, Bar}
+use Rattle.std.specs.List.{list_any}
+use Rattle.ps_facts.specs.declared.signs.Sign.TheVariants.{Opening, Bar, Without}
 use Rattle.ps_facts.specs.Signs.{is_same, is_sign, is_edge}
 
 -- brackets are open behind a word, where they are or aren't before it
@@ -28,3 +29,11 @@ seen_behind name seen word = if parts_cells word then false else (seen || is_sam
 -- a name stands in the cell in which these words of a line end
 abbrev pub is_in_cell : List ℕ → List (List ℕ) → Bool
 is_in_cell name before = fold (seen_behind name) false before
+
+-- a word among these parts cells
+abbrev pub are_parted : List (List ℕ) → Bool
+are_parted words = list_any parts_cells words
+
+-- `no` stands right before what follows these words
+abbrev pub is_barred : List (List ℕ) → Bool
+is_barred before = fold (λ last word. is_sign Without word) false before

@@ -6,6 +6,7 @@ use Rattle.ps_model.specs.text.Lines.{folded}
 use Rattle.ps_facts.specs.declared.signs.Sign.{Sign}
 use Rattle.ps_facts.specs.declared.signs.Sign.TheVariants.{Opening, Closing, Bar, Arrow, Late, Without, LoopStart}
 use Rattle.ps_facts.specs.declared.signs.Sign.TheVariants.{LoopEnd, Message, Rigid, Equals, And, Or, On, RealTime}
+use Rattle.ps_facts.specs.declared.signs.Sign.TheVariants.{Ellipsis}
 
 -- words that are one
 abbrev pub is_same : List ℕ → List ℕ → Bool
@@ -28,6 +29,7 @@ sign_text And = codes "and"
 sign_text Or = codes "or"
 sign_text On = codes "on"
 sign_text RealTime = codes "realtime_interval"
+sign_text Ellipsis = codes "..."
 
 -- the word is that sign
 abbrev pub is_sign : Sign → List ℕ → Bool
@@ -64,3 +66,10 @@ is_quantifier word = is_any (codes "no" ∷ codes "some" ∷ codes "any" ∷ cod
 -- the word asks for chance
 abbrev pub is_by_chance : List ℕ → Bool
 is_by_chance word = is_any (codes "random" ∷ codes "randomdir" ∷ []) word
+
+-- the word is a command
+abbrev pub is_command : List ℕ → Bool
+is_command word =
+    is_any (codes "cancel" ∷ codes "restart" ∷ codes "again" ∷ codes "checkpoint" ∷ codes "win" ∷ codes "message"
+    ∷ codes "sfx0" ∷ codes "sfx1" ∷ codes "sfx2" ∷ codes "sfx3" ∷ codes "sfx4" ∷ codes "sfx5" ∷ codes "sfx6"
+    ∷ codes "sfx7" ∷ codes "sfx8" ∷ codes "sfx9" ∷ codes "sfx10" ∷ []) word

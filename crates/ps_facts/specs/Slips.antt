@@ -1,32 +1,36 @@
 -- What may be wrong with a word of a line, by the words before it and behind it.
-use Rattle.std.specs.Prelude.{ℕ, ◌%◌, nat_eq, Bool, ◌&&◌, ◌||◌, not, List, [], ◌∷◌, length}
-use Rattle.std.specs.List.{starts_with}
+use Rattle.std.specs.Prelude.{ℕ, ◌%◌, nat_eq, Bool, true, ◌&&◌, ◌||◌, not, List, [], ◌∷◌, length}
 use Rattle.ps_model.specs.declared.texts.Section.{Section}
 use Rattle.ps_model.specs.declared.texts.Section.TheVariants.{Prelude, Objects, Legend, Rules, Wins}
 use Rattle.ps_facts.specs.declared.signs.Sign.{Sign}
 use Rattle.ps_facts.specs.declared.signs.Sign.TheVariants as sign
 use Rattle.ps_facts.specs.declared.slips.ShapeSlip.{ShapeSlip}
-use Rattle.ps_facts.specs.declared.slips.ShapeSlip.TheVariants.{LikeArrow, NoArrow, SecondArrow, Nested, Unclosed}
+use Rattle.ps_facts.specs.declared.slips.ShapeSlip.TheVariants.{LikeArrow, LikeBracket, NoArrow, SecondArrow, Nested, Unclosed}
 use Rattle.ps_facts.specs.declared.slips.ShapeSlip.TheVariants.{LoneClosing, NothingLeft, NothingRight, BarOutside}
 use Rattle.ps_facts.specs.declared.slips.ShapeSlip.TheVariants.{DirectionOutside, WordOutside}
 use Rattle.ps_facts.specs.declared.slips.RuleSlip.{RuleSlip}
-use Rattle.ps_facts.specs.declared.slips.RuleSlip.TheVariants.{Slashes, LoopWords, MessageAlone, LateMove, Chance}
+use Rattle.ps_facts.specs.declared.slips.RuleSlip.TheVariants.{LoopWords, MessageAlone, LateMove, Chance}
 use Rattle.ps_facts.specs.declared.slips.RuleSlip.TheVariants.{Rigid}
 use Rattle.ps_facts.specs.declared.slips.RuleSlip.TheVariants.{TwiceInCell}
+use Rattle.ps_facts.specs.declared.slips.PlaceSlip.{PlaceSlip}
+use Rattle.ps_facts.specs.declared.slips.PlaceSlip.TheVariants.{Ahead, CommandInCell, KeyWordInCell, Nameless}
+use Rattle.ps_facts.specs.declared.slips.PlaceSlip.TheVariants.{OutsideLeft, BeforeRow, NoCommand}
 use Rattle.ps_facts.specs.declared.slips.FormSlip.{FormSlip}
 use Rattle.ps_facts.specs.declared.slips.FormSlip.TheVariants.{NoEquals, NoJoiner, EqualsAsName, LegendEnds}
 use Rattle.ps_facts.specs.declared.slips.FormSlip.TheVariants.{NoQuantifier}
 use Rattle.ps_facts.specs.declared.slips.FormSlip.TheVariants.{NoOn, FurtherWord, WinEnds, SecondName, ThirdName}
-use Rattle.ps_facts.specs.declared.slips.FormSlip.TheVariants.{RealTime}
+use Rattle.ps_facts.specs.declared.slips.FormSlip.TheVariants.{NameAgain, RealTime}
 use Rattle.ps_facts.specs.declared.slips.Slip.{Slip}
-use Rattle.ps_facts.specs.declared.slips.Slip.TheVariants.{Shape, Rule, Form}
-use Rattle.ps_facts.specs.Places.{is_inside, comes_first, is_in_cell}
+use Rattle.ps_facts.specs.declared.slips.Slip.TheVariants.{Shape, Rule, Place, Form}
+use Rattle.ps_facts.specs.Places.{is_inside, comes_first, is_in_cell, parts_cells}
 use Rattle.ps_facts.specs.Signs.{is_sign, has_sign, is_edge, is_direction, is_movement, is_quantifier, is_by_chance}
+use Rattle.ps_facts.specs.Signs.{is_any, is_command}
 
 -- the section whose lines have the slip
 abbrev pub section_of : Slip → Section
 section_of (Shape slip) = Rules
 section_of (Rule slip) = Rules
+section_of (Place slip) = Rules
 section_of (Form NoEquals) = Legend
 section_of (Form NoJoiner) = Legend
 section_of (Form EqualsAsName) = Legend
@@ -37,6 +41,7 @@ section_of (Form FurtherWord) = Wins
 section_of (Form WinEnds) = Wins
 section_of (Form SecondName) = Objects
 section_of (Form ThirdName) = Objects
+section_of (Form NameAgain) = Objects
 section_of (Form RealTime) = Prelude
 
 -- there are so many words
@@ -54,6 +59,7 @@ lacks sign before word behind = not (has_sign sign before) && (not (is_sign sign
 -- what is wrong with brackets, bars and arrow
 abbrev pub has_shape_slip : ShapeSlip → List (List ℕ) → List ℕ → List (List ℕ) → Bool
 has_shape_slip LikeArrow before word behind = lacks sign.Arrow before word behind
+has_shape_slip LikeBracket before word behind = not (is_edge word)
 has_shape_slip NoArrow before word behind = lacks sign.Arrow before word behind && are_so_many 0 behind
 has_shape_slip SecondArrow before word behind = is_sign sign.Arrow word && has_sign sign.Arrow before
 has_shape_slip Nested before word behind = is_sign sign.Opening word && comes_first sign.Opening behind
@@ -74,13 +80,45 @@ is_loop_word word = is_sign sign.LoopStart word || is_sign sign.LoopEnd word
 
 -- what is wrong with other words of a rule
 abbrev pub has_rule_slip : RuleSlip → List (List ℕ) → List ℕ → List (List ℕ) → Bool
-has_rule_slip Slashes before word behind = starts_with nat_eq word (47 ∷ 47 ∷ [])
 has_rule_slip LoopWords before word behind = is_loop_word word && not (are_so_many 0 behind)
 has_rule_slip MessageAlone before word behind = is_sign sign.Message word && lacks sign.Arrow before word behind
 has_rule_slip LateMove before word behind = is_movement word && (has_sign sign.Late before && is_inside before)
 has_rule_slip Chance before word behind = is_by_chance word
 has_rule_slip Rigid before word behind = is_sign sign.Rigid word
 has_rule_slip TwiceInCell before word behind = is_in_cell word before && is_inside before
+
+-- among these words, which stand behind a movement word or `no`, no name comes first
+abbrev pub begins_nameless : List (List ℕ) → Bool
+begins_nameless [] = true
+begins_nameless (word ∷ words) =
+    parts_cells word || (is_movement word || (is_sign sign.Without word || is_sign sign.Ellipsis word))
+
+-- the word asks for a name right behind it
+abbrev pub asks_for_name : List ℕ → Bool
+asks_for_name word = is_movement word || is_sign sign.Without word
+
+-- the word is a key word that stands outside brackets alone, and no command
+abbrev pub is_outer : List ℕ → Bool
+is_outer word = is_sign sign.Late word || is_loop_word word
+
+-- a word stands outside brackets, and is none itself, nor the arrow
+abbrev pub is_outside : List (List ℕ) → List ℕ → Bool
+is_outside before word = not (is_edge word) && not (is_inside before)
+
+-- where the word stands
+abbrev pub has_place_slip : PlaceSlip → List (List ℕ) → List ℕ → List (List ℕ) → Bool
+has_place_slip Ahead before word behind =
+    not (has_sign sign.Opening before) && (not (is_edge word) && not (is_sign sign.Late word || is_direction word))
+has_place_slip CommandInCell before word behind = is_command word && is_inside before
+has_place_slip KeyWordInCell before word behind = is_outer word && is_inside before
+has_place_slip Nameless before word behind = asks_for_name word && (is_inside before && begins_nameless behind)
+has_place_slip OutsideLeft before word behind =
+    is_outside before word && (has_sign sign.Opening before && has_sign sign.Arrow behind)
+has_place_slip BeforeRow before word behind =
+    is_outside before word && (has_sign sign.Arrow before && has_sign sign.Opening behind)
+has_place_slip NoCommand before word behind =
+    is_outside before word && (has_sign sign.Arrow before && (not (has_sign sign.Opening behind) &&
+    not (is_command word)))
 
 -- what is wrong with a word of another section's line
 abbrev pub has_form_slip : FormSlip → List (List ℕ) → List ℕ → List (List ℕ) → Bool
@@ -95,10 +133,12 @@ has_form_slip FurtherWord before word behind = are_so_many 4 before
 has_form_slip WinEnds before word behind = are_so_many 0 behind && (are_so_many 0 before || are_so_many 2 before)
 has_form_slip SecondName before word behind = are_so_many 1 before
 has_form_slip ThirdName before word behind = are_so_many 2 before
+has_form_slip NameAgain before word behind = is_any before word
 has_form_slip RealTime before word behind = are_so_many 0 before && is_sign sign.RealTime word
 
 -- what is wrong with a word, with these words before it and behind it in its line
 abbrev pub has_slip : Slip → List (List ℕ) → List ℕ → List (List ℕ) → Bool
 has_slip (Shape slip) before word behind = has_shape_slip slip before word behind
 has_slip (Rule slip) before word behind = has_rule_slip slip before word behind
+has_slip (Place slip) before word behind = has_place_slip slip before word behind
 has_slip (Form slip) before word behind = has_form_slip slip before word behind

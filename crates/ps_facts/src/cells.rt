@@ -3,7 +3,7 @@
 ghost use Rattle.std.specs.Prelude.{◌≡◌, ◌<◌, ◌≤◌, ◌+◌, ◌^◌, ◌++◌, IfOk, OnOk, length, map, drop, if◌then◌else◌};
 ghost use Rattle.ps_text.specs.WordViews.{text_of};
 ghost use Rattle.ps_facts.specs.declared.signs.Sign.TheVariants.{Bar};
-ghost use Rattle.ps_facts.specs.Counts.{cells_from, cell_counts};
+ghost use Rattle.ps_facts.specs.Counts.{begun_behind, cells_begun, cells_from, cell_counts};
 ghost use Rattle.ps_facts.specs.Signs.{is_sign};
 
 use crate::signs::{Sign, is_edge, is_sign};
@@ -60,4 +60,27 @@ pub fn cell_counts(alloc: Global, words: &[Word<'_>]) -> Result<Vec<usize>, Memo
         push_cells(words, at, &mut counts)?;
     }
     Ok(counts)
+}
+
+/// One more cell behind a word that begins one: a `[` or a bar.
+fn begun_behind(count: usize, word: &str) -> usize
+    requires { count < 2 ^ 62 }
+    ensures count { result ≡ begun_behind count word.now }
+    ensures most { result ≤ count + 1 }
+{
+    if is_sign(Sign::Opening, word) || is_sign(Sign::Bar, word) {
+        return count + 1;
+    }
+    count
+}
+
+/// How many cells begin among words.
+pub fn cells_begun(words: &[Word<'_>]) -> usize
+    ensures { result ≡ cells_begun (map text_of words.now) }
+{
+    let mut count: usize = 0;
+    for word in words {
+        count = begun_behind(count, word.text());
+    }
+    count
 }

@@ -7,6 +7,7 @@ ghost use Rattle.ps_facts.specs.Slips.{has_slip};
 
 use crate::form_slips::has_form_slip;
 use crate::line_words::MOST_WORDS;
+use crate::place_slips::has_place_slip;
 use crate::rule_slips::has_rule_slip;
 use crate::shape_slips::has_shape_slip;
 use crate::slips::Slip;
@@ -19,6 +20,7 @@ fn has_slip(slip: Slip, before: &[Word<'_>], word: &str, behind: &[Word<'_>]) ->
     match slip {
         Slip::Shape(slip) => has_shape_slip(slip, before, word, behind),
         Slip::Rule(slip) => has_rule_slip(slip, before, word, behind),
+        Slip::Place(slip) => has_place_slip(slip, before, word, behind),
         Slip::Form(slip) => has_form_slip(slip, before, word, behind),
     }
 }

@@ -1,10 +1,10 @@
-//! Words of COLLISIONLAYERS.
+//! Lines of COLLISIONLAYERS: their words, and which of them is which layer.
 
-ghost use Rattle.std.specs.Prelude.{◌≡◌, IfOk};
+ghost use Rattle.std.specs.Prelude.{◌≡◌, Some, IfOk, IfSome, slice_get};
 ghost use Rattle.std.specs.List.{list_any};
 ghost use Rattle.ps_model.specs.declared.texts.Section.TheVariants.{Layers};
 ghost use Rattle.ps_model.specs.text.LineNumbers.{HasLine, line_at};
-ghost use Rattle.ps_facts.specs.LayerWords.{has_word, is_in_layers};
+ghost use Rattle.ps_facts.specs.LayerWords.{IsInLayer, IsLayerLine, has_word, is_in_layers, is_layer};
 ghost use Rattle.ps_facts.specs.NamesShown.{own_line};
 
 use crate::names::is_own;
@@ -36,4 +36,41 @@ pub fn is_in_layers(alloc: Global, source: &Source, name: &str) -> Result<bool, 
         }
     }
     Ok(false)
+}
+
+/// A line of COLLISIONLAYERS that has the word: the last one, as an object belongs to the last that names it.
+pub fn layer_line_with(alloc: Global, source: &Source, name: &str) -> Result<Option<u32>, Memory>
+    ensures { IfOk result (λ found. IfSome found (IsInLayer source.now name.now)) }
+{
+    let mut found = None;
+    for line in 1..source.lines() + 1 {
+        if has_word(alloc, source, line, name)? {
+            found = Some(line);
+        }
+    }
+    Ok(found)
+}
+
+/// Whether a line is a layer: one of COLLISIONLAYERS that isn't blank.
+fn is_layer(source: &Source, line: u32) -> bool
+    requires { HasLine source.now line }
+    ensures { result ≡ is_layer (line_at source.now line) }
+{
+    is_own(source, line, Section::Layers) && !source.is_blank_line(line)
+}
+
+/// The line of the layer of a number, from 0.
+pub fn line_of_layer(source: &Source, layer: u32) -> Option<u32>
+    ensures { IfSome result (IsLayerLine source.now layer) }
+{
+    let mut above: u32 = 0;
+    for line in 1..source.lines() + 1 {
+        if is_layer(source, line) {
+            if above == layer {
+                return Some(line);
+            }
+            above += 1;
+        }
+    }
+    None
 }

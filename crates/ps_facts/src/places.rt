@@ -3,12 +3,13 @@
 ghost use Rattle.std.specs.Prelude.{◌≡◌, ◌||◌, map};
 ghost use Rattle.ps_text.specs.WordViews.{text_of};
 ghost use Rattle.ps_facts.specs.Places.{inside_behind, is_inside, comes_first, seen_behind, is_in_cell, parts_cells};
+ghost use Rattle.ps_facts.specs.Places.{are_parted, is_barred};
 
 use crate::signs::{Sign, is_edge, is_sign};
 use ps_text::{Word, same_name};
 
 /// Whether brackets are open behind a word, where they are or aren't before it.
-fn inside_behind(inside: bool, word: &str) -> bool
+pub fn inside_behind(inside: bool, word: &str) -> bool
     ensures { result ≡ inside_behind inside word.now }
 {
     if is_edge(word) {
@@ -41,7 +42,7 @@ pub fn comes_first(sign: Sign, words: &[Word<'_>]) -> bool
 }
 
 /// Whether a word parts cells: a bracket, the arrow or a bar.
-fn parts_cells(word: &str) -> bool
+pub fn parts_cells(word: &str) -> bool
     ensures { result ≡ parts_cells word.now }
 {
     is_edge(word) || is_sign(Sign::Bar, word)
@@ -66,4 +67,27 @@ pub fn is_in_cell(name: &str, before: &[Word<'_>]) -> bool
         seen = seen_behind(name, seen, word.text());
     }
     seen
+}
+
+/// Whether a word among these parts cells.
+pub fn are_parted(words: &[Word<'_>]) -> bool
+    ensures { result ≡ are_parted (map text_of words.now) }
+{
+    for word in words {
+        if parts_cells(word.text()) {
+            return true;
+        }
+    }
+    false
+}
+
+/// Whether `no` stands right before what follows these words.
+pub fn is_barred(before: &[Word<'_>]) -> bool
+    ensures { result ≡ is_barred (map text_of before.now) }
+{
+    let mut barred = false;
+    for word in before {
+        barred = is_sign(Sign::Without, word.text());
+    }
+    barred
 }

@@ -11,7 +11,7 @@ use crate::slips::RuleSlip;
 use ps_text::Word;
 
 /// Whether a word begins or ends a loop.
-fn is_loop_word(word: &str) -> bool
+pub fn is_loop_word(word: &str) -> bool
     ensures { result ≡ is_loop_word word.now }
 {
     is_sign(Sign::LoopStart, word) || is_sign(Sign::LoopEnd, word)
@@ -30,7 +30,6 @@ pub fn has_rule_slip(slip: RuleSlip, before: &[Word<'_>], word: &str, behind: &[
     ensures { result ≡ true → has_rule_slip slip (map text_of before.now) word.now (map text_of behind.now) ≡ true }
 {
     match slip {
-        RuleSlip::Slashes => word.as_bytes().starts_with(b"//"),
         RuleSlip::LoopWords => is_loop_word(word) && !behind.is_empty(),
         RuleSlip::MessageAlone => is_sign(Sign::Message, word)
             && lacks(Sign::Arrow, before, word, behind),

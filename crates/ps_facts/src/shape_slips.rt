@@ -4,7 +4,7 @@ ghost use Rattle.std.specs.Prelude.{◌≡◌, true, map};
 ghost use Rattle.ps_text.specs.WordViews.{text_of};
 ghost use Rattle.ps_facts.specs.Slips.{lacks, has_shape_slip};
 
-use crate::alike::{is_like_arrow, stands_in_cells};
+use crate::alike::{is_like_arrow, is_like_bracket, stands_in_cells};
 use crate::places::{comes_first, is_inside};
 use crate::signs::{Sign, has_sign, is_direction, is_edge, is_sign};
 use crate::slips::ShapeSlip;
@@ -40,6 +40,7 @@ pub fn has_shape_slip(slip: ShapeSlip, before: &[Word<'_>], word: &str, behind: 
 {
     match slip {
         ShapeSlip::LikeArrow => is_like_arrow(word) && lacks(Sign::Arrow, before, word, behind),
+        ShapeSlip::LikeBracket => is_like_bracket(word) && !is_edge(word),
         ShapeSlip::NoArrow => behind.is_empty() && lacks(Sign::Arrow, before, word, behind),
         ShapeSlip::BarOutside => is_sign(Sign::Bar, word) && !is_inside(before),
         ShapeSlip::DirectionOutside => is_direction(word)

@@ -4,7 +4,7 @@ ghost use Rattle.std.specs.Prelude.{◌≡◌, ◌<◌, true, IfSome, length, ma
 ghost use Rattle.std.specs.List.{list_any};
 ghost use Rattle.ps_text.specs.WordViews.{text_of};
 ghost use Rattle.ps_facts.specs.Signs.{sign_text, is_sign, has_sign, is_direction, is_movement, is_quantifier};
-ghost use Rattle.ps_facts.specs.Signs.{is_by_chance, is_edge, is_any, is_same};
+ghost use Rattle.ps_facts.specs.Signs.{is_by_chance, is_command, is_edge, is_any, is_same};
 
 use ps_text::{Word, same_name};
 
@@ -41,6 +41,8 @@ pub enum Sign {
     On,
     /// `realtime_interval`
     RealTime,
+    /// `...`
+    Ellipsis,
 }
 
 impl Sign {
@@ -64,6 +66,7 @@ impl Sign {
             Sign::Or => "or",
             Sign::On => "on",
             Sign::RealTime => "realtime_interval",
+            Sign::Ellipsis => "...",
         }
     }
 }
@@ -161,6 +164,27 @@ const QUANTIFIERS: [&str; 4] = ["no", "some", "any", "all"];
 /// The words that ask for chance.
 const BY_CHANCE: [&str; 2] = ["random", "randomdir"];
 
+/// The commands, and `message`, which begins one.
+const COMMANDS: [&str; 17] = [
+    "cancel",
+    "restart",
+    "again",
+    "checkpoint",
+    "win",
+    "message",
+    "sfx0",
+    "sfx1",
+    "sfx2",
+    "sfx3",
+    "sfx4",
+    "sfx5",
+    "sfx6",
+    "sfx7",
+    "sfx8",
+    "sfx9",
+    "sfx10",
+];
+
 /// Whether a word gives a rule its directions.
 pub fn is_direction(word: &str) -> bool
     ensures { result ≡ is_direction word.now }
@@ -187,4 +211,11 @@ pub fn is_by_chance(word: &str) -> bool
     ensures { result ≡ is_by_chance word.now }
 {
     is_one_of(&BY_CHANCE, word)
+}
+
+/// Whether a word is a command.
+pub fn is_command(word: &str) -> bool
+    ensures { result ≡ is_command word.now }
+{
+    is_one_of(&COMMANDS, word)
 }

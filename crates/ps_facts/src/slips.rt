@@ -10,6 +10,8 @@ use ps_model::Section;
 pub enum ShapeSlip {
     /// The line has no `->`; the word is written much like one.
     LikeArrow,
+    /// The word is written in place of a bracket.
+    LikeBracket,
     /// The line has no `->`; the word is its last.
     NoArrow,
     /// A `->` behind another one.
@@ -35,8 +37,6 @@ pub enum ShapeSlip {
 /// What may be wrong with other words of a rule.
 #[derive(Clone, Copy)]
 pub enum RuleSlip {
-    /// The word begins with `//`.
-    Slashes,
     /// `startloop` or `endloop` with words behind it.
     LoopWords,
     /// `message` in a line without `->`.
@@ -49,6 +49,25 @@ pub enum RuleSlip {
     Rigid,
     /// A word that stands in its cell before too.
     TwiceInCell,
+}
+
+/// Where a word of a rule may stand that can't stand there.
+#[derive(Clone, Copy)]
+pub enum PlaceSlip {
+    /// Before the first `[`, a word that is neither `late` nor a direction.
+    Ahead,
+    /// A command in brackets.
+    CommandInCell,
+    /// `late`, `startloop` or `endloop` in brackets.
+    KeyWordInCell,
+    /// In brackets, a movement word or `no` without a name right behind it.
+    Nameless,
+    /// On the left, outside brackets behind the first `[`.
+    OutsideLeft,
+    /// On the right, outside brackets before a `[`.
+    BeforeRow,
+    /// On the right, behind all brackets, a word that is no command.
+    NoCommand,
 }
 
 /// What may be wrong with a word of another section's line.
@@ -74,6 +93,8 @@ pub enum FormSlip {
     SecondName,
     /// The third word of an object's name line.
     ThirdName,
+    /// A name that the same name line has before.
+    NameAgain,
     /// `realtime_interval` begins a line of the prelude.
     RealTime,
 }
@@ -83,6 +104,7 @@ pub enum FormSlip {
 pub enum Slip {
     Shape(ShapeSlip),
     Rule(RuleSlip),
+    Place(PlaceSlip),
     Form(FormSlip),
 }
 
@@ -91,7 +113,7 @@ pub fn section_of(slip: Slip) -> Section
     ensures { result ≡ section_of slip }
 {
     match slip {
-        Slip::Shape(_) | Slip::Rule(_) => Section::Rules,
+        Slip::Shape(_) | Slip::Rule(_) | Slip::Place(_) => Section::Rules,
         Slip::Form(form) => match form {
             FormSlip::NoEquals
             | FormSlip::NoJoiner
@@ -99,7 +121,7 @@ pub fn section_of(slip: Slip) -> Section
             | FormSlip::LegendEnds => Section::Legend,
             FormSlip::NoQuantifier | FormSlip::NoOn | FormSlip::FurtherWord | FormSlip::WinEnds =>
                 Section::Wins,
-            FormSlip::SecondName | FormSlip::ThirdName => Section::Objects,
+            FormSlip::SecondName | FormSlip::ThirdName | FormSlip::NameAgain => Section::Objects,
             FormSlip::RealTime => Section::Prelude,
         },
     }

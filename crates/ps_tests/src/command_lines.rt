@@ -62,7 +62,7 @@ const LINES: [(&[&str], Asked<'static>); 13] = [
 ];
 
 /// The words of command lines that aren't right.
-const BAD_LINES: [&[&str]; 18] = [
+const BAD_LINES: [&[&str]; 21] = [
     &["ps_play", "--check"],
     &["ps_play", "--keys", "a.keys"],
     &["ps_play", "a.game", "--keys"],
@@ -81,6 +81,9 @@ const BAD_LINES: [&[&str]; 18] = [
     &["ps_play", "a.game", "--view", "24x15"],
     &["ps_play", "a.game", "--view", "24x80", "--view", "24x80"],
     &["ps_play", "--explain", "RU7", "--view", "24x80"],
+    &["ps_play", "a.game", "--sizes", "small.size"],
+    &["ps_play", "a.game", "--view", "24x80", "--sizes"],
+    &["ps_play", "--explain", "RU7", "--sizes", "small.size"],
 ];
 
 /// The words of command lines on files that hold no game, and the fault of each.
@@ -106,6 +109,12 @@ const QUIT: &str = "= T\n# level 1\n#P*O#\n\n* quit\n";
 const VIEWED: &str =
     "\x1b[?25l\x1b[2J\x1b[1;1H\x1b[2K#P*O#\x1b[2;1H\x1b[2K= T\x1b[3;1H\x1b[2K# level 1\
     \x1b[4;1H\x1b[2Kw a s d move, x act, z undo, r restart, q quit\
+    \x1b[1;1H\x1b[2K#.P@#\x1b[5;1H\x1b[2K* the end\x1b[5;1H\r\n\x1b[J\x1b[?25h";
+
+/// What a terminal of 10 rows and 20 columns is handed for the same.
+const VIEWED_SMALL: &str =
+    "\x1b[?25l\x1b[2J\x1b[1;1H\x1b[2K#P*O#\x1b[2;1H\x1b[2K= T\x1b[3;1H\x1b[2K# level 1\
+    \x1b[4;1H\x1b[2Kw a s d move, x act…\
     \x1b[1;1H\x1b[2K#.P@#\x1b[5;1H\x1b[2K* the end\x1b[5;1H\r\n\x1b[J\x1b[?25h";
 
 /// What is shown of the game where it is checked.
@@ -277,29 +286,81 @@ fn checks_many_files(rt: HostRuntime) {
 }
 
 /// The words of command lines that name standard input as the text of a game, what is shown where that is the game of
-/// the other tests, and the files that are opened.
-const INPUT_LINES: [(&[&str], &str, &str); 4] = [
-    (&["ps_play", "--check", "-"], CHECKED, ""),
+/// the other tests, the files that are opened, and how often standard input is asked for keys behind the text.
+const INPUT_LINES: [(&[&str], &str, &str, usize); 4] = [
+    (&["ps_play", "--check", "-"], CHECKED, "", 0),
     (
         &["ps_play", "-"],
         "= T\n# level 1\n#P*O#\n\n* end of keys\n",
         "",
+        1,
     ),
-    (&["ps_play", "-", "--keys", "a.keys"], QUIT, "a.keys\n"),
+    (&["ps_play", "-", "--keys", "a.keys"], QUIT, "a.keys\n", 0),
     (
         &["ps_play", "--check", "a.game", "-"],
         "a.game: ok: objects 9, layers 4, rules 1, levels 1\n-: ok: objects 9, layers 4, rules 1, levels 1\n",
         "a.game\n",
+        0,
     ),
 ];
 
-/// Of a game that stands on standard input all of it is read before keys are.
+/// Of a game that stands on standard input all of it is read before keys are: byte by byte, and once more for its end.
 #[test]
 fn reads_a_game_from_standard_input(rt: HostRuntime) {
-    for (words, shown, opened) in INPUT_LINES {
+    for (words, shown, opened, keys) in INPUT_LINES {
         let outcome = obey_with(&rt, words, PUSHING);
         assert_eq!(rt; outcome.kept.opened.as_str(), opened);
+        assert_eq!(rt; outcome.reads as usize, PUSHING.len() + 1 + keys);
         expect_told(&rt, &outcome, 0, shown, "");
+    }
+}
+
+/// The words of command lines with a file that tells the terminal's size, the files that are opened first, and what the
+/// terminal is handed: where the file isn't there, or has no size, it keeps the one that it was given.
+const SIZED_LINES: [(&[&str], &str, &str); 4] = [
+    (
+        &[
+            "ps_play",
+            "a.game",
+            "--view",
+            "24x80",
+            "--sizes",
+            "small.size",
+        ],
+        "a.game\nsmall.size\n",
+        VIEWED_SMALL,
+    ),
+    (
+        &["ps_play", "--sizes=small.size", "--view=24x80", "long.game"],
+        "long.game\nsmall.size\n",
+        VIEWED_SMALL,
+    ),
+    (
+        &[
+            "ps_play",
+            "a.game",
+            "--view",
+            "24x80",
+            "--sizes",
+            "lost.size",
+        ],
+        "a.game\nlost.size\n",
+        VIEWED,
+    ),
+    (
+        &["ps_play", "a.game", "--view", "24x80", "--sizes", "a.keys"],
+        "a.game\na.keys\n",
+        VIEWED,
+    ),
+];
+
+/// A view has the size that a file tells.
+#[test]
+fn follows_the_size_that_a_file_tells(rt: HostRuntime) {
+    for (words, opened, handed) in SIZED_LINES {
+        let outcome = obey(&rt, words);
+        assert!(rt; outcome.kept.opened.as_str().starts_with(opened));
+        expect_told(&rt, &outcome, 0, handed, "");
     }
 }
 

@@ -16,9 +16,13 @@ use std::rt::{Env, Files};
 /// The keys of each file of keys.
 const KEYS: &[u8] = b"q";
 
-/// A machine with the words of a command line. Each file whose name ends with `.keys` has the same keys, `cut.game` a
-/// text that ends before its levels, and each other one the game [`PUSHING`], with line feeds before it in `long.game`
-/// and `too-long.game`: so many that it has as many bytes as a text may have, and one more. There is no `lost.game`.
+/// The size of a terminal in each file of sizes.
+const SIZE: &[u8] = b"10x20\n";
+
+/// A machine with the words of a command line. Each file whose name ends with `.keys` has the same keys, and one with
+/// `.size` the same size; `cut.game` has a text that ends before its levels, and each other one the game [`PUSHING`],
+/// with line feeds before it in `long.game` and `too-long.game`: so many that it has as many bytes as a text may have,
+/// and one more. There is neither a `lost.game` nor a `lost.size`.
 #[derive(Drop)]
 pub struct Machine<'w> {
     alloc: Global,
@@ -166,7 +170,7 @@ impl Read for OpenedFile {
 
 /// The file of that name, if there is one.
 fn opened(name: &str) -> io::Result<OpenedFile> {
-    if name == "lost.game" {
+    if name.starts_with("lost.") {
         return Err(io::Error::from(ErrorKind::NotFound));
     }
     Ok(file_of(name))
@@ -180,6 +184,7 @@ fn file_of(name: &str) -> OpenedFile {
         "long.game" => (room, PUSHING),
         "too-long.game" => (room.saturating_add(1), PUSHING),
         _ if name.ends_with(".keys") => (0, KEYS),
+        _ if name.ends_with(".size") => (0, SIZE),
         _ => (0, PUSHING),
     };
     OpenedFile { feeds, rest }

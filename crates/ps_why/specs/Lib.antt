@@ -1,3 +1,4 @@
+pub mod GameWording
 pub mod ObjectWording
 pub mod RuleWording
 pub mod SectionNames

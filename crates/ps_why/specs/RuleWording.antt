@@ -1,19 +1,28 @@
 -- What is told of a rule, in words.
-use Rattle.std.specs.Prelude.{ℕ, List, ◌++◌, codes}
+use Rattle.std.specs.Prelude.{ℕ, nat_lt, if◌then◌else◌, List, ◌++◌, codes}
 use Rattle.std.specs.Fmt.{decimal}
-use Rattle.ps_model.specs.declared.texts.Section.{Section}
 use Rattle.ps_causes.specs.declared.causes.Further.{Further}
 use Rattle.ps_causes.specs.declared.causes.Part.{Part}
 use Rattle.ps_causes.specs.declared.causes.Part.TheVariants.{FromArrow, WithoutArrow}
 use Rattle.ps_causes.specs.declared.causes.RuleCause.{RuleCause}
 use Rattle.ps_causes.specs.declared.causes.RuleCause.TheVariants.{Pair, Several, Unbound, Rows, Cells, GoesOn}
-use Rattle.ps_why.specs.SectionNames.{section_name}
+use Rattle.ps_causes.specs.declared.causes.Could.{Could}
+use Rattle.ps_causes.specs.declared.causes.Could.TheVariants.{Nothing, Either, Other}
+use Rattle.ps_causes.specs.declared.causes.Shared.{Shared}
+use Rattle.ps_causes.specs.declared.causes.Shared.TheVariants.{Object, Property, Layer}
+use Rattle.ps_causes.specs.declared.causes.Spot.{Spot}
 
--- that a line has two names which stand in one cell
-abbrev pub pair_words : List ℕ → List ℕ → Section → ℕ → List ℕ
-pair_words word other section shared =
-    codes "`" ++ (other ++ (codes "` and `" ++ (word ++ (codes "` stand in one cell, and line " ++ (decimal shared ++
-    (codes " of " ++ (section_name section ++ codes " has both.")))))))
+-- what two names of one cell share
+abbrev pub shared_words : Shared → List ℕ
+shared_words (Object name) =
+    codes "both name `" ++ (name.name.now ++ (codes "` of line " ++ (decimal name.line ++ codes ".")))
+shared_words (Property line) = codes "are one property, that of line " ++ (decimal line ++ codes ".")
+shared_words (Layer line) = codes "line " ++ (decimal line ++ codes " of COLLISIONLAYERS is a layer of both.")
+
+-- that two names stand in one cell, and what they share
+abbrev pub pair_words : List ℕ → List ℕ → Shared → List ℕ
+pair_words word other shared =
+    codes "`" ++ (other ++ (codes "` and `" ++ (word ++ (codes "` stand in one cell, and " ++ shared_words shared))))
 
 -- that a word stands for several objects at once
 abbrev pub several_words : List ℕ → ℕ → List ℕ
@@ -21,11 +30,32 @@ several_words word line =
     codes "Line " ++ (decimal line ++ (codes " makes `" ++ (word ++
     codes "` several objects at once, and `no` can't stand before such a name.")))
 
+-- that of so many words two were told
+abbrev pub further_words : ℕ → List ℕ
+further_words times = if nat_lt 2 times then codes " among them." else codes "."
+
+-- a word, and its cell
+abbrev pub spot_words : Spot → List ℕ
+spot_words spot = codes "`" ++ (spot.word.text.now ++ (codes "` in cell " ++ decimal spot.cell))
+
+-- another property of the left, and its cell
+abbrev pub other_words : List ℕ → ℕ → List ℕ
+other_words name cell =
+    codes ". It has another property, `" ++ (name ++ (codes "` in cell " ++ (decimal cell ++ codes ".")))
+
+-- what of the left could be meant, where so many of it are like the word
+abbrev pub could_words : ℕ → Could → List ℕ
+could_words times Nothing = codes "."
+could_words times (Either first second) =
+    codes ", " ++ (spot_words first ++ (codes " and " ++ (spot_words second ++ further_words times)))
+could_words times (Other spot) = other_words spot.word.text.now spot.cell
+
 -- that nothing decides a word of the right
-abbrev pub unbound_words : List ℕ → ℕ → List ℕ
-unbound_words word times =
-    codes "`" ++ (word ++ (codes "` of the right is that of the same cell on the left, or else the only one there: "
-    ++ (codes "the left has " ++ (decimal times ++ codes "."))))
+abbrev pub unbound_words : List ℕ → ℕ → Could → List ℕ
+unbound_words word times could =
+    codes "`" ++ (word ++ (
+    codes "` of the right is that of the same cell on the left, or else the only one there: the left has "
+    ++ (decimal times ++ could_words times could)))
 
 -- how many rows stand on the two sides
 abbrev pub rows_words : ℕ → ℕ → List ℕ
@@ -51,9 +81,9 @@ going_on_words further =
 
 -- what is told of a rule
 abbrev pub rule_sentence : RuleCause → List ℕ
-rule_sentence (Pair word other section shared) = pair_words word.text.now other.now section shared
-rule_sentence (Several word first) = several_words word.text.now first.line
-rule_sentence (Unbound word times) = unbound_words word.text.now times
+rule_sentence (Pair word other shared) = pair_words word.text.now other.text.now shared
+rule_sentence (Several word declared) = several_words word.text.now declared
+rule_sentence (Unbound word times could) = unbound_words word.text.now times could
 rule_sentence (Rows arrow left right) = rows_words left right
 rule_sentence (Cells arrow row left right) = cells_words row left right
 rule_sentence (GoesOn word further) = going_on_words further

@@ -1,24 +1,28 @@
 -- What is told of a word that has a slip: what stands before it, the word, and what stands behind it.
 use Rattle.std.specs.Prelude.{ℕ, List, ◌++◌, codes}
 use Rattle.ps_facts.specs.declared.slips.ShapeSlip.{ShapeSlip}
-use Rattle.ps_facts.specs.declared.slips.ShapeSlip.TheVariants.{LikeArrow, NoArrow, SecondArrow, Nested, Unclosed}
+use Rattle.ps_facts.specs.declared.slips.ShapeSlip.TheVariants.{LikeArrow, LikeBracket, NoArrow, SecondArrow, Nested, Unclosed}
 use Rattle.ps_facts.specs.declared.slips.ShapeSlip.TheVariants.{LoneClosing, NothingLeft, NothingRight, BarOutside}
 use Rattle.ps_facts.specs.declared.slips.ShapeSlip.TheVariants.{DirectionOutside, WordOutside}
 use Rattle.ps_facts.specs.declared.slips.RuleSlip.{RuleSlip}
-use Rattle.ps_facts.specs.declared.slips.RuleSlip.TheVariants.{Slashes, LoopWords, MessageAlone, LateMove, Chance}
+use Rattle.ps_facts.specs.declared.slips.RuleSlip.TheVariants.{LoopWords, MessageAlone, LateMove, Chance}
 use Rattle.ps_facts.specs.declared.slips.RuleSlip.TheVariants.{Rigid}
 use Rattle.ps_facts.specs.declared.slips.RuleSlip.TheVariants.{TwiceInCell}
+use Rattle.ps_facts.specs.declared.slips.PlaceSlip.{PlaceSlip}
+use Rattle.ps_facts.specs.declared.slips.PlaceSlip.TheVariants.{Ahead, CommandInCell, KeyWordInCell, Nameless}
+use Rattle.ps_facts.specs.declared.slips.PlaceSlip.TheVariants.{OutsideLeft, BeforeRow, NoCommand}
 use Rattle.ps_facts.specs.declared.slips.FormSlip.{FormSlip}
 use Rattle.ps_facts.specs.declared.slips.FormSlip.TheVariants.{NoEquals, NoJoiner, EqualsAsName, LegendEnds}
 use Rattle.ps_facts.specs.declared.slips.FormSlip.TheVariants.{NoQuantifier}
 use Rattle.ps_facts.specs.declared.slips.FormSlip.TheVariants.{NoOn, FurtherWord, WinEnds, SecondName, ThirdName}
-use Rattle.ps_facts.specs.declared.slips.FormSlip.TheVariants.{RealTime}
+use Rattle.ps_facts.specs.declared.slips.FormSlip.TheVariants.{NameAgain, RealTime}
 use Rattle.ps_facts.specs.declared.slips.Slip.{Slip}
-use Rattle.ps_facts.specs.declared.slips.Slip.TheVariants.{Shape, Rule, Form}
+use Rattle.ps_facts.specs.declared.slips.Slip.TheVariants.{Shape, Rule, Place, Form}
 
 -- what stands before a word with a wrong bracket, bar or arrow
 abbrev pub shape_front : ShapeSlip → List ℕ
 shape_front LikeArrow = codes "No `->` stands in the line: `"
+shape_front LikeBracket = codes "The brackets of a rule are `[` and `]`: `"
 shape_front NoArrow = codes "No `->` stands in the line, which ends behind `"
 shape_front SecondArrow = codes "`"
 shape_front Nested = codes "Another `[` stands behind this `"
@@ -33,6 +37,7 @@ shape_front WordOutside = codes "`"
 -- what stands behind it
 abbrev pub shape_back : ShapeSlip → List ℕ
 shape_back LikeArrow = codes "` isn't one."
+shape_back LikeBracket = codes "` is neither."
 shape_back NoArrow = codes "`: a rule has one, and is written in one line."
 shape_back SecondArrow = codes "` stands a second time."
 shape_back Nested = codes "` before a `]`: brackets don't nest."
@@ -46,7 +51,6 @@ shape_back WordOutside = codes "` stands outside brackets."
 
 -- what stands before another word of a rule
 abbrev pub rule_front : RuleSlip → List ℕ
-rule_front Slashes = codes "A comment stands between `(` and `)`, and doesn't begin as `"
 rule_front LoopWords = codes "`"
 rule_front MessageAlone = codes "`"
 rule_front LateMove = codes "`"
@@ -56,7 +60,6 @@ rule_front TwiceInCell = codes "`"
 
 -- what stands behind it
 abbrev pub rule_back : RuleSlip → List ℕ
-rule_back Slashes = codes "`."
 rule_back LoopWords = codes "` has to stand alone in its line."
 rule_back MessageAlone = codes "` stands in a line without `->`: a rule has its message behind that."
 rule_back LateMove = codes "` stands in the brackets of a late rule: behind the movement nothing moves."
@@ -65,6 +68,26 @@ rule_back Chance =
 rule_back Rigid =
     codes "` is left out here: a late rule with `cancel` can take back a turn in which only a part has moved."
 rule_back TwiceInCell = codes "` stands in this cell a second time."
+
+-- what stands before a word that can't stand where it stands
+abbrev pub place_front : PlaceSlip → List ℕ
+place_front Ahead = codes "`"
+place_front CommandInCell = codes "`"
+place_front KeyWordInCell = codes "`"
+place_front Nameless = codes "No name stands right behind `"
+place_front OutsideLeft = codes "`"
+place_front BeforeRow = codes "`"
+place_front NoCommand = codes "`"
+
+-- what stands behind it
+abbrev pub place_back : PlaceSlip → List ℕ
+place_back Ahead = codes "` stands before the first `[`, where only `late` and directions do, and `+` first of all."
+place_back CommandInCell = codes "` stands in brackets: a command stands behind the last `]` of the right."
+place_back KeyWordInCell = codes "` stands in brackets, where only names, movement words, `no` and `...` do."
+place_back Nameless = codes "`."
+place_back OutsideLeft = codes "` stands outside brackets: on the left of `->` nothing does so behind the first `[`."
+place_back BeforeRow = codes "` stands before a `[` of the right: commands stand behind its last `]`."
+place_back NoCommand = codes "` is no command: behind the brackets of the right nothing else stands."
 
 -- what stands before a word of another section
 abbrev pub form_front : FormSlip → List ℕ
@@ -79,6 +102,7 @@ form_front WinEnds =
     codes "A win condition is `No X`, `Some X`, `Any X` or `All X`, or that with `on Y`, and doesn't end behind `"
 form_front SecondName = codes "An object's line has its name, and perhaps a second one of one character: `"
 form_front ThirdName = codes "An object's line has its name, and perhaps a second one of one character: `"
+form_front NameAgain = codes "`"
 form_front RealTime = codes "`"
 
 -- what stands behind it
@@ -93,6 +117,7 @@ form_back FurtherWord = codes "` is one word too many."
 form_back WinEnds = codes "`."
 form_back SecondName = codes "` is its second word."
 form_back ThirdName = codes "` is its third word."
+form_back NameAgain = codes "` is a name of this line already: upper and lower case are one."
 form_back RealTime =
     codes "` is left out here, where all that happens follows a key: a rule with `again` goes on by itself."
 
@@ -100,12 +125,14 @@ form_back RealTime =
 abbrev pub slip_front : Slip → List ℕ
 slip_front (Shape slip) = shape_front slip
 slip_front (Rule slip) = rule_front slip
+slip_front (Place slip) = place_front slip
 slip_front (Form slip) = form_front slip
 
 -- what stands behind it
 abbrev pub slip_back : Slip → List ℕ
 slip_back (Shape slip) = shape_back slip
 slip_back (Rule slip) = rule_back slip
+slip_back (Place slip) = place_back slip
 slip_back (Form slip) = form_back slip
 
 -- what is told of a word that has a slip

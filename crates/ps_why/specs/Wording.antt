@@ -11,7 +11,10 @@ use Rattle.ps_causes.specs.declared.causes.Hint.TheVariants.{Nothing, Near, Stra
 use Rattle.ps_causes.specs.declared.causes.Cause.{Cause}
 use Rattle.ps_causes.specs.declared.causes.Cause.TheVariants.{Untold, Undeclared, Meaningless, Unlayered, UnknownGlyph}
 use Rattle.ps_causes.specs.declared.causes.Cause.TheVariants.{BrokenRow, LateHeader, MissingSection, Twice, Slip}
-use Rattle.ps_causes.specs.declared.causes.Cause.TheVariants.{InRule, InObject, BrokenByte}
+use Rattle.ps_causes.specs.declared.causes.Cause.TheVariants.{Slashes, LikeHeader}
+use Rattle.ps_causes.specs.declared.causes.Cause.TheVariants.{InRule, InLoop, InWhole, InObject, OnlyCommas}
+use Rattle.ps_causes.specs.declared.causes.Cause.TheVariants.{BrokenByte}
+use Rattle.ps_why.specs.GameWording.{loop_sentence, whole_sentence}
 use Rattle.ps_why.specs.ObjectWording.{object_sentence}
 use Rattle.ps_why.specs.RuleWording.{rule_sentence}
 use Rattle.ps_why.specs.SectionNames.{section_name}
@@ -124,6 +127,19 @@ broken_byte_words place byte =
     codes "Byte " ++ (decimal place ++ (codes " of the text, " ++ (digits 16 true byte ++
     codes " in hexadecimal, is in no whole character of UTF-8.")))
 
+-- that a comment begins otherwise
+abbrev pub slashes_words : List ℕ → List ℕ
+slashes_words word = codes "A comment stands between `(` and `)`, and doesn't begin as `" ++ (word ++ codes "`.")
+
+-- that a line is no header
+abbrev pub like_header_words : Section → List ℕ
+like_header_words section =
+    codes "This line isn't the header " ++ (section_name section ++ codes ", which is that word alone.")
+
+-- that a line has no name
+abbrev pub commas_words : List ℕ
+commas_words = codes "A line of COLLISIONLAYERS is names, parted by commas or blanks: this one has only commas."
+
 -- what is told of a fault
 abbrev pub sentence : Cause → List ℕ
 sentence Untold = []
@@ -135,7 +151,12 @@ sentence (BrokenRow row blank) = broken_words row.text.now blank
 sentence (LateHeader header section above other) = late_words section above other
 sentence (MissingSection section clue) = missing_words section clue
 sentence (Twice word first) = twice_words word.text.now first.line first.name.now
+sentence (Slashes word) = slashes_words word.text.now
+sentence (LikeHeader word section) = like_header_words section
 sentence (Slip word slip) = slip_words slip word.text.now
 sentence (InRule cause) = rule_sentence cause
+sentence (InLoop cause) = loop_sentence cause
+sentence (InWhole cause) = whole_sentence cause
 sentence (InObject cause) = object_sentence cause
+sentence (OnlyCommas place) = commas_words
 sentence (BrokenByte place byte) = broken_byte_words place byte

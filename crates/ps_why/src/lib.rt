@@ -3,6 +3,7 @@
 //! [`why`] shows the line of the fault, marks the words that its cause speaks of, and says what the cause is.
 #![tactic(auto)]
 
+mod game_wording;
 mod marks;
 mod object_wording;
 mod page;

@@ -17,6 +17,30 @@ pub struct Mark {
     pub to: usize,
 }
 
+/// What the marks below a line stand below: one thing, and perhaps another before it.
+#[derive(Clone, Copy)]
+pub struct Marks {
+    pub mark: Mark,
+    pub other: Option<Mark>,
+}
+
+impl Mark {
+    /// Whether a mark stands below a place of the text.
+    fn has(&self, place: usize) -> bool {
+        place >= self.from && place < self.to
+    }
+}
+
+impl Marks {
+    /// Whether one of the marks stands below a place of the text.
+    fn have(&self, place: usize) -> bool {
+        match self.other {
+            Some(other) => self.mark.has(place) || other.has(place),
+            None => self.mark.has(place),
+        }
+    }
+}
+
 /// A line of a text: its bytes, from one to before another, without the line feed.
 #[derive(Clone, Copy)]
 struct LineBytes {
@@ -139,13 +163,13 @@ fn goes_on(byte: u8) -> bool {
 
 /// Puts carets last below the marked bytes of a line, of which the first stands at a place of the text, and blanks
 /// before them; one for each character.
-fn push_carets(page: &mut String, line: &[u8], start: usize, mark: Mark) -> Result<(), Memory> {
+fn push_carets(page: &mut String, line: &[u8], start: usize, marks: Marks) -> Result<(), Memory> {
     for at in 0..line.len().min(MOST_SHOWN) {
         let place = start.saturating_add(at);
-        if place >= mark.to {
+        if place >= marks.mark.to {
             return Ok(());
         }
-        push_caret(page, line[at], place >= mark.from)?;
+        push_caret(page, line[at], marks.have(place))?;
     }
     Ok(())
 }
@@ -163,23 +187,66 @@ fn push_caret(page: &mut String, byte: u8, is_marked: bool) -> Result<(), Memory
     Ok(())
 }
 
-/// A line of a text behind its number, and below it the mark, if there is one.
+/// How many bytes of a line stand before the end of a mark at most, where the line's front isn't shown.
+const MOST_BEFORE: usize = 100;
+
+/// The first place of a line from a place on at which a character begins, or else the line's end.
+fn begins_from(text: &[u8], line: LineBytes, from: usize) -> usize
+    requires order { line.from ≤ line.to }
+    requires within { line.to ≤ length text.now }
+    ensures behind { line.from ≤ result }
+    ensures within { result ≤ line.to }
+{
+    for at in from.max(line.from)..line.to {
+        if !goes_on(text[at]) {
+            return at;
+        }
+    }
+    line.to
+}
+
+/// Where a line is shown from: from its front, or else from a place that shows what is marked.
+fn shown_from(text: &[u8], line: LineBytes, marks: Option<Marks>) -> usize
+    requires order { line.from ≤ line.to }
+    requires within { line.to ≤ length text.now }
+    ensures behind { line.from ≤ result }
+    ensures within { result ≤ line.to }
+{
+    let Some(marks) = marks else {
+        return line.from;
+    };
+    let mark = marks.mark;
+    if mark.to.saturating_sub(line.from) <= MOST_SHOWN {
+        return line.from;
+    }
+    begins_from(
+        text,
+        line,
+        mark.from.min(mark.to.saturating_sub(MOST_BEFORE)),
+    )
+}
+
+/// A line of a text behind its number, and below it the marks, if there are some. Of a long line a part is shown, which
+/// begins with `..` where it isn't the front.
 pub fn line_shown(
     alloc: Global,
     text: &[u8],
     line: u32,
-    mark: Option<Mark>,
+    marks: Option<Marks>,
 ) -> Result<String, Memory> {
     let bytes = line_bytes(text, line);
-    let raw = &text[bytes.from..bytes.to];
+    let from = shown_from(text, bytes, marks);
+    let raw = &text[from..bytes.to];
+    let is_front = from == bytes.from;
     let mut page = format!(in alloc; "{line:>6}  ")?;
+    page.push_str(if is_front { "" } else { ".." })?;
     push_front(alloc, &mut page, raw)?;
     page.push('\n')?;
-    let Some(mark) = mark else {
+    let Some(marks) = marks else {
         return Ok(page);
     };
-    page.push_str("        ")?;
-    push_carets(&mut page, raw, bytes.from, mark)?;
+    page.push_str(if is_front { "        " } else { "          " })?;
+    push_carets(&mut page, raw, from, marks)?;
     page.push('\n')?;
     Ok(page)
 }

@@ -2,27 +2,42 @@
 
 ghost use Rattle.std.specs.Prelude.{◌≡◌, IfOk, string_bytes};
 ghost use Rattle.ps_why.specs.RuleWording.{pair_words, several_words, unbound_words, rows_words, cells_words};
-ghost use Rattle.ps_why.specs.RuleWording.{part_words, going_on_words, rule_sentence};
+ghost use Rattle.ps_why.specs.RuleWording.{part_words, going_on_words, rule_sentence, shared_words, could_words};
+ghost use Rattle.ps_why.specs.RuleWording.{further_words, other_words};
+ghost use Rattle.ps_causes.specs.declared.causes.Could.TheVariants.{Either};
 
-use crate::section_names::section_name;
-use ps_causes::{Further, Part, RuleCause};
-use ps_model::{Memory, Section};
+use ps_causes::{Could, Further, Part, RuleCause, Shared, Spot};
+use ps_model::Memory;
 use std::alloc::Global;
 
-/// That a line has two names which stand in one cell.
-fn pair_words(
-    alloc: Global,
-    word: &str,
-    other: &str,
-    section: Section,
-    shared: u32,
-) -> Result<String, Memory>
-    ensures { IfOk result (λ words. string_bytes words ≡ pair_words word.now other.now section shared) }
+/// What two names of one cell share.
+fn shared_words(alloc: Global, shared: Shared<'_>) -> Result<String, Memory>
+    ensures { IfOk result (λ words. string_bytes words ≡ shared_words shared.entry) }
 {
-    let name = section_name(section);
-    let words = format!(in alloc;
-        "`{other}` and `{word}` stand in one cell, and line {shared} of {name} has both."
-    )?;
+    match shared {
+        Shared::Object(name) => {
+            let line = name.line;
+            let name = name.name;
+            let words = format!(in alloc; "both name `{name}` of line {line}.")?;
+            Ok(words)
+        }
+        Shared::Property(line) => {
+            let words = format!(in alloc; "are one property, that of line {line}.")?;
+            Ok(words)
+        }
+        Shared::Layer(line) => {
+            let words = format!(in alloc; "line {line} of COLLISIONLAYERS is a layer of both.")?;
+            Ok(words)
+        }
+    }
+}
+
+/// That two names stand in one cell, and what they share.
+fn pair_words(alloc: Global, word: &str, other: &str, shared: Shared<'_>) -> Result<String, Memory>
+    ensures { IfOk result (λ words. string_bytes words ≡ pair_words word.now other.now shared.entry) }
+{
+    let shared = shared_words(alloc, shared)?;
+    let words = format!(in alloc; "`{other}` and `{word}` stand in one cell, and {shared}")?;
     Ok(words)
 }
 
@@ -36,12 +51,71 @@ fn several_words(alloc: Global, word: &str, line: u32) -> Result<String, Memory>
     Ok(words)
 }
 
-/// That nothing decides a word of the right.
-fn unbound_words(alloc: Global, word: &str, times: usize) -> Result<String, Memory>
-    ensures { IfOk result (λ words. string_bytes words ≡ unbound_words word.now times) }
+/// That of so many words two were told.
+fn further_words(times: usize) -> &'static str
+    ensures { result.now ≡ further_words times }
 {
+    if times > 2 {
+        return " among them.";
+    }
+    "."
+}
+
+/// Two words of the left, of so many that could be meant.
+fn either_words(
+    alloc: Global,
+    times: usize,
+    first: Spot<'_>,
+    second: Spot<'_>,
+) -> Result<String, Memory>
+    ensures { IfOk result (λ words. string_bytes words ≡ could_words times (Either first.entry second.entry)) }
+{
+    let one = first.word.text();
+    let one_cell = first.cell;
+    let other = second.word.text();
+    let other_cell = second.cell;
+    let back = further_words(times);
     let words = format!(in alloc;
-        "`{word}` of the right is that of the same cell on the left, or else the only one there: the left has {times}."
+        ", `{one}` in cell {one_cell} and `{other}` in cell {other_cell}{back}"
+    )?;
+    Ok(words)
+}
+
+/// Another property of the left, and its cell.
+fn other_words(alloc: Global, name: &str, cell: usize) -> Result<String, Memory>
+    ensures { IfOk result (λ words. string_bytes words ≡ other_words name.now cell) }
+{
+    let words = format!(in alloc; ". It has another property, `{name}` in cell {cell}.")?;
+    Ok(words)
+}
+
+/// What of the left could be meant, where so many of it are like the word.
+fn could_words(alloc: Global, times: usize, could: Could<'_>) -> Result<String, Memory>
+    ensures { IfOk result (λ words. string_bytes words ≡ could_words times could.entry) }
+{
+    match could {
+        Could::Nothing => {
+            let words = String::from_str(alloc, ".")?;
+            Ok(words)
+        }
+        Could::Either { first, second } => either_words(alloc, times, first, second),
+        Could::Other(spot) => other_words(alloc, spot.word.text(), spot.cell),
+    }
+}
+
+/// That nothing decides a word of the right.
+fn unbound_words(
+    alloc: Global,
+    word: &str,
+    times: usize,
+    could: Could<'_>,
+) -> Result<String, Memory>
+    ensures { IfOk result (λ words. string_bytes words ≡ unbound_words word.now times could.entry) }
+{
+    let back = could_words(alloc, times, could)?;
+    let words = format!(in alloc;
+        "`{word}` of the right is that of the same cell on the left, or else the only one there: \
+        the left has {times}{back}"
     )?;
     Ok(words)
 }
@@ -94,11 +168,15 @@ pub fn rule_sentence(alloc: Global, cause: RuleCause<'_>) -> Result<String, Memo
         RuleCause::Pair {
             word,
             other,
-            section,
             shared,
-        } => pair_words(alloc, word.text(), other, section, shared),
-        RuleCause::Several { word, first } => several_words(alloc, word.text(), first.line),
-        RuleCause::Unbound { word, times } => unbound_words(alloc, word.text(), times),
+        } => pair_words(alloc, word.text(), other.text(), shared),
+        RuleCause::Several { word, declared } => several_words(alloc, word.text(), declared),
+        RuleCause::Unbound { word, times, could } => unbound_words(
+            alloc,
+            word.text(),
+            times,
+            could,
+        ),
         RuleCause::Rows { left, right, .. } => rows_words(alloc, left, right),
         RuleCause::Cells {
             row,

@@ -2,9 +2,10 @@
 
 ghost use Rattle.std.specs.Prelude.{◌≡◌, IfOk, string_bytes};
 ghost use Rattle.ps_why.specs.SlipWords.{shape_front, shape_back, rule_front, rule_back, form_front, form_back};
+ghost use Rattle.ps_why.specs.SlipWords.{place_front, place_back};
 ghost use Rattle.ps_why.specs.SlipWords.{slip_front, slip_back, slip_words};
 
-use ps_facts::{FormSlip, RuleSlip, ShapeSlip, Slip};
+use ps_facts::{FormSlip, PlaceSlip, RuleSlip, ShapeSlip, Slip};
 use ps_model::Memory;
 use std::alloc::Global;
 
@@ -14,6 +15,7 @@ fn shape_front(slip: ShapeSlip) -> &'static str
 {
     match slip {
         ShapeSlip::LikeArrow => "No `->` stands in the line: `",
+        ShapeSlip::LikeBracket => "The brackets of a rule are `[` and `]`: `",
         ShapeSlip::NoArrow => "No `->` stands in the line, which ends behind `",
         ShapeSlip::Nested => "Another `[` stands behind this `",
         ShapeSlip::Unclosed => "No `]` closes this `",
@@ -33,6 +35,7 @@ fn shape_back(slip: ShapeSlip) -> &'static str
 {
     match slip {
         ShapeSlip::LikeArrow => "` isn't one.",
+        ShapeSlip::LikeBracket => "` is neither.",
         ShapeSlip::NoArrow => "`: a rule has one, and is written in one line.",
         ShapeSlip::SecondArrow => "` stands a second time.",
         ShapeSlip::Nested => "` before a `]`: brackets don't nest.",
@@ -52,7 +55,6 @@ fn rule_front(slip: RuleSlip) -> &'static str
     ensures { result.now ≡ rule_front slip }
 {
     match slip {
-        RuleSlip::Slashes => "A comment stands between `(` and `)`, and doesn't begin as `",
         RuleSlip::LoopWords
         | RuleSlip::MessageAlone
         | RuleSlip::LateMove
@@ -67,7 +69,6 @@ fn rule_back(slip: RuleSlip) -> &'static str
     ensures { result.now ≡ rule_back slip }
 {
     match slip {
-        RuleSlip::Slashes => "`.",
         RuleSlip::LoopWords => "` has to stand alone in its line.",
         RuleSlip::MessageAlone =>
             "` stands in a line without `->`: a rule has its message behind that.",
@@ -78,6 +79,42 @@ fn rule_back(slip: RuleSlip) -> &'static str
         RuleSlip::Rigid =>
             "` is left out here: a late rule with `cancel` can take back a turn in which only a part has moved.",
         RuleSlip::TwiceInCell => "` stands in this cell a second time.",
+    }
+}
+
+/// What stands before a word that can't stand where it stands.
+fn place_front(slip: PlaceSlip) -> &'static str
+    ensures { result.now ≡ place_front slip }
+{
+    match slip {
+        PlaceSlip::Nameless => "No name stands right behind `",
+        PlaceSlip::Ahead
+        | PlaceSlip::CommandInCell
+        | PlaceSlip::KeyWordInCell
+        | PlaceSlip::OutsideLeft
+        | PlaceSlip::BeforeRow
+        | PlaceSlip::NoCommand => "`",
+    }
+}
+
+/// What stands behind it.
+fn place_back(slip: PlaceSlip) -> &'static str
+    ensures { result.now ≡ place_back slip }
+{
+    match slip {
+        PlaceSlip::Ahead =>
+            "` stands before the first `[`, where only `late` and directions do, and `+` first of all.",
+        PlaceSlip::CommandInCell =>
+            "` stands in brackets: a command stands behind the last `]` of the right.",
+        PlaceSlip::KeyWordInCell =>
+            "` stands in brackets, where only names, movement words, `no` and `...` do.",
+        PlaceSlip::Nameless => "`.",
+        PlaceSlip::OutsideLeft =>
+            "` stands outside brackets: on the left of `->` nothing does so behind the first `[`.",
+        PlaceSlip::BeforeRow =>
+            "` stands before a `[` of the right: commands stand behind its last `]`.",
+        PlaceSlip::NoCommand =>
+            "` is no command: behind the brackets of the right nothing else stands.",
     }
 }
 
@@ -96,7 +133,7 @@ fn form_front(slip: FormSlip) -> &'static str
             "A win condition is `No X`, `Some X`, `Any X` or `All X`, or that with `on Y`, and doesn't end behind `",
         FormSlip::SecondName | FormSlip::ThirdName =>
             "An object's line has its name, and perhaps a second one of one character: `",
-        FormSlip::RealTime => "`",
+        FormSlip::NameAgain | FormSlip::RealTime => "`",
     }
 }
 
@@ -114,6 +151,7 @@ fn form_back(slip: FormSlip) -> &'static str
         FormSlip::SecondName => "` is its second word.",
         FormSlip::ThirdName => "` is its third word.",
         FormSlip::LegendEnds | FormSlip::WinEnds => "`.",
+        FormSlip::NameAgain => "` is a name of this line already: upper and lower case are one.",
         FormSlip::RealTime =>
             "` is left out here, where all that happens follows a key: a rule with `again` goes on by itself.",
     }
@@ -126,6 +164,7 @@ fn slip_front(slip: Slip) -> &'static str
     match slip {
         Slip::Shape(slip) => shape_front(slip),
         Slip::Rule(slip) => rule_front(slip),
+        Slip::Place(slip) => place_front(slip),
         Slip::Form(slip) => form_front(slip),
     }
 }
@@ -137,6 +176,7 @@ fn slip_back(slip: Slip) -> &'static str
     match slip {
         Slip::Shape(slip) => shape_back(slip),
         Slip::Rule(slip) => rule_back(slip),
+        Slip::Place(slip) => place_back(slip),
         Slip::Form(slip) => form_back(slip),
     }
 }

@@ -4,7 +4,7 @@ ghost use Rattle.std.specs.Prelude.{◌≡◌, IfOk, string_bytes};
 ghost use Rattle.ps_causes.specs.Causes.{IsToldAt};
 ghost use Rattle.ps_why.specs.Shown.{TellsTruth};
 
-use crate::marks::mark_of;
+use crate::marks::marks_of;
 use crate::page::{line_shown, shown};
 use crate::wording::sentence;
 use ps_causes::{Cause, broken_byte, cause_of};
@@ -27,7 +27,7 @@ fn told_by(alloc: Global, text: &[u8], fault: Fault, cause: Cause<'_>) -> Result
     requires { IsToldAt text.now fault.line cause }
     ensures { IfOk result (λ told. TellsTruth text.now fault.line (string_bytes told.sentence)) }
 {
-    let line = line_shown(alloc, text, fault.line, mark_of(cause))?;
+    let line = line_shown(alloc, text, fault.line, marks_of(cause))?;
     let words = sentence(alloc, cause)?;
     let sentence = shown(alloc, &words)?;
     Ok(Told { line, sentence })

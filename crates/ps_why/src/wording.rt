@@ -4,8 +4,10 @@ ghost use Rattle.std.specs.Prelude.{◌≡◌, IfOk, string_bytes};
 ghost use Rattle.ps_why.specs.Wording.{zeros, code_words, sentence, hint_words, blank_words, near_words, strange_words};
 ghost use Rattle.ps_why.specs.Wording.{undeclared_words, meaningless_words, unlayered_words, glyph_words, broken_words};
 ghost use Rattle.ps_why.specs.Wording.{late_words, like_words, open_words, returns_words, clue_words, missing_words};
-ghost use Rattle.ps_why.specs.Wording.{case_words, twice_words, broken_byte_words};
+ghost use Rattle.ps_why.specs.Wording.{case_words, twice_words, broken_byte_words, commas_words, slashes_words};
+ghost use Rattle.ps_why.specs.Wording.{like_header_words};
 
+use crate::game_wording::{loop_sentence, whole_sentence};
 use crate::object_wording::object_sentence;
 use crate::rule_wording::rule_sentence;
 use crate::section_names::section_name;
@@ -226,6 +228,36 @@ fn broken_byte_words(alloc: Global, place: usize, byte: u8) -> Result<String, Me
     Ok(words)
 }
 
+/// That a comment begins otherwise.
+fn slashes_words(alloc: Global, word: &str) -> Result<String, Memory>
+    ensures { IfOk result (λ words. string_bytes words ≡ slashes_words word.now) }
+{
+    let words = format!(in alloc;
+        "A comment stands between `(` and `)`, and doesn't begin as `{word}`."
+    )?;
+    Ok(words)
+}
+
+/// That a line is no header.
+fn like_header_words(alloc: Global, section: Section) -> Result<String, Memory>
+    ensures { IfOk result (λ words. string_bytes words ≡ like_header_words section) }
+{
+    let name = section_name(section);
+    let words = format!(in alloc; "This line isn't the header {name}, which is that word alone.")?;
+    Ok(words)
+}
+
+/// That a line has no name.
+fn commas_words(alloc: Global) -> Result<String, Memory>
+    ensures { IfOk result (λ words. string_bytes words ≡ commas_words) }
+{
+    let words = String::from_str(
+        alloc,
+        "A line of COLLISIONLAYERS is names, parted by commas or blanks: this one has only commas.",
+    )?;
+    Ok(words)
+}
+
 /// What is told of a fault: a sentence or two, and nothing where nothing is told.
 pub fn sentence(alloc: Global, cause: Cause<'_>) -> Result<String, Memory>
     ensures { IfOk result (λ words. string_bytes words ≡ sentence cause.entry) }
@@ -249,9 +281,14 @@ pub fn sentence(alloc: Global, cause: Cause<'_>) -> Result<String, Memory>
         } => late_words(alloc, section, above, other),
         Cause::MissingSection { section, clue } => missing_words(alloc, section, clue),
         Cause::Twice { word, first } => twice_words(alloc, word.text(), first.line, first.name),
+        Cause::Slashes { word } => slashes_words(alloc, word.text()),
+        Cause::LikeHeader { section, .. } => like_header_words(alloc, section),
         Cause::Slip { word, slip } => slip_words(alloc, slip, word.text()),
         Cause::InRule(cause) => rule_sentence(alloc, cause),
+        Cause::InLoop(cause) => loop_sentence(alloc, cause),
+        Cause::InWhole(cause) => whole_sentence(alloc, cause),
         Cause::InObject(cause) => object_sentence(alloc, cause),
+        Cause::OnlyCommas { .. } => commas_words(alloc),
         Cause::BrokenByte { place, byte } => broken_byte_words(alloc, place, byte),
     }
 }

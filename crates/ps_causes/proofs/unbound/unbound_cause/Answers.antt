@@ -1,12 +1,14 @@
-use Rattle.std.proofs.Common.{◌≡◌, ◌∙◌, ap, All, map}
+use Rattle.std.proofs.Common.{◌≡◌, ◌∙◌, ap, rules, All, map}
 use Rattle.ps_text.specs.WordViews.{text_of}
 use Rattle.ps_facts.specs.LineWords.{IsWordOf, texts_of}
+use Rattle.ps_causes.specs.Meant.{names_in}
 use Rattle.ps_causes.proofs.unbound.unbound_cause.Goals as goal
 
 pub returns : goal.returns
 returns c =
-    let each : All (IsWordOf c.args.source.now c.args.line) c.deref-3.result.now =
-    rw c.deref-3.ensures.value c.in_ok-words.ensures.each in
-    let texts : map text_of c.deref-3.result.now ≡ texts_of c.args.source.now c.args.line =
-    ap (λ items. map text_of items) c.deref-3.ensures.value ∙ c.in_ok-words.ensures.texts in
-    c.unbound_at.ensures c.args.source.now c.args.line each texts
+    let names : c.in-Some.names ≡ names_in c.args.source.now = search rules in
+    let each : All (IsWordOf c.args.source.now c.args.line) c.deref-2.result.now =
+    rw c.deref-2.ensures.value c.in_ok-words.ensures.each in
+    let texts : map text_of c.deref-2.result.now ≡ texts_of c.args.source.now c.args.line =
+    ap (λ items. map text_of items) c.deref-2.ensures.value ∙ c.in_ok-words.ensures.texts in
+    c.unbound_at.ensures c.args.source.now c.args.line names each texts

@@ -1,0 +1,133 @@
+//! Why `Background` and `Player` can't be what they are.
+
+ghost use Rattle.std.specs.Prelude.{◌≡◌, ◌<◌, ℕ, List, All, IfOk, IfSome, length, map};
+ghost use Rattle.ps_model.specs.text.LineNumbers.{HasLine};
+ghost use Rattle.ps_facts.specs.Declarations.{declared};
+ghost use Rattle.ps_facts.specs.LayerWords.{IsInLayer};
+ghost use Rattle.ps_facts.specs.LineWords.{IsWordOf};
+ghost use Rattle.ps_facts.specs.NamesShown.{names_shown};
+ghost use Rattle.ps_causes.specs.Causes.{IsToldAt};
+
+use crate::causes::{Cause, WholeCause};
+use ps_facts::{MOST_WORDS, Named, Sign, declared_names, joined_by, layer_line_with, words_of};
+use ps_model::Memory;
+use ps_text::{Source, Word};
+use std::alloc::Global;
+
+/// That a word at a place stands for several objects at once, if a line of LEGEND makes it so.
+fn joined_at<'a>(
+    alloc: Global,
+    source: &Source,
+    line: u32,
+    names: &[Named<'a>],
+    words: &[Word<'a>],
+    at: usize,
+) -> Result<Cause<'a>, Memory>
+    requires names { names_shown names.now ≡ declared source.now }
+    requires words { All (IsWordOf source.now line) words.now }
+    ensures { IfOk result (IsToldAt source.now line) }
+{
+    if at >= words.len() {
+        return Ok(Cause::Untold);
+    }
+    let word = words[at];
+    let Some(first) = joined_by(alloc, source, names, word.text(), Sign::And)? else {
+        return Ok(Cause::Untold);
+    };
+    Ok(Cause::InWhole(WholeCause::AllAtOnce { word, first }))
+}
+
+/// That the name of a line of LEGEND stands for several objects at once, or the one that it is another name for.
+fn joined_cause<'a>(
+    alloc: Global,
+    source: &Source,
+    line: u32,
+    names: &[Named<'a>],
+    words: &[Word<'a>],
+) -> Result<Cause<'a>, Memory>
+    requires names { names_shown names.now ≡ declared source.now }
+    requires words { All (IsWordOf source.now line) words.now }
+    ensures { IfOk result (IsToldAt source.now line) }
+{
+    let cause = joined_at(alloc, source, line, names, words, 0)?;
+    if cause.is_told() {
+        return Ok(cause);
+    }
+    joined_at(alloc, source, line, names, words, 2)
+}
+
+/// That two words of a line lie on two layers, the first on that one.
+fn apart_cause<'a>(
+    alloc: Global,
+    source: &Source,
+    line: u32,
+    word: Word<'a>,
+    layer: u32,
+    other: Word<'a>,
+) -> Result<Cause<'a>, Memory>
+    requires word { IsWordOf source.now line word }
+    requires other { IsWordOf source.now line other }
+    requires layer { IsInLayer source.now word.text.now layer }
+    ensures { IfOk result (IsToldAt source.now line) }
+{
+    let Some(other_layer) = layer_line_with(alloc, source, other.text())? else {
+        return Ok(Cause::Untold);
+    };
+    if layer == other_layer {
+        return Ok(Cause::Untold);
+    }
+    Ok(Cause::InWhole(WholeCause::OnTwoLayers {
+        word,
+        layer,
+        other,
+        other_layer,
+    }))
+}
+
+/// Whether the word at a place of a line of LEGEND is a name behind its `=`.
+fn is_mention(at: usize) -> bool {
+    at >= 2 && at % 2 == 0
+}
+
+/// The first name behind the `=` of a line that lies on another layer than the first of them.
+fn layers_cause<'a>(
+    alloc: Global,
+    source: &Source,
+    line: u32,
+    words: &[Word<'a>],
+) -> Result<Cause<'a>, Memory>
+    requires { All (IsWordOf source.now line) words.now }
+    ensures { IfOk result (IsToldAt source.now line) }
+{
+    if words.len() < 3 {
+        return Ok(Cause::Untold);
+    }
+    let word = words[2];
+    let Some(layer) = layer_line_with(alloc, source, word.text())? else {
+        return Ok(Cause::Untold);
+    };
+    for at in 0..words.len().min(MOST_WORDS) {
+        if is_mention(at) {
+            let cause = apart_cause(alloc, source, line, word, layer, words[at])?;
+            if cause.is_told() {
+                return Ok(cause);
+            }
+        }
+    }
+    Ok(Cause::Untold)
+}
+
+/// Why the name that a line of LEGEND declares can't be what the game has one of: it stands for several objects at
+/// once, or for objects of two layers.
+pub fn whole_cause<'a>(alloc: Global, source: &'a Source, line: u32) -> Result<Cause<'a>, Memory>
+    requires { HasLine source.now line }
+    ensures { IfOk result (IsToldAt source.now line) }
+{
+    let names = declared_names(alloc, source)?;
+    let words = words_of(alloc, source, line)?;
+    let cause = joined_cause(alloc, source, line, &names, &words)?;
+    if cause.is_told() {
+        return Ok(cause);
+    }
+    layers_cause(alloc, source, line, &words)
+}

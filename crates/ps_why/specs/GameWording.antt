@@ -1,0 +1,40 @@
+-- What is told of loops, and of names that the whole game has, in words.
+use Rattle.std.specs.Prelude.{ℕ, Option, Some, None, List, ◌++◌, codes}
+use Rattle.std.specs.Fmt.{decimal}
+use Rattle.ps_causes.specs.declared.causes.LoopCause.{LoopCause}
+use Rattle.ps_causes.specs.declared.causes.LoopCause.TheVariants.{Nested, Unbegun, Unended}
+use Rattle.ps_causes.specs.declared.causes.WholeCause.{WholeCause}
+use Rattle.ps_causes.specs.declared.causes.WholeCause.TheVariants.{AllAtOnce, OnTwoLayers}
+
+-- that a loop is open
+abbrev pub nested_words : ℕ → List ℕ
+nested_words line = codes "The loop of line " ++ (decimal line ++ codes " is still open: loops don't nest.")
+
+-- that none is, and where the last one has ended
+abbrev pub unbegun_words : Option ℕ → List ℕ
+unbegun_words None = codes "No loop is open here: no `startloop` stands above."
+unbegun_words (Some line) = codes "No loop is open here: line " ++ (decimal line ++ codes " has ended the last one.")
+
+-- what is told of a loop
+abbrev pub loop_sentence : LoopCause → List ℕ
+loop_sentence (Nested word line) = nested_words line
+loop_sentence (Unbegun word ended) = unbegun_words ended
+loop_sentence (Unended word) = codes "No `endloop` stands below."
+
+-- that a word stands for several objects at once
+abbrev pub at_once_words : List ℕ → ℕ → List ℕ
+at_once_words word line =
+    codes "Line " ++ (decimal line ++ (codes " makes `" ++ (word ++
+    codes "` several objects at once: with `or` it would be any of them.")))
+
+-- that two words stand in two lines of COLLISIONLAYERS
+abbrev pub apart_words : List ℕ → ℕ → List ℕ → ℕ → List ℕ
+apart_words word layer other other_layer =
+    codes "Line " ++ (decimal layer ++ (codes " of COLLISIONLAYERS has `" ++ (word ++ (codes "` and line "
+    ++ (decimal other_layer ++ (codes " has `" ++ (other ++ codes "`: a background lies on one layer.")))))))
+
+-- what is told of a name that the whole game has
+abbrev pub whole_sentence : WholeCause → List ℕ
+whole_sentence (AllAtOnce word first) = at_once_words word.text.now first.line
+whole_sentence (OnTwoLayers word layer other other_layer) =
+    apart_words word.text.now layer other.text.now other_layer
