@@ -68,7 +68,8 @@ passed_front table (rule ∷ rules) (suc count) changed state idle =
     passed_front table rules count changed state (λ k d low. idle (suc k) d (omega (arith, low)))
     ∙ sym (ap (λ (b : Bool). after_change b rest) (or-false changed))
     ∙ sym (change_grouped changed false rest)
-    ∙ sym (ap (λ (r : Result). after_change changed (after_change r.changed (round (rules_meaning table rules) r.state)))
+    ∙ sym (ap (λ (r : Result).
+    after_change changed (after_change r.changed (round (rules_meaning table rules) r.state)))
     (attempt_still (rule_meaning table rule) state (idle 0 rule (omega arith))))
 
 pub rules_passed : (table : Option (List ℕ)) (rules : List CompiledRule) (n m : ℕ) (changed : Bool) (state : State) →

@@ -34,9 +34,9 @@ fn asks_first(rule: &CompiledRule, test: MotionTest) -> bool
     }
 }
 
-/// The number of the next rule, from one on, that isn't passed over: that one, unless it asks for a motion which nothing
-/// on the board has, and then the next one that doesn't ask for it first. What is passed over has no combination. No
-/// memory is taken.
+/// The number of the next rule, from one on, that isn't passed over: that one, unless it asks for a motion which
+/// nothing on the board has, and then the next one that doesn't ask for it first. What is passed over has no
+/// combination. No memory is taken.
 #[inline(always)]
 pub fn behind_lacking<B: Scan>(board: &B, rules: &[CompiledRule], number: usize) -> usize
     requires { number < length rules.now }

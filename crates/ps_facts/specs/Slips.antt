@@ -5,7 +5,8 @@ use Rattle.ps_model.specs.declared.texts.Section.TheVariants.{Prelude, Objects, 
 use Rattle.ps_facts.specs.declared.signs.Sign.{Sign}
 use Rattle.ps_facts.specs.declared.signs.Sign.TheVariants as sign
 use Rattle.ps_facts.specs.declared.slips.ShapeSlip.{ShapeSlip}
-use Rattle.ps_facts.specs.declared.slips.ShapeSlip.TheVariants.{LikeArrow, LikeBracket, NoArrow, SecondArrow, Nested, Unclosed}
+use Rattle.ps_facts.specs.declared.slips.ShapeSlip.TheVariants.{LikeArrow, LikeBracket, NoArrow, SecondArrow}
+use Rattle.ps_facts.specs.declared.slips.ShapeSlip.TheVariants.{Nested, Unclosed}
 use Rattle.ps_facts.specs.declared.slips.ShapeSlip.TheVariants.{LoneClosing, NothingLeft, NothingRight, BarOutside}
 use Rattle.ps_facts.specs.declared.slips.ShapeSlip.TheVariants.{DirectionOutside, WordOutside}
 use Rattle.ps_facts.specs.declared.slips.RuleSlip.{RuleSlip}

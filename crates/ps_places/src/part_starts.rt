@@ -196,7 +196,7 @@ fn rows_begun<W: ColumnWords>(rows: Columns<W>, starts: &[Columns<W>]) -> Column
     begun
 }
 
-/// Whether it is known by what the cells of a part ask for that it begins nowhere; it needn't be known where it does so.
+/// Whether it is known by what the cells of a part ask for that it begins nowhere; it needn't be known where it does.
 /// No memory is taken.
 pub fn begins_nowhere<B: Scan>(board: &B, axis: Axis, part: &[CompiledCell]) -> bool
     requires { HasCells part.now }
