@@ -1,6 +1,6 @@
 //! What is done for a command line.
 
-ghost use Rattle.std.specs.Prelude.{◌≡◌, ◌≤◌, false, OnOk};
+ghost use Rattle.std.specs.Prelude.{◌≡◌, ◌+◌, ◌≤◌, false, IfOk, OnOk, length};
 
 use crate::command::{Asked, read_command};
 use crate::details::{Detail, show_detail};
@@ -75,6 +75,13 @@ fn check_text<R: Files + AllocGlobal, I: ByteReader, O: ByteWriter>(
     Err(Stop::NotAccepted)
 }
 
+/// Of how many files it was said that their text is a game, and of how many others what else was said.
+#[derive(Clone, Copy)]
+struct Said {
+    games: usize,
+    others: usize,
+}
+
 /// Says of each of several files on the screen whether its text is a game. It is well where all are.
 fn check_texts<R: Files + AllocGlobal + Eprint, I: ByteReader, O: ByteWriter>(
     rt: &R,
@@ -86,12 +93,37 @@ fn check_texts<R: Files + AllocGlobal + Eprint, I: ByteReader, O: ByteWriter>(
     requires heard { (I.state input.old).has_failed ≡ false }
     requires well { (O.state screen.old).has_failed ≡ false }
 {
-    let mut all = true;
-    for path in paths {
-        let accepted = check_one(rt, *path, detail, input, screen)?;
-        all = all && accepted;
+    let said = check_each(rt, paths, detail, input, screen)?;
+    if said.others == 0 {
+        Ok(())
+    } else {
+        Err(Stop::NotAccepted)
     }
-    if all { Ok(()) } else { Err(Stop::NotAccepted) }
+}
+
+/// Says of each of several files on the screen whether its text is a game. Something is said of each: one that is no
+/// game, or that can't be read, doesn't end the check.
+fn check_each<R: Files + AllocGlobal + Eprint, I: ByteReader, O: ByteWriter>(
+    rt: &R,
+    paths: &[&str],
+    detail: Detail,
+    input: &mut I,
+    screen: &mut O,
+) -> Result<Said, Stop>
+    requires heard { (I.state input.old).has_failed ≡ false }
+    requires well { (O.state screen.old).has_failed ≡ false }
+    ensures { IfOk result (λ said. said.games + said.others ≡ length paths.now) }
+{
+    let mut games = 0;
+    let mut others = 0;
+    for path in paths {
+        if check_one(rt, *path, detail, input, screen)? {
+            games += 1;
+        } else {
+            others += 1;
+        }
+    }
+    Ok(Said { games, others })
 }
 
 /// Says of one of several files whether its text is a game, and answers that. A file that can't be read is told of on

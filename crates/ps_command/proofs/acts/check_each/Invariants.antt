@@ -1,0 +1,11 @@
+use Rattle.std.proofs.Common.{◌≡◌, ◌+◌, false}
+use Rattle.ps_command.proofs.acts.check_each.Given as goal
+
+-- something was said of each of the files passed by
+abbrev pub invariant-loop-path : goal.invariant-loop-path
+invariant-loop-path g l =
+    record {
+      heard : (g.I.ByteReader.state l.input).has_failed ≡ false;
+      well : (g.O.ByteWriter.state l.screen).has_failed ≡ false;
+      said : l.games + l.others ≡ l.path-index;
+    }
