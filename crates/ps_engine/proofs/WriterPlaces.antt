@@ -42,7 +42,8 @@ use Rattle.ps_places.specs.RowPlaces.{parts_meaning}
 use Rattle.ps_places.proofs.TargetCells.{line_of-on, position_of-on, targets-are}
 use Rattle.ps_places.proofs.InSearchOrder.{alone}
 use Rattle.ps_engine.specs.Writing.{AreWithin, is_written, start_column, start_row}
-use Rattle.ps_engine.proofs.WrittenOnce.{StandsAside, applied_along, fits_within, places_from, target_fits, target_of}
+use Rattle.ps_places.proofs.Apart.{applied_along}
+use Rattle.ps_engine.proofs.WrittenOnce.{StandsAside, fits_within, places_from, target_fits, target_of}
 use Rattle.ps_engine.proofs.WritersAside.{cells_aside, written_twice}
 use Rattle.ps_places.proofs.PlacesWritten.{nothing_behind}
 

@@ -17,6 +17,7 @@ use Rattle.ps_model.specs.meaning.RuleMeanings.{CellMeaning}
 use Rattle.ps_laws.proofs.common.SameThings.{same_cell-own}
 use Rattle.ps_laws.proofs.common.Truths.{both-hold}
 use Rattle.ps_match.specs.Together.{cell_where, rewritten_where}
+use Rattle.ps_places.proofs.Apart.{applied_along, applied_by}
 use Rattle.ps_places.proofs.WrittenToItself.{with_change}
 use Rattle.ps_match.proofs.Chosen.{cell_at-where, length-where, where-agree, where-one}
 use Rattle.ps_match.proofs.RowWritten.{told, told-more}
@@ -29,11 +30,6 @@ pub record StandsAside (becomes : List Slot → List Slot) (a : CellMeaning) : T
 -- the cell of a place with a number in it
 abbrev pub target_of : ℕ → List ℕ → ℕ
 target_of number place = slice_index_or place number 0
-
--- a row applied at a place, if it fits there
-abbrev pub applied_along : List CellMeaning → Rewritten → List ℕ → Rewritten
-applied_along meanings r place =
-    elim (fits_along r.grid meanings place) [ true ↦ rewritten_along r meanings place | false ↦ r ]
 
 -- tests in a row ------------------------------------------------------------------------------------------------------
 
@@ -171,11 +167,6 @@ module _ (m : CellMeaning) (after : List CellMeaning) where
       ∙ written_through r before (All-tail (StandsAside m.rewritten) b before aside) place parts.1
 
 -- one place -----------------------------------------------------------------------------------------------------------
-
-applied_by : (meanings : List CellMeaning) (r : Rewritten) (place : List ℕ) (fit : Bool) →
-    fits_along r.grid meanings place ≡ fit →
-    applied_along meanings r place ≡ elim fit [ true ↦ rewritten_along r meanings place | false ↦ r ]
-applied_by meanings r place fit e = ap (λ (b : Bool). elim b [ true ↦ rewritten_along r meanings place | false ↦ r ]) e
 
 module _ (g : Grid) (before after : List CellMeaning) (m : CellMeaning) (aside : All (StandsAside m.rewritten) before)
     (behind : All (StandsAside m.rewritten) after) (twice : (cell : List Slot) →

@@ -14,7 +14,7 @@ use Rattle.ps_board.specs.ColumnSets.{column_at}
 use Rattle.ps_match.proofs.RowWritten.{told}
 use Rattle.ps_places.specs.InTurn.{applied_down, row_in_turn, turn_down}
 use Rattle.ps_places.specs.Lines.{cells_from}
-use Rattle.ps_places.proofs.Apart.{applied-is, fits_so, if_fits, with_cells}
+use Rattle.ps_places.proofs.Apart.{applied-is, applied_along, applied_by}
 
 -- something changed before, or now
 abbrev pub or_before : Bool → Rewritten → Rewritten
@@ -24,7 +24,7 @@ cell_before : (b : Bool) (r : Rewritten) (m : CellMeaning) (n : ℕ) (found : Op
     rewritten_cell (or_before b r) m n found ≡ or_before b (rewritten_cell r m n found)
 cell_before b r m n None = refl
 cell_before b r m n (Some cell) =
-    ap (with_cells r (rewritten_cell r m n (Some cell)).grid.cells)
+    ap (told (rewritten_cell r m n (Some cell)).grid)
     (or_assoc b r.changed (not (same_cell cell (m.rewritten cell))))
 
 along_before : (b : Bool) (r : Rewritten) (ms : List CellMeaning) (cells : List ℕ) →
@@ -37,15 +37,15 @@ along_before b r (m ∷ ms) (n ∷ cells) =
     ∙ along_before b (rewritten_cell r m n found) ms cells
 
 place_before : (b : Bool) (ms : List CellMeaning) (r : Rewritten) (place : List ℕ) →
-    if_fits ms (or_before b r) place ≡ or_before b (if_fits ms r place)
+    applied_along ms (or_before b r) place ≡ or_before b (applied_along ms r place)
 place_before b ms r place = by (fits_along r.grid ms place) refl where
   by : (fit : Bool) → fits_along r.grid ms place ≡ fit →
-      if_fits ms (or_before b r) place ≡ or_before b (if_fits ms r place)
+      applied_along ms (or_before b r) place ≡ or_before b (applied_along ms r place)
   by true e =
-      fits_so ms (or_before b r) place true e
+      applied_by ms (or_before b r) place true e
       ∙ along_before b r ms place
-      ∙ sym (ap (or_before b) (fits_so ms r place true e))
-  by false e = fits_so ms (or_before b r) place false e ∙ sym (ap (or_before b) (fits_so ms r place false e))
+      ∙ sym (ap (or_before b) (applied_by ms r place true e))
+  by false e = applied_by ms (or_before b r) place false e ∙ sym (ap (or_before b) (applied_by ms r place false e))
 
 turn_before : (b : Bool) (height : ℕ) (all : List CellMeaning) (row : ℕ) (columns : List Bool) (r : Rewritten)
     (x : ℕ) → turn_down height all row columns (or_before b r) x ≡ or_before b (turn_down height all row columns r x)

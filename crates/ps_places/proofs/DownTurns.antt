@@ -22,7 +22,7 @@ use Rattle.ps_program.specs.declared.rows.Axis.TheVariants.{Down}
 use Rattle.ps_places.specs.InTurn.{applied_down, row_in_turn, turn_down}
 use Rattle.ps_places.specs.Lines.{cell_meaning, cells_from, part_meaning}
 use Rattle.ps_places.specs.PartStarts.{AreStarts, columns_on, is_start}
-use Rattle.ps_places.proofs.Apart.{applied-is, apart-before, apart-behind, either_first, if_fits}
+use Rattle.ps_places.proofs.Apart.{applied-is, apart-before, apart-behind, either_first, applied_along}
 use Rattle.ps_places.proofs.InSearchOrder.{alone}
 use Rattle.ps_places.proofs.LinePlaces.{column_lists}
 use Rattle.ps_places.proofs.PlacesWritten.{nothing_behind, places_from, rows_of}
@@ -106,10 +106,10 @@ module _ (g : Grid) (table : Option (List ℕ)) (part : List CompiledCell) (rows
       let far : AreFrom ((x + 1) * g.height) (cells other y) = behind x other y less in
       let border : ℕ = (x + 1) * g.height in
       ap (λ (s : Rewritten). applied_down g.height all z s x) (applied-is all r (cells other y))
-      ∙ applied-is all (if_fits all r (cells other y)) (cells x z)
+      ∙ applied-is all (applied_along all r (cells other y)) (cells x z)
       ∙ either_first all r (cells other y) (cells x z) (apart-behind border (cells other y) (cells x z) far low)
       (apart-before border (cells x z) (cells other y) low far)
-      ∙ sym (applied-is all (if_fits all r (cells x z)) (cells other y))
+      ∙ sym (applied-is all (applied_along all r (cells x z)) (cells other y))
       ∙ sym (ap (λ (s : Rewritten). applied_down g.height all y s other) (applied-is all r (cells x z)))
 
   either_turn : (r : Rewritten) (x other y z : ℕ) → x < other → other < g.width → z < g.height →

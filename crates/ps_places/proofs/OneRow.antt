@@ -27,7 +27,7 @@ use Rattle.ps_places.specs.InTurn.{applied_down, row_in_turn, turn_down}
 use Rattle.ps_places.specs.Lines.{cell_meaning, cells_from, part_fits, part_meaning}
 use Rattle.ps_places.specs.Starts.{AreWhere, begins_down}
 use Rattle.ps_places.specs.WrittenTogether.{cells_changed}
-use Rattle.ps_places.proofs.Apart.{applied-is, fits_so}
+use Rattle.ps_places.proofs.Apart.{applied-is, applied_by}
 use Rattle.ps_places.proofs.InGroups.{AreAlone, after, after-agree, after-none, by-none, cell_done, covered, covers}
 use Rattle.ps_places.proofs.InGroups.{covers-parts}
 use Rattle.ps_places.proofs.InGroups.{during-end, during-start}
@@ -228,7 +228,7 @@ module _ (g : Grid) (table : Option (List ℕ)) (part : List CompiledCell) (row 
     by true false e d =
         turn true e
         ∙ applied-is all (done_of (before x)) (place x)
-        ∙ fits_so all (done_of (before x)) (place x) false
+        ∙ applied_by all (done_of (before x)) (place x) false
         (fits-agree g (done_of (before x)).grid all (place x) (x * g.height) (λ n far. as_before x n far)
         (cells-from first 1 (length all) (x * g.height) (omega arith))
         ∙ sym (fits_is x low) ∙ d)

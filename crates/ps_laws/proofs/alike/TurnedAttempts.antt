@@ -30,7 +30,7 @@ use Rattle.ps_laws.proofs.common.Truths.{and_then, both-hold}
 -- two cells -----------------------------------------------------------------------------------------------------------
 
 -- a cell rewritten leaves the others
-cell-other : (r : Rewritten) (meaning : CellMeaning) (i j : ℕ) (found : Option (List Slot)) → i ≢ j →
+pub cell-other : (r : Rewritten) (meaning : CellMeaning) (i j : ℕ) (found : Option (List Slot)) → i ≢ j →
     slice_get (rewritten_cell r meaning i found).grid.cells j ≡ slice_get r.grid.cells j
 cell-other r meaning i j None n = refl
 cell-other r meaning i j (Some cell) n = read_other r.grid.cells i j (meaning.rewritten cell) n
@@ -55,11 +55,11 @@ known-swap r first second i j (Some here) (Some there) n =
     (or_swap r.changed (not (same_cell here (first.rewritten here))) (not (same_cell there (second.rewritten there))))
 
 -- a cell rewritten, whatever stands there
-abbrev cell_step : Rewritten → CellMeaning → ℕ → Rewritten
+abbrev pub cell_step : Rewritten → CellMeaning → ℕ → Rewritten
 cell_step r meaning cell = rewritten_cell r meaning cell (slice_get r.grid.cells cell)
 
 -- two different cells rewritten in either order
-cells-swap : (r : Rewritten) (first second : CellMeaning) (i j : ℕ) → i ≢ j →
+pub cells-swap : (r : Rewritten) (first second : CellMeaning) (i j : ℕ) → i ≢ j →
     cell_step (cell_step r first i) second j ≡ cell_step (cell_step r second j) first i
 cells-swap r first second i j n =
     ap (rewritten_cell (cell_step r first i) second j) (cell-other r first i j (slice_get r.grid.cells i) n)
