@@ -32,6 +32,7 @@ pub mod RowCopies
 pub mod CopiesShown
 pub mod OneCell
 pub mod RowDifferences
+mod RowsAdded
 pub mod RowHistories
 pub mod TopicsTold
 pub mod LayersTouched

@@ -84,6 +84,19 @@ pub unmarked_plane : (count height plane : ℕ) (words index : List (List Bool))
 unmarked_plane count height plane words index short below marked none row under =
     marked plane row below under (none_in (row_of index plane) row none (omega (arith, under, short)))
 
+-- planes from one on, none of which has a mark
+pub unmarked_rest : (count height first : ℕ) (words index : List (List Bool)) → height ≤ SIDE_LIMIT →
+    AreRowsMarked count height words index →
+    ((plane row : ℕ) → first ≤ plane → plane < count → row < SIDE_LIMIT → column_at (row_of index plane) row ≡ false) →
+    ArePlanesOf height first count [] words words
+unmarked_rest count height first words index short marked none =
+    record {
+      below = λ plane row under less. refl;
+      behind = λ plane row under more. refl;
+      copied = λ plane row under from less. marked plane row less under (none plane row from less (omega (arith, under,
+          short)));
+    }
+
 -- the index behind a change of one plane
 pub marked_plane : (count height plane : ℕ) (mark : List Bool) (source before after index : List (List Bool)) →
     plane < length index → ArePlanesOf height plane (plane + 1) source before after →

@@ -1,8 +1,10 @@
 -- Rows that are changed by what differs.
-use Rattle.std.proofs.Common.{◌≡◌, ◌≢◌, ◌∙◌, ℕ, ◌+◌, ◌*◌, ◌-◌, ◌<◌, ◌≤◌, inl, inr, Bool, true, false, not, List, []}
+use Rattle.std.proofs.Common.{◌≡◌, ◌≢◌, ◌∙◌, ℕ, ◌+◌, ◌*◌, ◌-◌, ◌/◌, ◌%◌, ◌<◌, ◌≤◌, inl, inr, Bool, true, false, not, List, []}
 use Rattle.std.proofs.Common.{◌∷◌, ◌++◌, length, get_or, drop, refl, sym, ap, arith}
 use Rattle.std.specs.Prelude.{if◌then◌else◌, slice_set}
+use Rattle.std.proofs.Math.Nat.{mul-le-mul_left}
 use Rattle.std.proofs.lemmas.Bool.{cases_eq, cases_lt, le-ltb, lt-ltb}
+use Rattle.std.proofs.lemmas.Nat.{div_below, div-add-mod', mod_below}
 use Rattle.std.proofs.lemmas.List.{at_drop_all, at_drop_more, get_or_default, get_or-set_other, get_or-set_same}
 use Rattle.std.proofs.lemmas.List.{length-set, same_lists, set_past}
 use Rattle.ps_board.specs.ColumnSets.{column_at, no_columns, unlike_columns}
@@ -273,6 +275,62 @@ both_plane height plane first second differences same both =
       back = lead_plane height plane second first differences (λ row under.
           sym (same row under (none_at row))) both.back;
     }
+
+-- all rows up to another one are the same
+lead_reach : (height end more : ℕ) (words others : List (List Bool)) (differences : List Difference) → end ≤ more →
+    ((place : ℕ) → end ≤ place → place < more → row_of words place ≡ row_of others place) →
+    Lead height end words others differences → Lead height more words others differences
+lead_reach height end more words others differences farther same lead = λ place. elim (cases_lt place end) [
+  | inl before ↦
+      let early : place < more = omega (arith, before, farther) in
+      lead place ∙ ap (λ (b : Bool). if b then row_of others place else row_of words place)
+      (lt-ltb place end before ∙ sym (lt-ltb place more early))
+  | inr from ↦
+      lead place ∙ ap (λ (b : Bool). if b then row_of others place else row_of words place) (le-ltb place end from)
+      ∙ elim (cases_lt place more) [
+        | inl here ↦
+            same place from here
+            ∙ sym (ap (λ (b : Bool). if b then row_of others place else row_of words place) (lt-ltb place more here))
+        | inr past ↦ sym (ap (λ (b : Bool). if b then row_of others place else row_of words place)
+            (le-ltb place more past))
+      ]
+]
+
+pub both_reach : (height end more : ℕ) (first second : List (List Bool)) (differences : List Difference) → end ≤ more →
+    ((place : ℕ) → end ≤ place → place < more → row_of first place ≡ row_of second place) →
+    LeadBothWays height end first second differences → LeadBothWays height more first second differences
+both_reach height end more first second differences farther same both =
+    record {
+      forth = lead_reach height end more first second differences farther same both.forth;
+      back = lead_reach height end more second first differences farther (λ place from below. sym (same place from below))
+          both.back;
+    }
+
+-- several planes are the same
+pub both_planes : (height plane planes : ℕ) (first second : List (List Bool)) (differences : List Difference) →
+    0 < height → plane ≤ planes →
+    ((p : ℕ) → plane ≤ p → p < planes → DifferOnlyOnRows height p first second no_columns) →
+    LeadBothWays height (plane * height) first second differences →
+    LeadBothWays height (planes * height) first second differences
+both_planes height plane planes first second differences some farther same both =
+    let more : height * plane ≤ height * planes = mul-le-mul_left height farther in
+    both_reach height (plane * height) (planes * height) first second differences (omega (arith, more))
+    (λ place from below.
+    let row : ℕ = place % height in
+    let p : ℕ = place / height in
+    let e : p * height + row ≡ place = div-add-mod' place height in
+    let low : plane ≤ p = elim (cases_lt p plane) [
+      | inl less ↦
+          let under : row < height = mod_below place height some in
+          let early : height * (p + 1) ≤ height * plane =
+          mul-le-mul_left height (let next : p + 1 ≤ plane = omega (arith, less) in next) in
+          absurd (omega (arith, early, under, e, from))
+      | inr after ↦ after
+    ] in
+    ap (row_of first) (sym e)
+    ∙ same p low (div_below place height planes some below) row (mod_below place height some) (none_at row)
+    ∙ ap (row_of second) e)
+    both
 
 -- all rows are compared
 lead_all : (height end : ℕ) (words others : List (List Bool)) (differences : List Difference) → length words ≤ end →

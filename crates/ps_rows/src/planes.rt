@@ -271,6 +271,18 @@ impl<W: ColumnWords> Planes<W> {
         self.index[plane] = Columns::none();
     }
 
+    /// Whether no plane from that one on has a marked row. All of them are looked at in one go, without a test for each.
+    fn is_unmarked_from(&self, first: u32) -> bool
+        ensures { let p = self.now in
+            result ≡ true → ArePlanesOf p.height first (vec_len p.index) [] p.words.items p.words.items }
+    {
+        let mut marked = Columns::none();
+        for plane in first as usize..self.index.len() {
+            marked = marked.either(self.index[plane]);
+        }
+        marked.is_empty()
+    }
+
     /// Clears the planes from that one on, those that have a column.
     pub fn clear_from(&mut self, first: u32)
         requires { first * self.old.height ≤ vec_len self.old.words }
@@ -278,6 +290,9 @@ impl<W: ColumnWords> Planes<W> {
         ensures height { self.new.height ≡ self.old.height }
         ensures count { vec_len self.new.words ≡ vec_len self.old.words }
     {
+        if self.is_unmarked_from(first) {
+            return;
+        }
         for plane in first as usize..self.index.len() {
             self.clear_marked(plane);
         }
@@ -379,26 +394,38 @@ impl<W: ColumnWords> Planes<W> {
         ensures { result ≡ true →
             DifferOnlyOnRows self.now.height plane self.now.words.items other.now.words.items no_columns }
     {
-        if self.rows_of(plane).either(other.rows_of(plane)).is_empty() {
+        if self.is_unmarked_plane(other, plane) {
             return true;
         }
         self.has_same_words(other, plane)
     }
 
-    /// The columns of a row of a plane that it has on one of two sides alone. A row that neither has marked isn't read.
-    pub fn row_difference(&self, other: &Planes<W>, plane: u32, row: u32) -> Columns<W>
-        requires row { row < self.now.height }
+    /// Whether no row of a plane is marked, nor of that of others, of the same height.
+    fn is_unmarked_plane(&self, other: &Planes<W>, plane: u32) -> bool
         requires height { other.now.height ≡ self.now.height }
         requires here { (plane + 1) * self.now.height ≤ vec_len self.now.words }
         requires there { (plane + 1) * self.now.height ≤ vec_len other.now.words }
-        ensures { let place = plane * self.now.height + row in
-            result ≡ unlike_columns (row_of self.now.words.items place) (row_of other.now.words.items place) }
+        ensures { result ≡ true →
+            DifferOnlyOnRows self.now.height plane self.now.words.items other.now.words.items no_columns }
     {
-        let marked = self.rows_of(plane).either(other.rows_of(plane));
-        if !marked.has(row) {
-            return Columns::none();
+        self.rows_of(plane).either(other.rows_of(plane)).is_empty()
+    }
+
+    /// How many of so many planes, the first ones, there are up to the last that has a marked row, here or on others of
+    /// the same height.
+    pub fn planes_marked(&self, other: &Planes<W>, planes: u32) -> u32
+        requires height { other.now.height ≡ self.now.height }
+        requires here { planes * self.now.height ≤ vec_len self.now.words }
+        requires there { planes * self.now.height ≤ vec_len other.now.words }
+        ensures few { result ≤ planes }
+        ensures same { (plane : ℕ) → result ≤ plane → plane < planes →
+            DifferOnlyOnRows self.now.height plane self.now.words.items other.now.words.items no_columns }
+    {
+        let mut count = planes;
+        while 0 < count && self.is_unmarked_plane(other, count - 1) {
+            count -= 1;
         }
-        self.row(plane, row).unlike(other.row(plane, row))
+        count
     }
 
     /// The rows in which a plane may have other columns than on others, as many of the same height. Those that neither

@@ -44,7 +44,8 @@ pub fn change_rows<W: ColumnWords>(planes: &mut Planes<W>, rows: &[RowDifference
     }
 }
 
-/// Adds the rows in which a plane differs, where the planes before it have been added.
+/// Adds the rows in which a plane differs, where the planes before it have been added. Those that neither side has marked
+/// aren't read.
 fn add_differences<W: ColumnWords>(
     first: &Planes<W>,
     second: &Planes<W>,
@@ -62,8 +63,10 @@ fn add_differences<W: ColumnWords>(
     if first.has_same_plane(second, plane) {
         return Ok(());
     }
-    for row in 0..first.height {
-        let columns = first.row_difference(second, plane, row);
+    let marked = first.rows_of(plane).either(second.rows_of(plane));
+    let mut left = marked.both(Columns::below(first.height));
+    while let Some(row) = left.take_first() {
+        let columns = first.row(plane, row).unlike(second.row(plane, row));
         if !columns.is_empty() {
             found.push(RowDifference {
                 plane,
@@ -96,7 +99,8 @@ pub fn differences<W: ColumnWords>(
         rows_changed first.now.height second.now.words.items rows.items ≡ first.now.words.items)) }
 {
     let mut found = Vec::new(alloc);
-    for plane in 0..planes {
+    let marked = first.planes_marked(second, planes);
+    for plane in 0..marked {
         add_differences(first, second, plane, &mut found)?;
         if found.len() > first.words.len() / 2 {
             return Ok(None);

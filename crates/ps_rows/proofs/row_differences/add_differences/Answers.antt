@@ -1,12 +1,14 @@
-use Rattle.std.proofs.Common.{◌≡◌, ◌+◌, ◌*◌, ◌<◌, ◌∙◌, ℕ, Bool, true, List, length, sym, ap, ap₂, arith, subst, refl}
-use Rattle.std.proofs.Common.{rules}
-use Rattle.ps_board.specs.ColumnSets.{set_columns, unlike_columns}
+use Rattle.std.proofs.Common.{◌≡◌, ◌+◌, ◌*◌, ◌<◌, ◌≤◌, ◌∙◌, ℕ, Bool, true, false, List, length, sym, ap, ap₂, arith}
+use Rattle.std.proofs.Common.{subst, refl, rules}
+use Rattle.ps_board.specs.ColumnSets.{column_at, either_columns, set_columns, unlike_columns}
+use Rattle.ps_board.proofs.Taken.{taken_below}
 use Rattle.ps_rows.specs.Planes.{row_of}
 use Rattle.ps_rows.specs.RowDifferences.{LeadBothWays}
 use Rattle.ps_rows.proofs.RowDifferences.{both_more, both_plane, both_same}
+use Rattle.ps_rows.proofs.RowsAdded.{added_all, added_none, added_on, row_reached}
+use Rattle.ps_rows.proofs.RowsDiffering.{row_unmarked}
 use Rattle.ps_rows.proofs.Sets.{same_by_unlike, same_set}
 use Rattle.ps_rows.proofs.row_differences.add_differences.Goals as goal
-use Rattle.ps_rows.proofs.row_differences.add_differences.Goals.{then-not-is_empty+in_ok-push, else-not-is_empty}
 
 pub returns-then-has_same_plane : goal.returns-then-has_same_plane
 returns-then-has_same_plane g c =
@@ -14,38 +16,99 @@ returns-then-has_same_plane g c =
     c.args.found.now.items
     (c.has_same_plane.ensures c.if-has_same_plane.true) c.requires.before
 
+pub loop-row-init : goal.loop-row-init
+loop-row-init g c =
+    let p = c.args.first.now in
+    let o = c.args.second.now in
+    let plane : ℕ = c.args.plane in
+    let mine : List Bool = row_of p.index.items plane in
+    let theirs : List Bool = row_of o.index.items plane in
+    let E : ℕ → Type 0 = λ long. (plane + 1) * p.height ≤ long in
+    let there : (plane + 1) * p.height ≤ o.words.len = subst E (sym c.requires.count) c.requires.plane in
+    (
+      0,
+      omega arith,
+      added_none p.height plane p.words.items o.words.items c.args.found.now.items c.either-marked.result c.below.result
+          c.both-left.result p.rows c.below.ensures c.both-left.ensures
+          (λ row under off.
+          let none : column_at (either_columns mine theirs) row ≡ false =
+          ap (λ (word : List Bool). column_at word row)
+          (sym (c.either-marked.ensures ∙ ap₂ either_columns c.rows_of.ensures c.rows_of-2.ensures)) ∙ off in
+          row_unmarked p.index.len o.index.len p.height o.height plane p.words.len o.words.len row p.words.items
+          o.words.items p.index.items o.index.items p.some_row p.rows c.requires.height p.whole o.whole
+          c.requires.plane there p.marked o.marked none under)
+          c.requires.before,
+    )
+
+pub row-requires-clause-row : goal.row-requires-clause-row
+row-requires-clause-row g c =
+    taken_below c.loop-row.left c.take_first.new.self c.args.first.now.height c.in-Some.row c.in-Some.ensures.some
+    c.loop-row.invariant.2.low
+
+pub row-requires-in-Some-clause-row : goal.row-requires-in-Some-clause-row
+row-requires-in-Some-clause-row g c =
+    rw c.requires.height (taken_below c.loop-row.left c.take_first.new.self c.args.first.now.height c.in-Some.row
+    c.in-Some.ensures.some c.loop-row.invariant.2.low)
+
+pub loop-row-preserved-in-Continue-1 : goal.loop-row-preserved-in-Continue-1
+loop-row-preserved-in-Continue-1 g c =
+    let p = c.args.first.now in
+    let o = c.args.second.now in
+    let row : ℕ = c.in-Some.row in
+    let place : ℕ = c.args.plane * p.height + row in
+    let was = c.loop-row.invariant.2 in
+    let under : row < p.height =
+    taken_below c.loop-row.left c.take_first.new.self p.height row c.in-Some.ensures.some was.low in
+    let there : c.row-in-Some.result ≡ row_of o.words.items place =
+    c.row-in-Some.ensures ∙ ap (λ (h : ℕ). row_of o.words.items (c.args.plane * h + row)) c.requires.height in
+    let long : length o.words.items ≡ length p.words.items =
+    omega (arith, c.requires.count, p.words.ok.0, o.words.ok.0) in
+    let within : place < length p.words.items = omega (arith, under, c.requires.plane, p.words.ok.0) in
+    let lead : LeadBothWays p.height (place + 1) p.words.items o.words.items c.push.new.self.items =
+    rw c.in_ok-push.ensures.items
+    (both_more p.height p.words.items o.words.items c.loop-row.found.items _ place refl under within long
+    (p.sets place) (o.sets place) (c.unlike-columns.ensures ∙ ap₂ unlike_columns c.row.ensures there)
+    (row_reached p.height c.args.plane p.words.items o.words.items c.loop-row.found.items c.loop-row.left
+    c.take_first.new.self c.loop-row.invariant.0 row c.in-Some.ensures.some was)) in
+    (
+      row + 1,
+      omega (arith, under),
+      added_on p.height c.args.plane p.words.items o.words.items c.loop-row.found.items c.loop-row.left
+          c.take_first.new.self c.loop-row.invariant.0 row c.in-Some.ensures.some was c.push.new.self.items p.rows lead,
+    )
+
 pub loop-row-preserved : goal.loop-row-preserved
 loop-row-preserved g c =
     let p = c.args.first.now in
     let o = c.args.second.now in
-    let place : ℕ = c.args.plane * p.height + c.loop-row.row in
+    let row : ℕ = c.in-Some.row in
+    let place : ℕ = c.args.plane * p.height + row in
     let here : List Bool = row_of p.words.items place in
-    let there : List Bool = row_of o.words.items place in
-    let unlike : c.row_difference-columns.result ≡ unlike_columns here there = c.row_difference-columns.ensures in
-    let long : length o.words.items ≡ length p.words.items =
-    omega (arith, c.requires.count, p.words.ok.0, o.words.ok.0) in
-    let within : place < length p.words.items = omega (arith, c.loop-row-test.true, c.requires.plane, p.words.ok.0) in
-    let next : place + 1 ≡ c.args.plane * p.height + (c.loop-row.row + 1) = omega arith in
-    let E : ℕ → Type 0 = λ end. LeadBothWays p.height end p.words.items o.words.items c.if-not-is_empty.found.items in
-    subst E next (elim c.if-not-is_empty.branch [
-      | then-not-is_empty+in_ok-push w ↦
-          rw (w.found-is, w.in_ok-push.ensures.items)
-          (both_more p.height p.words.items o.words.items c.loop-row.found.items _ place refl c.loop-row-test.true
-          within long (p.sets place) (o.sets place) unlike c.loop-row.invariant)
-      | else-not-is_empty w ↦
-          let empty : c.is_empty.result ≡ true = search rules in
-          let same : here ≡ there =
-          same_set here there (p.sets place) (o.sets place)
-          (same_by_unlike here there (ap set_columns (sym unlike) ∙ c.is_empty.ensures.none empty)) in
-          rw w.found-is (both_same p.height place p.words.items o.words.items c.loop-row.found.items same
-          c.loop-row.invariant)
-    ])
+    let other : List Bool = row_of o.words.items place in
+    let was = c.loop-row.invariant.2 in
+    let under : row < p.height =
+    taken_below c.loop-row.left c.take_first.new.self p.height row c.in-Some.ensures.some was.low in
+    let there : c.row-in-Some.result ≡ other =
+    c.row-in-Some.ensures ∙ ap (λ (h : ℕ). row_of o.words.items (c.args.plane * h + row)) c.requires.height in
+    let unlike : c.unlike-columns.result ≡ unlike_columns here other =
+    c.unlike-columns.ensures ∙ ap₂ unlike_columns c.row.ensures there in
+    let empty : c.is_empty.result ≡ true = search rules in
+    let same : here ≡ other =
+    same_set here other (p.sets place) (o.sets place)
+    (same_by_unlike here other (ap set_columns (sym unlike) ∙ c.is_empty.ensures.none empty)) in
+    (
+      row + 1,
+      omega (arith, under),
+      added_on p.height c.args.plane p.words.items o.words.items c.loop-row.found.items c.loop-row.left
+          c.take_first.new.self c.loop-row.invariant.0 row c.in-Some.ensures.some was c.loop-row.found.items p.rows
+          (both_same p.height place p.words.items o.words.items c.loop-row.found.items same
+          (row_reached p.height c.args.plane p.words.items o.words.items c.loop-row.found.items c.loop-row.left
+          c.take_first.new.self c.loop-row.invariant.0 row c.in-Some.ensures.some was)),
+    )
 
 pub returns : goal.returns
 returns g c =
     let p = c.args.first.now in
-    let end : c.args.plane * p.height + c.loop-row.row ≡ (c.args.plane + 1) * p.height =
-    omega (arith, c.loop-row-test.false, c.loop-row.auto.row-end) in
-    let E : ℕ → Type 0 = λ end. LeadBothWays p.height end p.words.items c.args.second.now.words.items
-    c.loop-row.found.items in
-    subst E end c.loop-row.invariant
+    added_all p.height c.args.plane p.words.items c.args.second.now.words.items c.loop-row.found.items c.loop-row.left
+    c.loop-row.invariant.0 p.rows c.loop-row.invariant.1 (c.in_default.ensures.none refl)
+    c.loop-row.invariant.2

@@ -1,6 +1,6 @@
 use Rattle.std.proofs.Common.{◌≡◌, ◌*◌, ◌≤◌, ℕ, length, ap, arith, subst, [], List}
 use Rattle.ps_rows.specs.RowDifferences.{Difference, LeadBothWays}
-use Rattle.ps_rows.proofs.RowDifferences.{all_back, all_forth, both_none}
+use Rattle.ps_rows.proofs.RowDifferences.{all_back, all_forth, both_none, both_planes}
 use Rattle.ps_rows.proofs.row_differences.differences.Goals as goal
 
 pub loop-plane-init : goal.loop-plane-init
@@ -15,24 +15,28 @@ pub returns-clause-forth : goal.returns-clause-forth
 returns-clause-forth g c =
     let p = c.args.first.now in
     let o = c.args.second.now in
-    let all : c.loop-plane.plane ≡ c.args.planes =
+    let all : c.loop-plane.plane ≡ c.planes_marked-marked.result =
     omega (arith, c.loop-plane-test.false, c.loop-plane.auto.plane-end) in
-    let reached : length p.words.items ≤ c.loop-plane.plane * p.height =
-    omega (arith, ap (λ (n : ℕ). n * p.height) all, c.requires.planes, p.words.ok.0) in
+    let reached : length p.words.items ≤ c.args.planes * p.height = omega (arith, c.requires.planes, p.words.ok.0) in
     let long : length o.words.items ≡ length p.words.items =
     omega (arith, c.requires.count, p.words.ok.0, o.words.ok.0) in
-    all_forth p.height (c.loop-plane.plane * p.height) p.words.items o.words.items c.loop-plane.found.items reached
-    long c.loop-plane.invariant
+    all_forth p.height (c.args.planes * p.height) p.words.items o.words.items c.loop-plane.found.items reached long
+    (both_planes p.height c.loop-plane.plane c.args.planes p.words.items o.words.items c.loop-plane.found.items p.some_row
+    (omega (arith, all, c.planes_marked-marked.ensures.few))
+    (λ plane from below. c.planes_marked-marked.ensures.same plane (omega (arith, all, from)) below)
+    c.loop-plane.invariant)
 
 pub returns-clause-back : goal.returns-clause-back
 returns-clause-back g c =
     let p = c.args.first.now in
     let o = c.args.second.now in
-    let all : c.loop-plane.plane ≡ c.args.planes =
+    let all : c.loop-plane.plane ≡ c.planes_marked-marked.result =
     omega (arith, c.loop-plane-test.false, c.loop-plane.auto.plane-end) in
-    let reached : length p.words.items ≤ c.loop-plane.plane * p.height =
-    omega (arith, ap (λ (n : ℕ). n * p.height) all, c.requires.planes, p.words.ok.0) in
+    let reached : length p.words.items ≤ c.args.planes * p.height = omega (arith, c.requires.planes, p.words.ok.0) in
     let long : length o.words.items ≡ length p.words.items =
     omega (arith, c.requires.count, p.words.ok.0, o.words.ok.0) in
-    all_back p.height (c.loop-plane.plane * p.height) p.words.items o.words.items c.loop-plane.found.items reached long
-    c.loop-plane.invariant
+    all_back p.height (c.args.planes * p.height) p.words.items o.words.items c.loop-plane.found.items reached long
+    (both_planes p.height c.loop-plane.plane c.args.planes p.words.items o.words.items c.loop-plane.found.items p.some_row
+    (omega (arith, all, c.planes_marked-marked.ensures.few))
+    (λ plane from below. c.planes_marked-marked.ensures.same plane (omega (arith, all, from)) below)
+    c.loop-plane.invariant)

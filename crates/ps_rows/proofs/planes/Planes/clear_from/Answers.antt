@@ -1,4 +1,4 @@
-use Rattle.std.proofs.Common.{◌*◌, ◌≤◌, ◌∙◌, length, sym, arith}
+use Rattle.std.proofs.Common.{◌*◌, ◌≤◌, ◌∙◌, length, refl, sym, arith}
 use Rattle.ps_rows.proofs.PlaneCopies.{all_cleared, behind_plane}
 use Rattle.ps_rows.proofs.planes.Planes.clear_from.Goals as goal
 
@@ -12,3 +12,11 @@ returns-clause-words g c =
     all_cleared p.height c.args.first c.loop-plane.plane p.words.items c.loop-plane.self.words.items p.some_row within
     whole
     (sym c.loop-plane.self.words.ok.0 ∙ c.loop-plane.invariant.2 ∙ p.words.ok.0) c.loop-plane.invariant.0
+
+pub returns-then-is_unmarked_from-clause-words : goal.returns-then-is_unmarked_from-clause-words
+returns-then-is_unmarked_from-clause-words g c =
+    let p = c.args.self.now in
+    let within : c.args.first * p.height ≤ length p.words.items = omega (arith, c.requires, p.words.ok.0) in
+    let whole : length p.words.items ≤ p.index.len * p.height = omega (arith, p.whole, p.words.ok.0) in
+    all_cleared p.height c.args.first p.index.len p.words.items p.words.items p.some_row within whole refl
+    (c.is_unmarked_from.ensures c.if-is_unmarked_from.true)
