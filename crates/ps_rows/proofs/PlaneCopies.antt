@@ -9,10 +9,12 @@ use Rattle.std.proofs.lemmas.Nat.{div_below, mod_below, div-add-mod'}
 use Rattle.std.proofs.lemmas.List.{same_lists, get_or_default, get_or-set_same, get_or-set_other, length-take-le}
 use Rattle.std.proofs.lemmas.List.{get_or_append_left, get_or-append_right, get_or-take, get_or-drop, length-append}
 use Rattle.std.proofs.lemmas.List.{length-replicate}
-use Rattle.ps_rows.specs.PlaneCopies.{ArePlanesOf}
+use Rattle.ps_rows.specs.PlaneCopies.{AreCopied, ArePlanesOf}
 use Rattle.ps_rows.specs.RowIndex.{AreRowsMarked}
+use Rattle.ps_rows.specs.Sameness.{DifferOnlyOnRows}
 use Rattle.ps_rows.specs.Showing.{cleared_from}
 use Rattle.ps_rows.proofs.Rests.{blank_word}
+use Rattle.ps_rows.proofs.Sets.{none_at}
 use Rattle.ps_board.proofs.ColumnLaws.{none_in}
 use Rattle.ps_board.specs.ColumnSets.{column_at, no_columns, set_columns}
 use Rattle.ps_model.specs.declared.limits.TheConstants.{SIDE_LIMIT}
@@ -65,6 +67,106 @@ plane_overwritten height plane source part before long enough same =
           ∙ ap (λ (i : ℕ). row_of (part ++ rest) i) back
           ∙ get_or_append_left part rest no_columns row inside ∙ same row under);
     }
+
+-- a part that is written over some sets
+pub sets_overwritten : (first count : ℕ) (source part before : List (List Bool)) → length part ≡ count →
+    first + count ≤ length before →
+    ((i : ℕ) → i < count → row_of part i ≡ row_of source (first + i)) →
+    AreCopied first (first + count) source before (put_mid first count before part)
+sets_overwritten first count source part before long enough same =
+    let rest : List (List Bool) = drop count (drop first before) in
+    let within : first ≤ length before = omega (arith, enough) in
+    let front : length (take first before) ≡ first = length-take-le first before within in
+    record {
+      below = λ place less.
+          let inside : place < length (take first before) = rw front less in
+          get_or_append_left (take first before) (part ++ rest) no_columns place inside
+          ∙ get_or-take first before place no_columns less;
+      behind = λ place more.
+          let from : first ≤ place = omega (arith, more) in
+          let beyond : length part ≤ place - first = omega (arith, more, long) in
+          let back : first + (count + (place - first - length part)) ≡ place = omega (arith, more, long) in
+          get_or-append_right (take first before) (part ++ rest) first place no_columns front from
+          ∙ get_or-append_right part rest (length part) (place - first) no_columns refl beyond
+          ∙ get_or-drop count (drop first before) (place - first - length part) no_columns
+          ∙ get_or-drop first before (count + (place - first - length part)) no_columns
+          ∙ ap (λ (i : ℕ). row_of before i) back;
+      copied = λ place low high.
+          let inside : place - first < length part = omega (arith, low, high, long) in
+          let back : first + (place - first) ≡ place = omega (arith, low) in
+          get_or-append_right (take first before) (part ++ rest) first place no_columns front low
+          ∙ get_or_append_left part rest no_columns (place - first) inside
+          ∙ same (place - first) (omega (arith, low, high)) ∙ ap (row_of source) back;
+    }
+
+-- whole planes that are copied
+pub planes_copied : (height first end : ℕ) (source before after : List (List Bool)) →
+    AreCopied (first * height) (end * height) source before after → ArePlanesOf height first end source before after
+planes_copied height first end source before after copied =
+    record {
+      below = λ plane row under less. copied.below (plane * height + row) (before_plane height plane first row under less);
+      behind = λ plane row under more.
+          let past : end * height ≤ plane * height = behind_plane height end plane more in
+          copied.behind (plane * height + row) (omega (arith, past));
+      copied = λ plane row under from less.
+          let low : first * height ≤ plane * height = behind_plane height first plane from in
+          copied.copied (plane * height + row) (omega (arith, low)) (before_plane height plane end row under less);
+    }
+
+-- some planes, and then those behind them
+pub planes_then : (height first end : ℕ) (source before between after : List (List Bool)) → first ≤ end →
+    ArePlanesOf height 0 first source before between → ArePlanesOf height first end source between after →
+    ArePlanesOf height 0 end source before after
+planes_then height first end source before between after order was more =
+    record {
+      below = λ plane row under less. absurd (omega (arith, less));
+      behind = λ plane row under past.
+          more.behind plane row under past ∙ was.behind plane row under (omega (arith, past, order));
+      copied = λ plane row under from less. elim (cases_lt plane first) [
+        | inl early ↦ more.below plane row under early ∙ was.copied plane row under from early
+        | inr late ↦ more.copied plane row under late less
+      ];
+    }
+
+-- and then one that was the same before
+pub planes_and_same : (height first plane : ℕ) (source before between after : List (List Bool)) → first ≤ plane →
+    DifferOnlyOnRows height plane source between no_columns → ArePlanesOf height 0 first source before between →
+    ArePlanesOf height first plane source between after → ArePlanesOf height 0 (plane + 1) source before after
+planes_and_same height first plane source before between after order same was more =
+    let all : ArePlanesOf height 0 plane source before after =
+    planes_then height first plane source before between after order was more in
+    record {
+      below = λ o row under less. absurd (omega (arith, less));
+      behind = λ o row under past. all.behind o row under (omega (arith, past));
+      copied = λ o row under from less. elim (cases_eq o plane) [
+        | inl e ↦ rw e (more.behind plane row under (omega arith) ∙ sym (same row under (none_at row)))
+        | inr apart ↦ all.copied o row under from (omega (arith, less, apart))
+      ];
+    }
+
+-- the index behind a change of several planes, of which it is copied too
+pub marked_planes : (count count' height first end : ℕ) (source before after own index mine : List (List Bool)) →
+    end ≤ count → ArePlanesOf height first end source before after → AreCopied first end own index mine →
+    AreRowsMarked count height source own → AreRowsMarked count' height before index →
+    AreRowsMarked count' height after mine
+marked_planes count count' height first end source before after own index mine enough changed copied sources befores =
+    λ plane row below under clear.
+    elim (cases_lt plane first) [
+      | inl early ↦
+          changed.below plane row under early
+          ∙ befores plane row below under (ap (λ (w : List Bool). column_at w row) (sym (copied.below plane early))
+          ∙ clear)
+      | inr from ↦ elim (cases_lt plane end) [
+        | inl less ↦
+            changed.copied plane row under from less
+            ∙ sources plane row (omega (arith, less, enough)) under
+            (ap (λ (w : List Bool). column_at w row) (sym (copied.copied plane from less)) ∙ clear)
+        | inr past ↦
+            changed.behind plane row under past
+            ∙ befores plane row below under (ap (λ (w : List Bool). column_at w row) (sym (copied.behind plane past))
+            ∙ clear)
+      ]
+    ]
 
 -- a plane that has no columns, before and afterwards
 pub plane_blank : (height plane : ℕ) (source before : List (List Bool)) →

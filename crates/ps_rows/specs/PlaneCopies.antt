@@ -13,6 +13,12 @@ pub record ArePlanesOf (height first end : ℕ) (source before after : List (Lis
   pub copied : (plane row : ℕ) → row < height → first ≤ plane → plane < end →
       row_of after (plane * height + row) ≡ row_of source (plane * height + row)
 
+-- behind a change the sets from the first up to the end are those of a source, and all others are what they were
+pub record AreCopied (first end : ℕ) (source before after : List (List Bool)) : Type 0 where
+  pub below : (place : ℕ) → place < first → row_of after place ≡ row_of before place
+  pub behind : (place : ℕ) → end ≤ place → row_of after place ≡ row_of before place
+  pub copied : (place : ℕ) → first ≤ place → place < end → row_of after place ≡ row_of source place
+
 -- behind a change those rows of the planes from the first up to the end that are in a set are a source's, and all
 -- others are what they were
 pub record AreRowsOf (height first end : ℕ) (rows : List Bool) (source before after : List (List Bool)) : Type 0 where

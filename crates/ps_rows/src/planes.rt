@@ -7,7 +7,7 @@ ghost use Rattle.ps_model.specs.board.Movement.{is_number};
 ghost use Rattle.ps_model.specs.declared.limits.TheConstants.{SIDE_LIMIT};
 ghost use Rattle.ps_board.specs.ColumnSets.{column_at, no_columns, unlike_columns, with_column};
 ghost use Rattle.ps_rows.specs.Planes.{AreSets, HavePlanes, IsSet, has_cell, row_of, with_cell, with_cell_in};
-ghost use Rattle.ps_rows.specs.PlaneCopies.{ArePlanesOf, AreRowsOf};
+ghost use Rattle.ps_rows.specs.PlaneCopies.{AreCopied, ArePlanesOf, AreRowsOf};
 ghost use Rattle.ps_rows.specs.RowIndex.{AreRowsMarked};
 ghost use Rattle.ps_rows.specs.Sameness.{DifferOnlyOnRows};
 ghost use Rattle.ps_rows.specs.Showing.{cleared_from, motion_planes};
@@ -72,20 +72,20 @@ fn clear_plane<W: ColumnWords>(words: &mut [Columns<W>], height: u32, plane: usi
     clear(&mut words[start..start + height as usize]);
 }
 
-/// Copies the rows of a plane.
-fn copy_plane<W: ColumnWords>(
-    words: &[Columns<W>],
-    height: u32,
-    plane: usize,
-    other: &mut [Columns<W>],
+/// Makes the sets of others from the first one up to the end those of the same places here.
+fn copy_sets<W: ColumnWords>(
+    sets: &[Columns<W>],
+    first: usize,
+    end: usize,
+    others: &mut [Columns<W>],
 )
-    requires here { (plane + 1) * height ≤ length words.now }
-    requires there { (plane + 1) * height ≤ length other.old }
-    ensures { ArePlanesOf height plane (plane + 1) words.now other.old other.new }
+    requires order { first ≤ end }
+    requires here { end ≤ length sets.now }
+    requires there { end ≤ length others.old }
+    ensures copied { AreCopied first end sets.now others.old others.new }
+    ensures long { length others.new ≡ length others.old }
 {
-    let start = plane * height as usize;
-    let end = start + height as usize;
-    other[start..end].copy_from_slice(&words[start..end]);
+    others[first..end].copy_from_slice(&sets[first..end]);
 }
 
 impl<W: ColumnWords> Planes<W> {
@@ -298,30 +298,29 @@ impl<W: ColumnWords> Planes<W> {
         }
     }
 
-    /// Makes a plane of others the same, if a row of it is marked on either side.
-    fn copy_marked(&self, other: &mut Planes<W>, plane: usize)
+    /// Makes planes of others, from the first one up to the end, the same.
+    fn copy_planes(&self, other: &mut Planes<W>, first: usize, end: usize)
+        requires order { first ≤ end }
         requires height { other.old.height ≡ self.now.height }
-        requires here { (plane + 1) * self.now.height ≤ vec_len self.now.words }
-        requires there { (plane + 1) * self.now.height ≤ vec_len other.old.words }
+        requires here { end * self.now.height ≤ vec_len self.now.words }
+        requires there { end * self.now.height ≤ vec_len other.old.words }
         ensures words { let p = self.now in
-            ArePlanesOf p.height plane (plane + 1) p.words.items other.old.words.items other.new.words.items }
+            ArePlanesOf p.height first end p.words.items other.old.words.items other.new.words.items }
         ensures height { other.new.height ≡ self.now.height }
         ensures count { vec_len other.new.words ≡ vec_len other.old.words }
     {
-        let rows = self.index[plane];
-        if rows.either(other.index[plane]).is_empty() {
+        if first == end {
             return;
         }
-        copy_plane(
-            self.words.as_slice(),
-            self.height,
-            plane,
-            other.words.as_mut_slice(),
-        );
-        other.index[plane] = rows;
+        let height = self.height as usize;
+        let words = other.words.as_mut_slice();
+        copy_sets(self.words.as_slice(), first * height, end * height, words);
+        let index = other.index.as_mut_slice();
+        copy_sets(self.index.as_slice(), first, end, index);
     }
 
-    /// Makes other planes, as many of the same height, the same. Those without columns on both sides are passed over.
+    /// Makes other planes, as many of the same height, the same. Those without columns on both sides are passed over, and
+    /// those between two such ones are copied in one go.
     pub fn copy_into(&self, other: &mut Planes<W>)
         requires height { other.old.height ≡ self.now.height }
         requires count { vec_len other.old.words ≡ vec_len self.now.words }
@@ -329,9 +328,14 @@ impl<W: ColumnWords> Planes<W> {
         ensures height { other.new.height ≡ self.now.height }
         ensures count { vec_len other.new.words ≡ vec_len self.now.words }
     {
+        let mut first = 0;
         for plane in 0..self.index.len() {
-            self.copy_marked(other, plane);
+            if self.is_unmarked_plane(other, plane) {
+                self.copy_planes(other, first, plane);
+                first = plane + 1;
+            }
         }
+        self.copy_planes(other, first, self.index.len());
     }
 
     /// Makes rows of a plane of others the same, those in a set that are marked on either side.
@@ -394,21 +398,21 @@ impl<W: ColumnWords> Planes<W> {
         ensures { result ≡ true →
             DifferOnlyOnRows self.now.height plane self.now.words.items other.now.words.items no_columns }
     {
-        if self.is_unmarked_plane(other, plane) {
+        if self.is_unmarked_plane(other, plane as usize) {
             return true;
         }
         self.has_same_words(other, plane)
     }
 
     /// Whether no row of a plane is marked, nor of that of others, of the same height.
-    fn is_unmarked_plane(&self, other: &Planes<W>, plane: u32) -> bool
+    fn is_unmarked_plane(&self, other: &Planes<W>, plane: usize) -> bool
         requires height { other.now.height ≡ self.now.height }
         requires here { (plane + 1) * self.now.height ≤ vec_len self.now.words }
         requires there { (plane + 1) * self.now.height ≤ vec_len other.now.words }
         ensures { result ≡ true →
             DifferOnlyOnRows self.now.height plane self.now.words.items other.now.words.items no_columns }
     {
-        self.rows_of(plane).either(other.rows_of(plane)).is_empty()
+        self.index[plane].either(other.index[plane]).is_empty()
     }
 
     /// How many of so many planes, the first ones, there are up to the last that has a marked row, here or on others of
@@ -422,7 +426,7 @@ impl<W: ColumnWords> Planes<W> {
             DifferOnlyOnRows self.now.height plane self.now.words.items other.now.words.items no_columns }
     {
         let mut count = planes;
-        while 0 < count && self.is_unmarked_plane(other, count - 1) {
+        while 0 < count && self.is_unmarked_plane(other, count as usize - 1) {
             count -= 1;
         }
         count

@@ -1,13 +1,39 @@
-use Rattle.std.proofs.Common.{◌*◌, ◌≤◌, ◌∙◌, length, sym, arith}
-use Rattle.ps_rows.proofs.PlaneCopies.{all_copied, behind_plane}
+use Rattle.std.proofs.Common.{◌≡◌, ◌+◌, ◌*◌, ◌<◌, ◌≤◌, ◌∙◌, ℕ, List, Bool, length, sym, ap, arith}
+use Rattle.ps_rows.proofs.PlaneCopies.{all_copied, planes_and_same, planes_then}
+use Rattle.ps_rows.proofs.planes.Planes.copy_into.Goals.{then-is_unmarked_plane, else-is_unmarked_plane}
 use Rattle.ps_rows.proofs.planes.Planes.copy_into.Goals as goal
+
+pub loop-plane-preserved : goal.loop-plane-preserved
+loop-plane-preserved g c =
+    let p = c.args.self.now in
+    let was = c.loop-plane.invariant in
+    elim c.if-is_unmarked_plane.branch [
+      | then-is_unmarked_plane w ↦ rw (w.first-is, w.other-is) (record {
+          order = omega arith;
+          copied = planes_and_same p.height c.loop-plane.first c.loop-plane.plane p.words.items
+              c.args.other.now.words.items c.loop-plane.other.words.items w.copy_planes.new.other.words.items was.order
+              (c.is_unmarked_plane.ensures w.if-is_unmarked_plane.true) was.copied w.copy_planes.ensures.words;
+          height = w.copy_planes.ensures.height;
+          count = w.copy_planes.ensures.count ∙ was.count;
+        })
+      | else-is_unmarked_plane w ↦ rw (w.first-is, w.other-is) (record {
+          order = omega (arith, was.order);
+          copied = was.copied;
+          height = was.height;
+          count = was.count;
+        })
+    ]
 
 pub returns-clause-words : goal.returns-clause-words
 returns-clause-words g c =
     let p = c.args.self.now in
-    let reached : p.index.len ≤ c.loop-plane.plane = omega (arith, c.loop-plane-test.false, c.len-plane-end.ensures) in
-    let enough = behind_plane p.height p.index.len c.loop-plane.plane reached in
-    let whole : length p.words.items ≤ c.loop-plane.plane * p.height = omega (arith, enough, p.whole, p.words.ok.0) in
-    all_copied p.height c.loop-plane.plane p.words.items c.args.other.now.words.items c.loop-plane.other.words.items
+    let was = c.loop-plane.invariant in
+    let order : c.loop-plane.first ≤ c.len.result = omega (arith, was.order, c.loop-plane.auto.plane-end, c.len.ensures,
+    c.len-plane-end.ensures) in
+    let whole : length p.words.items ≤ c.len.result * p.height = omega (arith, p.whole, p.words.ok.0,
+    ap (λ (n : ℕ). n * p.height) c.len.ensures) in
+    all_copied p.height c.len.result p.words.items c.args.other.now.words.items c.copy_planes-2.new.other.words.items
     p.some_row whole
-    (sym c.loop-plane.other.words.ok.0 ∙ c.loop-plane.invariant.2 ∙ p.words.ok.0) c.loop-plane.invariant.0
+    (sym c.copy_planes-2.new.other.words.ok.0 ∙ c.copy_planes-2.ensures.count ∙ was.count ∙ p.words.ok.0)
+    (planes_then p.height c.loop-plane.first c.len.result p.words.items c.args.other.now.words.items
+    c.loop-plane.other.words.items c.copy_planes-2.new.other.words.items order was.copied c.copy_planes-2.ensures.words)

@@ -1,0 +1,111 @@
+use Rattle.std.proofs.Common.{◌≡◌, ◌+◌, ◌-◌, ◌*◌, ◌<◌, ◌≤◌, ℕ, Bool, List, length, refl, sym, subst, arith}
+use Rattle.std.specs.Vec.{with_items}
+use Rattle.std.proofs.lemmas.List.{with_items_is}
+use Rattle.ps_rows.specs.PlaneCopies.{AreCopied, ArePlanesOf}
+use Rattle.ps_rows.specs.RowIndex.{AreRowsMarked}
+use Rattle.ps_rows.proofs.Marked.{plane_indexed}
+use Rattle.ps_rows.proofs.PlaneCopies.{marked_planes, planes_copied, sets_planes}
+use Rattle.ps_rows.proofs.planes.Planes.copy_planes.Goals as goal
+
+-- so many planes stand whole in the words, and have their words in the index
+all_indexed : (count height end long : ℕ) → 0 < height → long ≡ count * height → end * height ≤ long → 0 < end →
+    end ≤ count
+all_indexed count height end long some whole enough one =
+    let last : ℕ = end - 1 in
+    let e : last + 1 ≡ end = omega (arith, one) in
+    let E : ℕ → Type 0 = λ n. n * height ≤ long in
+    let below : last < count = plane_indexed count height last long some whole (subst E (sym e) enough) in
+    omega (arith, below, e)
+
+pub copy_sets-requires-2-clause-here : goal.copy_sets-requires-2-clause-here
+copy_sets-requires-2-clause-here g c =
+    let p = c.args.self.now in
+    let one : 0 < c.args.end = omega (arith, c.requires.order, c.if-first-end.false) in
+    let within : c.args.end ≤ p.index.len = all_indexed p.index.len p.height c.args.end p.words.len p.some_row p.whole
+    c.requires.here one in
+    omega (arith, within, c.as_slice-2.ensures.len)
+
+pub copy_sets-requires-2-clause-there : goal.copy_sets-requires-2-clause-there
+copy_sets-requires-2-clause-there g c =
+    let o = c.args.other.now in
+    let one : 0 < c.args.end = omega (arith, c.requires.order, c.if-first-end.false) in
+    let E : ℕ → Type 0 = λ h. c.args.end * h ≤ o.words.len in
+    let within : c.args.end ≤ o.index.len = all_indexed o.index.len o.height c.args.end o.words.len o.some_row o.whole
+    (subst E (sym c.requires.height) c.requires.there) one in
+    omega (arith, within, c.as_mut_slice-index.ensures.len)
+
+pub invariant_of-other-clause-sets : goal.invariant_of-other-clause-sets
+invariant_of-other-clause-sets g c =
+    let p = c.args.self.now in
+    let o = c.args.other.now in
+    let left : List (List Bool) = c.copy_sets.new.others in
+    let long : length left ≡ o.words.len = omega (arith, c.copy_sets.ensures.long, c.as_mut_slice-words.ensures.len) in
+    let start : ℕ = c.args.first * p.height in
+    let end : ℕ = c.args.end * p.height in
+    let A : List (List Bool) → Type 0 = λ ws. AreCopied start end ws c.as_mut_slice-words.result.now left in
+    let B : List (List Bool) → Type 0 = λ ws. AreCopied start end p.words.items ws left in
+    let D : List (List Bool) → Type 0 = λ ws. AreCopied start end p.words.items o.words.items ws in
+    let copied : AreCopied start end p.words.items o.words.items (with_items o.words left).items =
+    subst D (sym (with_items_is o.words left long))
+    (subst B c.as_mut_slice-words.ensures.value (subst A c.as_slice.ensures.value c.copy_sets.ensures.copied)) in
+    sets_planes p.height c.args.first c.args.end p.words.items o.words.items (with_items o.words left).items p.some_row
+    (planes_copied p.height c.args.first c.args.end p.words.items o.words.items (with_items o.words left).items copied)
+    p.sets o.sets
+
+pub invariant_of-other-clause-marked : goal.invariant_of-other-clause-marked
+invariant_of-other-clause-marked g c =
+    let p = c.args.self.now in
+    let o = c.args.other.now in
+    let left : List (List Bool) = c.copy_sets.new.others in
+    let mine : List (List Bool) = c.copy_sets-2.new.others in
+    let long : length left ≡ o.words.len = omega (arith, c.copy_sets.ensures.long, c.as_mut_slice-words.ensures.len) in
+    let high : length mine ≡ o.index.len = omega (arith, c.copy_sets-2.ensures.long, c.as_mut_slice-index.ensures.len) in
+    let start : ℕ = c.args.first * p.height in
+    let end : ℕ = c.args.end * p.height in
+    let A : List (List Bool) → Type 0 = λ ws. AreCopied start end ws c.as_mut_slice-words.result.now left in
+    let B : List (List Bool) → Type 0 = λ ws. AreCopied start end p.words.items ws left in
+    let D : List (List Bool) → Type 0 = λ ws. AreCopied start end p.words.items o.words.items ws in
+    let copied : AreCopied start end p.words.items o.words.items (with_items o.words left).items =
+    subst D (sym (with_items_is o.words left long))
+    (subst B c.as_mut_slice-words.ensures.value (subst A c.as_slice.ensures.value c.copy_sets.ensures.copied)) in
+    let I : List (List Bool) → Type 0 = λ ws. AreCopied c.args.first c.args.end ws c.as_mut_slice-index.result.now mine
+    in
+    let J : List (List Bool) → Type 0 = λ ws. AreCopied c.args.first c.args.end p.index.items ws mine in
+    let K : List (List Bool) → Type 0 = λ ws. AreCopied c.args.first c.args.end p.index.items o.index.items ws in
+    let noted : AreCopied c.args.first c.args.end p.index.items o.index.items (with_items o.index mine).items =
+    subst K (sym (with_items_is o.index mine high))
+    (subst J c.as_mut_slice-index.ensures.value (subst I c.as_slice-2.ensures.value c.copy_sets-2.ensures.copied)) in
+    let one : 0 < c.args.end = omega (arith, c.requires.order, c.if-first-end.false) in
+    let within : c.args.end ≤ p.index.len = all_indexed p.index.len p.height c.args.end p.words.len p.some_row p.whole
+    c.requires.here one in
+    let M : ℕ → Type 0 = λ h. AreRowsMarked o.index.len h o.words.items o.index.items in
+    let Q : ℕ → Type 0 = λ h. AreRowsMarked o.index.len h (with_items o.words left).items
+        (with_items o.index mine).items in
+    subst Q (sym c.requires.height)
+    (marked_planes p.index.len o.index.len p.height c.args.first c.args.end p.words.items o.words.items
+    (with_items o.words left).items p.index.items o.index.items (with_items o.index mine).items within
+    (planes_copied p.height c.args.first c.args.end p.words.items o.words.items (with_items o.words left).items copied)
+    noted p.marked (subst M c.requires.height o.marked))
+
+pub returns-then-first-end-clause-words : goal.returns-then-first-end-clause-words
+returns-then-first-end-clause-words g c =
+    record {
+      below = λ plane row under less. refl;
+      behind = λ plane row under more. refl;
+      copied = λ plane row under low high. absurd (omega (arith, low, high, c.if-first-end.true));
+    }
+
+pub returns-clause-words : goal.returns-clause-words
+returns-clause-words g c =
+    let p = c.args.self.now in
+    let o = c.args.other.now in
+    let left : List (List Bool) = c.copy_sets.new.others in
+    let long : length left ≡ o.words.len = omega (arith, c.copy_sets.ensures.long, c.as_mut_slice-words.ensures.len) in
+    let start : ℕ = c.args.first * p.height in
+    let end : ℕ = c.args.end * p.height in
+    let A : List (List Bool) → Type 0 = λ ws. AreCopied start end ws c.as_mut_slice-words.result.now left in
+    let B : List (List Bool) → Type 0 = λ ws. AreCopied start end p.words.items ws left in
+    let D : List (List Bool) → Type 0 = λ ws. AreCopied start end p.words.items o.words.items ws in
+    planes_copied p.height c.args.first c.args.end p.words.items o.words.items (with_items o.words left).items
+    (subst D (sym (with_items_is o.words left long))
+    (subst B c.as_mut_slice-words.ensures.value (subst A c.as_slice.ensures.value c.copy_sets.ensures.copied)))
