@@ -59,10 +59,11 @@ pub fn slide<B: Board>(board: &mut B, moving: &mut CellSet<B>) -> Slid
     ensures table { B.table board.new ≡ B.table board.old }
 {
     moving.set_moving(board);
-    let rows = board.rows_moving_any();
+    let mut rows = board.rows_moving_any();
     let mut passes = 1;
     while pass(board, moving, &rows) {
         passes += 1;
+        rows = board.rows_moving_any();
     }
     board.clear_moves();
     Slid { passes }

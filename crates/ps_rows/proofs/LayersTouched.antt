@@ -4,18 +4,17 @@ use Rattle.std.proofs.Common.{[], ◌∷◌, length, get_or, take, refl, sym, ap
 use Rattle.std.specs.Prelude.{nat_eq, nat_lt}
 use Rattle.std.specs.List.{list_any}
 use Rattle.std.proofs.Math.Bool.{and-false, and-true}
-use Rattle.std.proofs.lemmas.Bool.{and_parts, cases_Bool, cases_eq, cases_lt, eq-eqb, eqb-true, ne_eqb, lt-ltb, le-ltb}
-use Rattle.std.proofs.lemmas.Bool.{false≢true, ltb-true, false_from_ne_true}
+use Rattle.std.proofs.lemmas.Bool.{and_parts, cases_eq, cases_lt, eq-eqb, eqb-true, ne_eqb, lt-ltb, le-ltb}
+use Rattle.std.proofs.lemmas.Bool.{false≢true}
 use Rattle.std.proofs.lemmas.List.Folds.{list_any_more}
 use Rattle.ps_model.specs.declared.limits.TheConstants.{SIDE_LIMIT}
 use Rattle.ps_model.specs.meaning.Compiled.{CellWrite}
-use Rattle.ps_board.specs.ColumnSets.{column_at, no_columns, set_columns, with_column}
+use Rattle.ps_board.specs.ColumnSets.{column_at, set_columns, with_column}
 use Rattle.ps_board.specs.declared.one_word.TheConstants.{WORD_BITS}
 use Rattle.ps_board.proofs.ColumnLaws.{first_in, none_in, with_here, with_other}
 use Rattle.ps_board.proofs.Taken.{AreBelow, taken_gone, taken_out}
 use Rattle.ps_match.specs.Touches.{touches}
-use Rattle.ps_rows.specs.LayersTouched.{is_reached, is_written, loses_one}
-use Rattle.ps_rows.proofs.Sets.{none_at}
+use Rattle.ps_rows.specs.LayersTouched.{is_reached}
 
 -- one layer more ------------------------------------------------------------------------------------------------------
 

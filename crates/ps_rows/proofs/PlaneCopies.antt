@@ -195,8 +195,11 @@ unmarked_rest count height first words index short marked none =
     record {
       below = λ plane row under less. refl;
       behind = λ plane row under more. refl;
-      copied = λ plane row under from less. marked plane row less under (none plane row from less (omega (arith, under,
-          short)));
+      copied = λ plane row under from less. marked plane row less under (none plane row from less (omega (
+        arith,
+        under,
+        short,
+      )));
     }
 
 -- the index behind a change of one plane

@@ -19,7 +19,7 @@ use Rattle.ps_board.specs.ColumnSets.{row_fits}
 use Rattle.ps_board.proofs.ColumnLaws.{columns-agree}
 use Rattle.ps_rows.specs.Showing.{cells_shown, grid_shown}
 use Rattle.ps_rows.specs.Planes.{IsSet}
-use Rattle.ps_rows.specs.RowTests.{IsPartOf, IsRowOf, IsWithin, held_all, held_any, is_free, narrowed}
+use Rattle.ps_rows.specs.RowTests.{IsRowOf, IsWithin, held_all, is_free, narrowed}
 use Rattle.ps_rows.specs.RowsKept.{AreKept, IsKept, are_away}
 use Rattle.ps_rows.proofs.Rows.{row_told}
 use Rattle.ps_rows.proofs.Scans.{and3, mask_free, mask_narrowed}

@@ -1,11 +1,11 @@
 -- Sets of columns, column by column.
-use Rattle.std.proofs.Common.{◌≡◌, ◌≢◌, ◌∙◌, ℕ, ◌<◌, ◌≤◌, Bool, true, false, not, ◌&&◌, ◌||◌, List, [], refl, sym, ap}
+use Rattle.std.proofs.Common.{◌≡◌, ◌∙◌, ℕ, ◌<◌, ◌≤◌, Bool, true, false, not, ◌&&◌, ◌||◌, List, [], refl, sym, ap}
 use Rattle.std.proofs.Common.{arith, length}
-use Rattle.std.specs.Prelude.{nat_eq, nat_lt, if◌then◌else◌}
-use Rattle.std.proofs.lemmas.Bool.{eq-eqb, ne_eqb, lt-ltb, or_parts, not-false}
+use Rattle.std.specs.Prelude.{nat_lt, if◌then◌else◌}
+use Rattle.std.proofs.lemmas.Bool.{lt-ltb, or_parts, not-false}
 use Rattle.ps_model.specs.declared.limits.TheConstants.{SIDE_LIMIT}
 use Rattle.ps_board.specs.ColumnSets.{both_columns, column_at, columns_below, columns_where, columns_without}
-use Rattle.ps_board.specs.ColumnSets.{either_columns, no_columns, set_columns, unlike_columns, with_column}
+use Rattle.ps_board.specs.ColumnSets.{either_columns, no_columns, set_columns, unlike_columns}
 use Rattle.ps_board.proofs.ColumnLaws.{below_at, column_at-all, column_at-where, columns-again, columns-agree}
 use Rattle.ps_board.proofs.ColumnLaws.{none_in, none_on}
 use Rattle.ps_board.proofs.ColumnLaws.{set_columns-are}

@@ -23,12 +23,15 @@ pub fn motion_plane(first: u32, motion: Motion) -> Option<u32>
     }
 }
 
-/// The first motion whose plane has a cell.
+/// The first motion whose plane has a cell. No plane is read where the row is known to have no motion.
 pub fn first_motion<W: ColumnWords>(planes: &Planes<W>, cell: u32, first: u32) -> Motion
     requires few { first + 4 < 2 ^ 32 }
     requires planes { (first + 5) * planes.now.height ≤ vec_len planes.now.words }
     ensures { result ≡ first_motion (has_cell planes.now.height planes.now.words.items cell) first }
 {
+    if planes.is_unmarked(first, cell % planes.height) {
+        return Motion::Still;
+    }
     if planes.has_cell(cell, first) {
         return Motion::Going(Direction::Up);
     }

@@ -271,16 +271,17 @@ impl<W: ColumnWords> Planes<W> {
         self.index[plane] = Columns::none();
     }
 
-    /// Whether no plane from that one on has a marked row. All of them are looked at in one go, without a test for each.
-    fn is_unmarked_from(&self, first: u32) -> bool
-        ensures { let p = self.now in
-            result ≡ true → ArePlanesOf p.height first (vec_len p.index) [] p.words.items p.words.items }
+    /// The rows that are marked in one of the planes from that one on. All of them are looked at in one go, without a test
+    /// for each.
+    pub fn rows_from(&self, first: u32) -> Columns<W>
+        ensures { let p = self.now in (plane row : ℕ) → first ≤ plane → plane < vec_len p.index → row < SIDE_LIMIT →
+            column_at result row ≡ false → column_at (row_of p.index.items plane) row ≡ false }
     {
         let mut marked = Columns::none();
         for plane in first as usize..self.index.len() {
             marked = marked.either(self.index[plane]);
         }
-        marked.is_empty()
+        marked
     }
 
     /// Clears the planes from that one on, those that have a column.
@@ -290,7 +291,7 @@ impl<W: ColumnWords> Planes<W> {
         ensures height { self.new.height ≡ self.old.height }
         ensures count { vec_len self.new.words ≡ vec_len self.old.words }
     {
-        if self.is_unmarked_from(first) {
+        if self.rows_from(first).is_empty() {
             return;
         }
         for plane in first as usize..self.index.len() {

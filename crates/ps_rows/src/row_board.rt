@@ -388,12 +388,7 @@ impl<W: ColumnWords> Board for RowBoard<W> {
 
     /// The rows of all planes of motions, by the index.
     fn rows_moving_any(&self) -> Columns<W> {
-        let first = self.members.count();
-        let mut rows = Columns::none();
-        for plane in first..first + 5 * self.layers {
-            rows = rows.either(self.rows_of(plane));
-        }
-        rows
+        self.planes.rows_from(self.members.count())
     }
 
     /// The rows of the object's plane, by the index; none, where no object has that number.

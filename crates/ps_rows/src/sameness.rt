@@ -19,7 +19,7 @@ fn same_row<W: ColumnWords>(first: Columns<W>, second: Columns<W>, width: u32) -
     first.unlike(second).both(Columns::below(width)).is_empty()
 }
 
-/// Whether a plane has the same cells on two boards of this width. One without columns on both isn't read.
+/// Whether a plane has the same cells on two boards of this width. Rows that neither has marked aren't read.
 fn same_plane<W: ColumnWords>(first: &Planes<W>, second: &Planes<W>, width: u32, plane: u32) -> bool
     requires width { width ≤ SIDE_LIMIT }
     requires narrow { width ≤ W.limit }
@@ -31,17 +31,12 @@ fn same_plane<W: ColumnWords>(first: &Planes<W>, second: &Planes<W>, width: u32,
     ensures other { let here = first.now.words.items in
         IsSamePlane width first.now.height here second.now.words.items plane → result ≡ true }
 {
-    if first
-        .rows_of(plane)
-        .either(second.rows_of(plane))
-        .is_empty()
-    {
+    if first.has_same_plane(second, plane) {
         return true;
     }
-    if first.has_same_words(second, plane) {
-        return true;
-    }
-    for row in 0..first.height {
+    let marked = first.rows_of(plane).either(second.rows_of(plane));
+    let mut left = marked.both(Columns::below(first.height));
+    while let Some(row) = left.take_first() {
         if !same_row(first.row(plane, row), second.row(plane, row), width) {
             return false;
         }

@@ -6,8 +6,8 @@ use Rattle.ps_move.specs.Order.{IsInOrder}
 use Rattle.ps_move.specs.Parts.{IsStillBeside, IsStillOutside}
 use Rattle.ps_move.proofs.movement.slide.Given as goal
 
-abbrev pub invariant-loop-rows : goal.invariant-loop-rows
-invariant-loop-rows g l =
+abbrev pub invariant-loop-passes : goal.invariant-loop-passes
+invariant-loop-passes g l =
     record {
       order : IsInOrder (g.B.Board.grid l.fn.board) (g.B.Board.grid l.board) false (0, 0);
       some : 0 < l.passes;
@@ -21,5 +21,5 @@ invariant-loop-rows g l =
     }
 
 -- each pass but the last leaves fewer objects with a direction
-abbrev pub decreases-loop-rows : goal.decreases-loop-rows
-decreases-loop-rows g l = going_count (g.B.Board.grid l.board)
+abbrev pub decreases-loop-passes : goal.decreases-loop-passes
+decreases-loop-passes g l = going_count (g.B.Board.grid l.board)

@@ -24,8 +24,7 @@ loop-row-init g c =
     let mine : List Bool = row_of p.index.items plane in
     let theirs : List Bool = row_of o.index.items plane in
     let E : ℕ → Type 0 = λ long. (plane + 1) * p.height ≤ long in
-    let there : (plane + 1) * p.height ≤ o.words.len = subst E (sym c.requires.count) c.requires.plane in
-    (
+    let there : (plane + 1) * p.height ≤ o.words.len = subst E (sym c.requires.count) c.requires.plane in (
       0,
       omega arith,
       added_none p.height plane p.words.items o.words.items c.args.found.now.items c.either-marked.result c.below.result
@@ -69,8 +68,7 @@ loop-row-preserved-in-Continue-1 g c =
     (both_more p.height p.words.items o.words.items c.loop-row.found.items _ place refl under within long
     (p.sets place) (o.sets place) (c.unlike-columns.ensures ∙ ap₂ unlike_columns c.row.ensures there)
     (row_reached p.height c.args.plane p.words.items o.words.items c.loop-row.found.items c.loop-row.left
-    c.take_first.new.self c.loop-row.invariant.0 row c.in-Some.ensures.some was)) in
-    (
+    c.take_first.new.self c.loop-row.invariant.0 row c.in-Some.ensures.some was)) in (
       row + 1,
       omega (arith, under),
       added_on p.height c.args.plane p.words.items o.words.items c.loop-row.found.items c.loop-row.left
@@ -95,8 +93,7 @@ loop-row-preserved g c =
     let empty : c.is_empty.result ≡ true = search rules in
     let same : here ≡ other =
     same_set here other (p.sets place) (o.sets place)
-    (same_by_unlike here other (ap set_columns (sym unlike) ∙ c.is_empty.ensures.none empty)) in
-    (
+    (same_by_unlike here other (ap set_columns (sym unlike) ∙ c.is_empty.ensures.none empty)) in (
       row + 1,
       omega (arith, under),
       added_on p.height c.args.plane p.words.items o.words.items c.loop-row.found.items c.loop-row.left

@@ -1,4 +1,4 @@
-use Rattle.std.proofs.Common.{◌≡◌, ◌*◌, ◌≤◌, ℕ, length, ap, arith, subst, [], List}
+use Rattle.std.proofs.Common.{◌≡◌, ◌*◌, ◌≤◌, ℕ, length, arith, subst, [], List}
 use Rattle.ps_rows.specs.RowDifferences.{Difference, LeadBothWays}
 use Rattle.ps_rows.proofs.RowDifferences.{all_back, all_forth, both_none, both_planes}
 use Rattle.ps_rows.proofs.row_differences.differences.Goals as goal

@@ -1,21 +1,82 @@
-use Rattle.std.proofs.Common.{◌∙◌, sym, ap, ap₂, Bool, List}
-use Rattle.ps_rows.proofs.RowsDiffering.{neither_marked}
-use Rattle.ps_board.specs.ColumnSets.{column_at, either_columns, set_columns}
+use Rattle.std.proofs.Common.{◌≡◌, ◌+◌, ◌*◌, ◌<◌, ◌∙◌, ℕ, sym, ap, ap₂, refl, Bool, false, List}
+use Rattle.ps_board.specs.ColumnSets.{column_at, either_columns}
+use Rattle.ps_board.proofs.Taken.{below-init, below-more, passed-all, passed-init, passed-more, taken_below}
+use Rattle.ps_rows.specs.Planes.{row_of}
+use Rattle.ps_rows.specs.Sameness.{AreSameRows}
+use Rattle.ps_rows.proofs.RowsDiffering.{row_unmarked}
 use Rattle.ps_rows.proofs.Sets.{none_at}
 use Rattle.ps_rows.proofs.sameness.same_plane.Goals as goal
 
-pub returns-then-is_empty-clause-same : goal.returns-then-is_empty-clause-same
-returns-then-is_empty-clause-same g c = λ told row under x across.
+pub returns-then-has_same_plane-clause-same : goal.returns-then-has_same_plane-clause-same
+returns-then-has_same_plane-clause-same g c = λ told row under x across.
+    ap (λ (word : List Bool). column_at word x)
+    (c.has_same_plane.ensures c.if-has_same_plane.true row under (none_at row))
+
+pub loop-row-init : goal.loop-row-init
+loop-row-init g c =
     let p = c.args.first.now in
     let o = c.args.second.now in
-    ap (λ (word : List Bool). column_at word x)
-    (neither_marked p.index.len o.index.len p.height o.height c.args.plane p.words.len o.words.len p.words.items
-    o.words.items p.index.items o.index.items p.some_row p.rows c.requires.height p.whole o.whole
-    c.requires.first c.requires.second p.marked o.marked
-    (ap set_columns (sym (c.either.ensures ∙ ap₂ either_columns c.rows_of.ensures c.rows_of-2.ensures))
-    ∙ c.is_empty.ensures.none c.if-is_empty.true) row under (none_at row))
+    let plane : ℕ = c.args.plane in
+    let Same : ℕ → Type 0 = λ row. AreSameRows c.args.width (row_of p.words.items (plane * p.height + row))
+    (row_of o.words.items (plane * p.height + row)) in
+    record {
+      low = below-init c.either-marked.result c.below.result c.both-left.result p.height c.below.ensures
+          c.both-left.ensures;
+      passed = passed-init Same c.either-marked.result c.below.result c.both-left.result p.height p.rows c.below.ensures
+          c.both-left.ensures
+          (λ row under off x across.
+          let none : column_at (either_columns (row_of p.index.items plane) (row_of o.index.items plane)) row ≡ false =
+          ap (λ (word : List Bool). column_at word row)
+          (sym (c.either-marked.ensures ∙ ap₂ either_columns c.rows_of.ensures c.rows_of-2.ensures)) ∙ off in
+          ap (λ (word : List Bool). column_at word x)
+          (row_unmarked p.index.len o.index.len p.height o.height plane p.words.len o.words.len row p.words.items
+          o.words.items p.index.items o.index.items p.some_row p.rows c.requires.height
+          p.whole o.whole c.requires.first c.requires.second p.marked o.marked none under));
+    }
 
-pub returns-then-has_same_words-clause-same : goal.returns-then-has_same_words-clause-same
-returns-then-has_same_words-clause-same g c = λ told row under x across.
-    ap (λ (word : List Bool). column_at word x)
-    (c.has_same_words.ensures c.if-has_same_words.true row under (none_at row))
+pub row-requires-clause-row : goal.row-requires-clause-row
+row-requires-clause-row g c = taken_below c.loop-row.left c.take_first.new.self _ c.in-Some.row c.in-Some.ensures.some
+    c.loop-row.invariant.low
+
+pub row-requires-in-Some-clause-row : goal.row-requires-in-Some-clause-row
+row-requires-in-Some-clause-row g c =
+    rw c.requires.height (taken_below c.loop-row.left c.take_first.new.self _ c.in-Some.row c.in-Some.ensures.some
+    c.loop-row.invariant.low)
+
+pub returns-then-not-same_row-clause-other : goal.returns-then-not-same_row-clause-other
+returns-then-not-same_row-clause-other g c = λ same.
+    let p = c.args.first.now in
+    let o = c.args.second.now in
+    let row : ℕ = c.in-Some.row in
+    let under : row < p.height = taken_below c.loop-row.left c.take_first.new.self p.height row c.in-Some.ensures.some
+    c.loop-row.invariant.low in
+    let there : c.row-in-Some.result ≡ row_of o.words.items (c.args.plane * p.height + row) =
+    c.row-in-Some.ensures ∙ ap (λ (h : ℕ). row_of o.words.items (c.args.plane * h + row)) c.requires.height in
+    let told = c.same_row.ensures.other (rw (c.row.ensures, there) (same row under)) in
+    cc
+
+pub loop-row-preserved : goal.loop-row-preserved
+loop-row-preserved g c =
+    let p = c.args.first.now in
+    let o = c.args.second.now in
+    let row : ℕ = c.in-Some.row in
+    let was = c.loop-row.invariant in
+    let there : c.row-in-Some.result ≡ row_of o.words.items (c.args.plane * p.height + row) =
+    c.row-in-Some.ensures ∙ ap (λ (h : ℕ). row_of o.words.items (c.args.plane * h + row)) c.requires.height in
+    let Same : ℕ → Type 0 = λ row. AreSameRows c.args.width (row_of p.words.items (c.args.plane * p.height + row))
+    (row_of o.words.items (c.args.plane * p.height + row)) in
+    let same : Same row = rw (sym c.row.ensures, sym there) (c.same_row.ensures.same c.if-not-same_row.false) in
+    record {
+      low = below-more c.loop-row.left c.take_first.new.self p.height row c.in-Some.ensures.some was.low;
+      passed = passed-more Same c.loop-row.left c.take_first.new.self p.height row p.rows c.in-Some.ensures.some same
+          was.passed;
+    }
+
+pub returns-clause-same : goal.returns-clause-same
+returns-clause-same g c = λ told row under.
+    let p = c.args.first.now in
+    let o = c.args.second.now in
+    let Same : ℕ → Type 0 = λ row. AreSameRows c.args.width (row_of p.words.items (c.args.plane * p.height + row))
+    (row_of o.words.items (c.args.plane * p.height + row)) in
+    passed-all Same c.loop-row.left p.height row p.rows (c.in_default.ensures.none refl) c.loop-row.invariant.passed
+    under

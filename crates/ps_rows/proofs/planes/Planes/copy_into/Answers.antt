@@ -1,4 +1,4 @@
-use Rattle.std.proofs.Common.{◌≡◌, ◌+◌, ◌*◌, ◌<◌, ◌≤◌, ◌∙◌, ℕ, List, Bool, length, sym, ap, arith}
+use Rattle.std.proofs.Common.{◌*◌, ◌≤◌, ◌∙◌, ℕ, length, sym, ap, arith}
 use Rattle.ps_rows.proofs.PlaneCopies.{all_copied, planes_and_same, planes_then}
 use Rattle.ps_rows.proofs.planes.Planes.copy_into.Goals.{then-is_unmarked_plane, else-is_unmarked_plane}
 use Rattle.ps_rows.proofs.planes.Planes.copy_into.Goals as goal
@@ -9,29 +9,38 @@ loop-plane-preserved g c =
     let was = c.loop-plane.invariant in
     elim c.if-is_unmarked_plane.branch [
       | then-is_unmarked_plane w ↦ rw (w.first-is, w.other-is) (record {
-          order = omega arith;
-          copied = planes_and_same p.height c.loop-plane.first c.loop-plane.plane p.words.items
-              c.args.other.now.words.items c.loop-plane.other.words.items w.copy_planes.new.other.words.items was.order
-              (c.is_unmarked_plane.ensures w.if-is_unmarked_plane.true) was.copied w.copy_planes.ensures.words;
-          height = w.copy_planes.ensures.height;
-          count = w.copy_planes.ensures.count ∙ was.count;
-        })
+        order = omega arith;
+        copied = planes_and_same p.height c.loop-plane.first c.loop-plane.plane p.words.items
+            c.args.other.now.words.items c.loop-plane.other.words.items w.copy_planes.new.other.words.items was.order
+            (c.is_unmarked_plane.ensures w.if-is_unmarked_plane.true) was.copied w.copy_planes.ensures.words;
+        height = w.copy_planes.ensures.height;
+        count = w.copy_planes.ensures.count ∙ was.count;
+      })
       | else-is_unmarked_plane w ↦ rw (w.first-is, w.other-is) (record {
-          order = omega (arith, was.order);
-          copied = was.copied;
-          height = was.height;
-          count = was.count;
-        })
+        order = omega (arith, was.order);
+        copied = was.copied;
+        height = was.height;
+        count = was.count;
+      })
     ]
 
 pub returns-clause-words : goal.returns-clause-words
 returns-clause-words g c =
     let p = c.args.self.now in
     let was = c.loop-plane.invariant in
-    let order : c.loop-plane.first ≤ c.len.result = omega (arith, was.order, c.loop-plane.auto.plane-end, c.len.ensures,
-    c.len-plane-end.ensures) in
-    let whole : length p.words.items ≤ c.len.result * p.height = omega (arith, p.whole, p.words.ok.0,
-    ap (λ (n : ℕ). n * p.height) c.len.ensures) in
+    let order : c.loop-plane.first ≤ c.len.result = omega (
+      arith,
+      was.order,
+      c.loop-plane.auto.plane-end,
+      c.len.ensures,
+      c.len-plane-end.ensures,
+    ) in
+    let whole : length p.words.items ≤ c.len.result * p.height = omega (
+      arith,
+      p.whole,
+      p.words.ok.0,
+      ap (λ (n : ℕ). n * p.height) c.len.ensures,
+    ) in
     all_copied p.height c.len.result p.words.items c.args.other.now.words.items c.copy_planes-2.new.other.words.items
     p.some_row whole
     (sym c.copy_planes-2.new.other.words.ok.0 ∙ c.copy_planes-2.ensures.count ∙ was.count ∙ p.words.ok.0)

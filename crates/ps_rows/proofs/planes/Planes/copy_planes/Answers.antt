@@ -1,7 +1,7 @@
 use Rattle.std.proofs.Common.{◌≡◌, ◌+◌, ◌-◌, ◌*◌, ◌<◌, ◌≤◌, ℕ, Bool, List, length, refl, sym, subst, arith}
 use Rattle.std.specs.Vec.{with_items}
 use Rattle.std.proofs.lemmas.List.{with_items_is}
-use Rattle.ps_rows.specs.PlaneCopies.{AreCopied, ArePlanesOf}
+use Rattle.ps_rows.specs.PlaneCopies.{AreCopied}
 use Rattle.ps_rows.specs.RowIndex.{AreRowsMarked}
 use Rattle.ps_rows.proofs.Marked.{plane_indexed}
 use Rattle.ps_rows.proofs.PlaneCopies.{marked_planes, planes_copied, sets_planes}
@@ -80,7 +80,7 @@ invariant_of-other-clause-marked g c =
     c.requires.here one in
     let M : ℕ → Type 0 = λ h. AreRowsMarked o.index.len h o.words.items o.index.items in
     let Q : ℕ → Type 0 = λ h. AreRowsMarked o.index.len h (with_items o.words left).items
-        (with_items o.index mine).items in
+    (with_items o.index mine).items in
     subst Q (sym c.requires.height)
     (marked_planes p.index.len o.index.len p.height c.args.first c.args.end p.words.items o.words.items
     (with_items o.words left).items p.index.items o.index.items (with_items o.index mine).items within

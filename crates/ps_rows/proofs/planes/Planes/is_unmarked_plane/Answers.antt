@@ -1,7 +1,6 @@
-use Rattle.std.proofs.Common.{◌≡◌, ◌+◌, ◌*◌, ◌<◌, ◌≤◌, ◌∙◌, ℕ, List, Bool, length, sym, ap, ap₂, subst, arith}
+use Rattle.std.proofs.Common.{◌+◌, ◌*◌, ◌<◌, ◌≤◌, ◌∙◌, ℕ, length, sym, ap, ap₂, subst, arith}
 use Rattle.std.proofs.lemmas.List.{get_or_read}
 use Rattle.ps_board.specs.ColumnSets.{either_columns, no_columns, set_columns}
-use Rattle.ps_rows.specs.Planes.{row_of}
 use Rattle.ps_rows.proofs.Marked.{plane_indexed}
 use Rattle.ps_rows.proofs.RowsDiffering.{neither_marked}
 use Rattle.ps_rows.proofs.planes.Planes.is_unmarked_plane.Goals as goal

@@ -1,4 +1,4 @@
-use Rattle.std.proofs.Common.{◌≡◌, ℕ, ◌+◌, ◌<◌, Bool, List, length, sym, subst, arith}
+use Rattle.std.proofs.Common.{List, length, subst}
 use Rattle.ps_model.specs.declared.compiled.LayeredObject.{LayeredObject}
 use Rattle.ps_model.specs.board.Grid.{Grid}
 use Rattle.ps_program.specs.ProgramShown.{mask_shown}

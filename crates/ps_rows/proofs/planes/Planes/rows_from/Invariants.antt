@@ -2,7 +2,7 @@ use Rattle.std.proofs.Common.{◌≡◌, ◌<◌, ◌≤◌, ℕ, false}
 use Rattle.ps_model.specs.declared.limits.TheConstants.{SIDE_LIMIT}
 use Rattle.ps_board.specs.ColumnSets.{column_at}
 use Rattle.ps_rows.specs.Planes.{row_of}
-use Rattle.ps_rows.proofs.planes.Planes.is_unmarked_from.Given as goal
+use Rattle.ps_rows.proofs.planes.Planes.rows_from.Given as goal
 
 -- what a plane passed by has marked is in the set
 abbrev pub invariant-loop-plane : goal.invariant-loop-plane

@@ -1,12 +1,10 @@
-use Rattle.std.proofs.Common.{◌≡◌, ◌<◌, ◌∙◌, ℕ, inl, inr, Bool, false, List, sym, ap, arith, length}
+use Rattle.std.proofs.Common.{◌≡◌, ◌<◌, ◌∙◌, ℕ, inl, inr, Bool, List, sym, ap, arith, length}
 use Rattle.std.proofs.lemmas.Bool.{cases_lt, or_parts}
 use Rattle.std.proofs.lemmas.List.{get_or_read}
 use Rattle.ps_board.specs.ColumnSets.{column_at, no_columns}
-use Rattle.ps_board.proofs.ColumnLaws.{none_in}
 use Rattle.ps_rows.specs.Planes.{row_of}
-use Rattle.ps_rows.proofs.PlaneCopies.{unmarked_rest}
 use Rattle.ps_rows.proofs.Sets.{either_at}
-use Rattle.ps_rows.proofs.planes.Planes.is_unmarked_from.Goals as goal
+use Rattle.ps_rows.proofs.planes.Planes.rows_from.Goals as goal
 
 pub loop-plane-preserved : goal.loop-plane-preserved
 loop-plane-preserved g c = λ plane row from less low none.
@@ -28,10 +26,5 @@ loop-plane-preserved g c = λ plane row from less low none.
     ]
 
 pub returns : goal.returns
-returns g c = λ yes.
-    let p = c.args.self.now in
-    unmarked_rest p.index.len p.height c.args.first p.words.items p.index.items p.rows p.marked
-    (λ plane row from less low.
-    c.loop-plane.invariant plane row from
-    (omega (arith, less, c.loop-plane-test.false, c.len-plane-end.ensures)) low
-    (none_in c.loop-plane.marked row (c.is_empty.ensures.none yes) low))
+returns g c = λ plane row from less low none.
+    c.loop-plane.invariant plane row from (omega (arith, less, c.loop-plane-test.false, c.len-plane-end.ensures)) low none
