@@ -104,7 +104,8 @@ pub planes_copied : (height first end : ℕ) (source before after : List (List B
     AreCopied (first * height) (end * height) source before after → ArePlanesOf height first end source before after
 planes_copied height first end source before after copied =
     record {
-      below = λ plane row under less. copied.below (plane * height + row) (before_plane height plane first row under less);
+      below = λ plane row under less.
+          copied.below (plane * height + row) (before_plane height plane first row under less);
       behind = λ plane row under more.
           let past : end * height ≤ plane * height = behind_plane height end plane more in
           copied.behind (plane * height + row) (omega (arith, past));

@@ -1,6 +1,6 @@
 -- The differences of a plane, of which those of the rows of a set are added, the least row first.
-use Rattle.std.proofs.Common.{◌≡◌, ◌∙◌, ℕ, ◌+◌, ◌*◌, ◌-◌, ◌<◌, ◌≤◌, ◌&&◌, ◌||◌, inl, inr, Bool, true, false, List, [], ◌∷◌}
-use Rattle.std.proofs.Common.{sym, ap, arith}
+use Rattle.std.proofs.Common.{◌≡◌, ◌∙◌, ℕ, ◌+◌, ◌*◌, ◌-◌, ◌<◌, ◌≤◌, ◌&&◌, ◌||◌, inl, inr, Bool, true, false, List, []}
+use Rattle.std.proofs.Common.{◌∷◌, sym, ap, arith}
 use Rattle.std.specs.Prelude.{nat_eq}
 use Rattle.std.proofs.Math.Bool.{and-true}
 use Rattle.std.proofs.lemmas.Bool.{cases_eq, cases_lt, lt-ltb, ne_eqb, or_parts}
@@ -51,7 +51,8 @@ module _ (height plane : ℕ) (first second : List (List Bool)) (differences : L
         same = λ row from under out.
             others row under
             (sym (in_both set below left height row b e (omega (arith, under, short))
-            ∙ ap (λ (t : Bool). column_at set row && t) (lt-ltb row height under) ∙ and-true (column_at set row)) ∙ out);
+            ∙ ap (λ (t : Bool). column_at set row && t) (lt-ltb row height under) ∙ and-true (column_at set row))
+            ∙ out);
         added = same_up_to 0 0 (omega arith) (λ y low high. absurd (omega (arith, high)))
             (rw (let start : plane * height + 0 ≡ plane * height = omega arith in start) lead);
       }

@@ -105,7 +105,8 @@ blank_cell height words cell plane blank =
 -- so that it has none of five motions
 pub at_rest_there : (height : ℕ) (words : List (List Bool)) (cell first : ℕ) →
     ((plane : ℕ) → first ≤ plane → plane ≤ first + 4 →
-    row_of words (plane * height + cell % height) ≡ no_columns) → Still ≡ first_motion (has_cell height words cell) first
+    row_of words (plane * height + cell % height) ≡ no_columns) →
+    Still ≡ first_motion (has_cell height words cell) first
 unfolding first_motion
 at_rest_there height words cell first blank =
     let up = blank_cell height words cell first (blank first (omega arith) (omega arith)) in

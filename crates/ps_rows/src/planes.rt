@@ -271,8 +271,8 @@ impl<W: ColumnWords> Planes<W> {
         self.index[plane] = Columns::none();
     }
 
-    /// The rows that are marked in one of the planes from that one on. All of them are looked at in one go, without a test
-    /// for each.
+    /// The rows that are marked in one of the planes from that one on. All of these are looked at in one go, without a
+    /// test for each.
     pub fn rows_from(&self, first: u32) -> Columns<W>
         ensures { let p = self.now in (plane row : ℕ) → first ≤ plane → plane < vec_len p.index → row < SIDE_LIMIT →
             column_at result row ≡ false → column_at (row_of p.index.items plane) row ≡ false }
@@ -320,8 +320,8 @@ impl<W: ColumnWords> Planes<W> {
         copy_sets(self.index.as_slice(), first, end, index);
     }
 
-    /// Makes other planes, as many of the same height, the same. Those without columns on both sides are passed over, and
-    /// those between two such ones are copied in one go.
+    /// Makes other planes, as many of the same height, the same. Those without columns on both sides are passed over,
+    /// and those between two such ones are copied in one go.
     pub fn copy_into(&self, other: &mut Planes<W>)
         requires height { other.old.height ≡ self.now.height }
         requires count { vec_len other.old.words ≡ vec_len self.now.words }

@@ -44,8 +44,8 @@ pub fn change_rows<W: ColumnWords>(planes: &mut Planes<W>, rows: &[RowDifference
     }
 }
 
-/// Adds the rows in which a plane differs, where the planes before it have been added. Those that neither side has marked
-/// aren't read.
+/// Adds the rows in which a plane differs, where the planes before it have been added. Those that neither side has
+/// marked aren't read.
 fn add_differences<W: ColumnWords>(
     first: &Planes<W>,
     second: &Planes<W>,

@@ -21,7 +21,8 @@ returns-clause-forth g c =
     let long : length o.words.items ≡ length p.words.items =
     omega (arith, c.requires.count, p.words.ok.0, o.words.ok.0) in
     all_forth p.height (c.args.planes * p.height) p.words.items o.words.items c.loop-plane.found.items reached long
-    (both_planes p.height c.loop-plane.plane c.args.planes p.words.items o.words.items c.loop-plane.found.items p.some_row
+    (both_planes p.height c.loop-plane.plane c.args.planes p.words.items o.words.items c.loop-plane.found.items
+    p.some_row
     (omega (arith, all, c.planes_marked-marked.ensures.few))
     (λ plane from below. c.planes_marked-marked.ensures.same plane (omega (arith, all, from)) below)
     c.loop-plane.invariant)
@@ -36,7 +37,8 @@ returns-clause-back g c =
     let long : length o.words.items ≡ length p.words.items =
     omega (arith, c.requires.count, p.words.ok.0, o.words.ok.0) in
     all_back p.height (c.args.planes * p.height) p.words.items o.words.items c.loop-plane.found.items reached long
-    (both_planes p.height c.loop-plane.plane c.args.planes p.words.items o.words.items c.loop-plane.found.items p.some_row
+    (both_planes p.height c.loop-plane.plane c.args.planes p.words.items o.words.items c.loop-plane.found.items
+    p.some_row
     (omega (arith, all, c.planes_marked-marked.ensures.few))
     (λ plane from below. c.planes_marked-marked.ensures.same plane (omega (arith, all, from)) below)
     c.loop-plane.invariant)

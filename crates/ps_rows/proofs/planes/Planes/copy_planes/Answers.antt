@@ -59,7 +59,8 @@ invariant_of-other-clause-marked g c =
     let left : List (List Bool) = c.copy_sets.new.others in
     let mine : List (List Bool) = c.copy_sets-2.new.others in
     let long : length left ≡ o.words.len = omega (arith, c.copy_sets.ensures.long, c.as_mut_slice-words.ensures.len) in
-    let high : length mine ≡ o.index.len = omega (arith, c.copy_sets-2.ensures.long, c.as_mut_slice-index.ensures.len) in
+    let high : length mine ≡ o.index.len =
+    omega (arith, c.copy_sets-2.ensures.long, c.as_mut_slice-index.ensures.len) in
     let start : ℕ = c.args.first * p.height in
     let end : ℕ = c.args.end * p.height in
     let A : List (List Bool) → Type 0 = λ ws. AreCopied start end ws c.as_mut_slice-words.result.now left in

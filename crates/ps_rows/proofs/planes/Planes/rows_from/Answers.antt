@@ -10,7 +10,8 @@ pub loop-plane-preserved : goal.loop-plane-preserved
 loop-plane-preserved g c = λ plane row from less low none.
     let p = c.args.self.now in
     let at : ℕ = c.loop-plane.plane in
-    let own : at < length p.index.items = omega (arith, c.loop-plane-test.true, c.len-plane-end.ensures, p.index.ok.0) in
+    let own : at < length p.index.items =
+    omega (arith, c.loop-plane-test.true, c.len-plane-end.ensures, p.index.ok.0) in
     let is : c.index.result.now ≡ row_of p.index.items at = get_or_read p.index.items _ _ own c.index.ensures no_columns
     in
     let parts =
@@ -27,4 +28,5 @@ loop-plane-preserved g c = λ plane row from less low none.
 
 pub returns : goal.returns
 returns g c = λ plane row from less low none.
-    c.loop-plane.invariant plane row from (omega (arith, less, c.loop-plane-test.false, c.len-plane-end.ensures)) low none
+    c.loop-plane.invariant plane row from (omega (arith, less, c.loop-plane-test.false, c.len-plane-end.ensures)) low
+    none
