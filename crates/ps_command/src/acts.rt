@@ -1,6 +1,6 @@
 //! What is done for a command line.
 
-ghost use Rattle.std.specs.Prelude.{◌≡◌, ◌+◌, ◌≤◌, false, IfOk, OnOk, length};
+ghost use Rattle.std.specs.Prelude.{◌≡◌, ◌+◌, ◌<◌, ◌≤◌, false, IfOk, IfSome, OnOk, length};
 
 use crate::command::{Asked, read_command};
 use crate::details::{Detail, show_detail};
@@ -75,11 +75,13 @@ fn check_text<R: Files + AllocGlobal, I: ByteReader, O: ByteWriter>(
     Err(Stop::NotAccepted)
 }
 
-/// Of how many files it was said that their text is a game, and of how many others what else was said.
+/// Of how many files it was said on the screen that their text is a game, of how many which fault it has, and of how
+/// many, on standard error, that they can't be read.
 #[derive(Clone, Copy)]
 struct Said {
     games: usize,
-    others: usize,
+    faulty: usize,
+    unread: usize,
 }
 
 /// Says of each of several files on the screen whether its text is a game. It is well where all are.
@@ -94,7 +96,7 @@ fn check_texts<R: Files + AllocGlobal + Eprint, I: ByteReader, O: ByteWriter>(
     requires well { (O.state screen.old).has_failed ≡ false }
 {
     let said = check_each(rt, paths, detail, input, screen)?;
-    if said.others == 0 {
+    if said.faulty == 0 && said.unread == 0 {
         Ok(())
     } else {
         Err(Stop::NotAccepted)
@@ -112,43 +114,57 @@ fn check_each<R: Files + AllocGlobal + Eprint, I: ByteReader, O: ByteWriter>(
 ) -> Result<Said, Stop>
     requires heard { (I.state input.old).has_failed ≡ false }
     requires well { (O.state screen.old).has_failed ≡ false }
-    ensures { IfOk result (λ said. said.games + said.others ≡ length paths.now) }
+    ensures each { IfOk result (λ said. said.games + (said.faulty + said.unread) ≡ length paths.now) }
+    ensures written { IfOk result (λ said.
+        (O.state screen.old).calls + (said.games + said.faulty) ≤ (O.state screen.new).calls) }
 {
     let mut games = 0;
-    let mut others = 0;
+    let mut faulty = 0;
+    let mut unread = 0;
     for path in paths {
-        if check_one(rt, *path, detail, input, screen)? {
-            games += 1;
-        } else {
-            others += 1;
+        match check_one(rt, *path, detail, input, screen)? {
+            Some(true) => games += 1,
+            Some(false) => faulty += 1,
+            None => unread += 1,
         }
     }
-    Ok(Said { games, others })
+    Ok(Said {
+        games,
+        faulty,
+        unread,
+    })
 }
 
-/// Says of one of several files whether its text is a game, and answers that. A file that can't be read is told of on
-/// standard error, and holds none; standard input that can't be read ends the check.
+/// Says of one of several files on the screen whether its text is a game, and answers that. Nothing is answered of a
+/// file that can't be read, which is told of on standard error; standard input that can't be read ends the check.
 fn check_one<R: Files + AllocGlobal + Eprint, I: ByteReader, O: ByteWriter>(
     rt: &R,
     path: &str,
     detail: Detail,
     input: &mut I,
     screen: &mut O,
-) -> Result<bool, Stop>
+) -> Result<Option<bool>, Stop>
     requires heard { (I.state input.old).has_failed ≡ false }
     requires well { (O.state screen.old).has_failed ≡ false }
     ensures heard { OnOk result ((I.state input.new).has_failed ≡ false) }
     ensures well { OnOk result ((O.state screen.new).has_failed ≡ false) }
+    ensures on { OnOk result ((O.state screen.old).calls ≤ (O.state screen.new).calls) }
+    ensures written { IfOk result (λ said. IfSome said (λ _.
+        (O.state screen.old).calls < (O.state screen.new).calls)) }
 {
     if path == STANDARD_INPUT {
         let text = read_input(rt.alloc(), input)?;
-        return check_bytes(rt.alloc(), path, &text, detail, screen);
+        let accepted = check_bytes(rt.alloc(), path, &text, detail, screen)?;
+        return Ok(Some(accepted));
     }
     match read_game_file(rt, path) {
-        Ok(text) => check_bytes(rt.alloc(), path, &text, detail, screen),
+        Ok(text) => {
+            let accepted = check_bytes(rt.alloc(), path, &text, detail, screen)?;
+            Ok(Some(accepted))
+        }
         Err(error) => {
             tell_unread(rt, path, error)?;
-            Ok(false)
+            Ok(None)
         }
     }
 }
@@ -163,6 +179,7 @@ fn check_bytes<O: ByteWriter>(
 ) -> Result<bool, Stop>
     requires well { (O.state screen.old).has_failed ≡ false }
     ensures well { OnOk result ((O.state screen.new).has_failed ≡ false) }
+    ensures written { OnOk result ((O.state screen.old).calls < (O.state screen.new).calls) }
 {
     if check_named(alloc, path, text, screen)? {
         return Ok(true);

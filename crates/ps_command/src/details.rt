@@ -1,6 +1,6 @@
 //! What is to be mended of a text that is no game, shown below the line of a check.
 
-ghost use Rattle.std.specs.Prelude.{◌≡◌, false, OnOk};
+ghost use Rattle.std.specs.Prelude.{◌≡◌, ◌≤◌, false, OnOk};
 
 use crate::explanations::sentence_of;
 use crate::stops::Stop;
@@ -43,6 +43,7 @@ pub fn show_detail<O: ByteWriter>(
 ) -> Result<(), Stop>
     requires well { (O.state screen.old).has_failed ≡ false }
     ensures well { OnOk result ((O.state screen.new).has_failed ≡ false) }
+    ensures on { OnOk result ((O.state screen.old).calls ≤ (O.state screen.new).calls) }
 {
     if detail == Detail::Line {
         return Ok(());

@@ -1,11 +1,13 @@
-use Rattle.std.proofs.Common.{◌≡◌, ◌+◌, false}
+use Rattle.std.proofs.Common.{◌≡◌, ◌+◌, ◌≤◌, false}
 use Rattle.ps_command.proofs.acts.check_each.Given as goal
 
--- something was said of each of the files passed by
+-- something was said of each of the files passed by, and on the screen of those that could be read
 abbrev pub invariant-loop-path : goal.invariant-loop-path
 invariant-loop-path g l =
     record {
       heard : (g.I.ByteReader.state l.input).has_failed ≡ false;
       well : (g.O.ByteWriter.state l.screen).has_failed ≡ false;
-      said : l.games + l.others ≡ l.path-index;
+      each : l.games + (l.faulty + l.unread) ≡ l.path-index;
+      written : (g.O.ByteWriter.state l.initial.screen).calls + (l.games + l.faulty)
+          ≤ (g.O.ByteWriter.state l.screen).calls;
     }
