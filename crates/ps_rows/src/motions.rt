@@ -13,14 +13,15 @@ pub fn motion_plane(first: u32, motion: Motion) -> Option<u32>
     requires { first + 4 < 2 ^ 32 }
     ensures { result ≡ motion_plane first motion }
 {
-    match motion {
-        Motion::Still => None,
-        Motion::Going(Direction::Up) => Some(first),
-        Motion::Going(Direction::Down) => Some(first + 1),
-        Motion::Going(Direction::Left) => Some(first + 2),
-        Motion::Going(Direction::Right) => Some(first + 3),
-        Motion::Acting => Some(first + 4),
-    }
+    let behind = match motion {
+        Motion::Still => return None,
+        Motion::Going(Direction::Up) => 0,
+        Motion::Going(Direction::Down) => 1,
+        Motion::Going(Direction::Left) => 2,
+        Motion::Going(Direction::Right) => 3,
+        Motion::Acting => 4,
+    };
+    Some(first + behind)
 }
 
 /// The first motion whose plane has a cell. No plane is read where the row is known to have no motion.
