@@ -2,7 +2,7 @@
 
 ghost use Rattle.std.specs.Prelude.{◌≡◌, ◌<◌, false, true};
 ghost use Rattle.ps_places.specs.Candidates.{BeginsOnlyOn, FitsOnlyOn};
-ghost use Rattle.ps_places.specs.CellCandidates.{HasCellOnlyOn};
+ghost use Rattle.ps_program.specs.declared.rows.Axis.TheVariants.{Down, Right};
 
 use ps_match::{Columns, Scan, recall_shape};
 use ps_model::SIDE_LIMIT;
@@ -29,22 +29,25 @@ fn rows_of_mask<B: Scan>(board: &B, mask: &CellMask) -> Columns<B::Words>
     rows
 }
 
-/// The rows of the board on which a part may have its first cell, as far as the cell tells that lies so many steps
-/// behind it.
-fn rows_of_cell<B: Scan>(board: &B, axis: Axis, mask: &CellMask, steps: u32) -> Columns<B::Words>
-    ensures { HasCellOnlyOn (B.grid board.now) mask.now axis steps result }
+/// The rows of the board on which a part that goes right may have its first cell.
+fn rows_across<B: Scan>(board: &B, part: &[CompiledCell]) -> Columns<B::Words>
+    ensures { BeginsOnlyOn (B.grid board.now) (B.table board.now) Right part.now result }
 {
     recall_shape(board);
-    let rows = rows_of_mask(board, mask);
-    match axis {
-        Axis::Down => rows.behind(steps),
-        Axis::Right => rows,
+    let mut rows = Columns::all();
+    for cell in part {
+        if rows.is_empty() {
+            return rows;
+        }
+        rows = rows.both(rows_of_mask(board, &cell.mask));
     }
+    rows
 }
 
-/// The rows of the board on which a part may have its first cell.
-pub fn rows_of_part<B: Scan>(board: &B, axis: Axis, part: &[CompiledCell]) -> Columns<B::Words>
-    ensures { BeginsOnlyOn (B.grid board.now) (B.table board.now) axis part.now result }
+/// The rows of the board on which a part that goes down may have its first cell: each cell tells it by the rows that lie
+/// so many steps above those that may fit it.
+fn rows_down<B: Scan>(board: &B, part: &[CompiledCell]) -> Columns<B::Words>
+    ensures { BeginsOnlyOn (B.grid board.now) (B.table board.now) Down part.now result }
 {
     recall_shape(board);
     let mut rows = Columns::all();
@@ -56,8 +59,18 @@ pub fn rows_of_part<B: Scan>(board: &B, axis: Axis, part: &[CompiledCell]) -> Co
         if SIDE_LIMIT <= steps {
             return rows;
         }
-        rows = rows.both(rows_of_cell(board, axis, &cell.mask, steps));
+        rows = rows.both(rows_of_mask(board, &cell.mask).behind(steps));
         steps += 1;
     }
     rows
+}
+
+/// The rows of the board on which a part may have its first cell.
+pub fn rows_of_part<B: Scan>(board: &B, axis: Axis, part: &[CompiledCell]) -> Columns<B::Words>
+    ensures { BeginsOnlyOn (B.grid board.now) (B.table board.now) axis part.now result }
+{
+    match axis {
+        Axis::Down => rows_down(board, part),
+        Axis::Right => rows_across(board, part),
+    }
 }

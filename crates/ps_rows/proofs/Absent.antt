@@ -21,7 +21,7 @@ use Rattle.ps_rows.specs.RowTests.{IsRowOf, IsWithin, held, held_all}
 use Rattle.ps_rows.specs.Showing.{cells_shown, grid_shown, AreObjectsShown}
 use Rattle.ps_rows.proofs.Sets.{none_at}
 use Rattle.ps_rows.proofs.Rests.{cells_long}
-use Rattle.ps_rows.proofs.Scans.{own_row}
+use Rattle.ps_rows.proofs.Scans.{other_row, own_row}
 use Rattle.ps_model.specs.declared.limits.TheConstants.{SIDE_LIMIT}
 use Rattle.ps_rows.specs.Planes.{row_of}
 use Rattle.ps_board.proofs.ColumnLaws.{none_in}
@@ -76,6 +76,26 @@ not_marked table width height layers words index count row object some narrow un
     slice_get_within table (object.object).0 layer (is_number-true (slice_get table (object.object).0) layer parts.1) in
     own_row table width height layers words row some narrow under object no_columns shown both
     (sym (marked (object.object).0 row (omega arith) under clear))
+
+-- whether it is one of the objects of that layer or not
+pub not_marked_there : (table : List ℕ) (width height layers : ℕ) (words index : List (List Bool)) (count row : ℕ)
+    (object : LayeredObject) (own : Bool) → 0 < height → width ≤ SIDE_LIMIT → row < height →
+    AreObjectsShown table height words (width * height) → length table ≤ count →
+    AreRowsMarked count height words index →
+    (nat_lt (object.layer).0 layers && is_number (slice_get table (object.object).0) (object.layer).0) ≡ own →
+    ((object.object).0 < length table → column_at (row_of index (object.object).0) row ≡ false) →
+    IsRowOf (grid_shown table width height layers words) row no_columns (held object)
+not_marked_there table width height layers words index count row object true some narrow under shown counted marked is
+    clear =
+    let layer : ℕ = (object.layer).0 in
+    let parts = and_parts (nat_lt layer layers) (is_number (slice_get table (object.object).0) layer) is in
+    let below : (object.object).0 < length table =
+    slice_get_within table (object.object).0 layer (is_number-true (slice_get table (object.object).0) layer parts.1) in
+    not_marked table width height layers words index count row object some narrow under shown counted marked is
+    (clear below)
+not_marked_there table width height layers words index count row object false some narrow under shown counted marked is
+    clear =
+    other_row table width height layers words row some narrow under object is
 
 -- on a row where what a mask needs is nowhere, nothing fits it
 pub mask_nowhere : (g : Grid) (row : ℕ) (needed : List Bool) (mask : CellMask) → g.width ≤ SIDE_LIMIT →

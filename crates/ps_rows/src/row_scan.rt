@@ -31,16 +31,17 @@ impl<W: ColumnWords> Scan for RowBoard<W> {
         self.mask_rows(mask, first, found);
     }
 
+    /// Whether the object's plane has no row in the index, on whatever layer it is asked for.
     fn lacks(&self, object: &LayeredObject) -> bool {
-        if !self.is_on(object.object.0, object.layer.0) {
+        if self.objects() <= object.object.0 {
             return true;
         }
         self.rows_of(object.object.0).is_empty()
     }
 
-    /// The rows that have it, by the index.
+    /// The rows that have it on whatever layer, by the index; none, where no object has that number.
     fn rows_with(&self, object: &LayeredObject) -> Columns<W> {
-        if !self.is_on(object.object.0, object.layer.0) {
+        if self.objects() <= object.object.0 {
             return Columns::none();
         }
         self.rows_of(object.object.0)
