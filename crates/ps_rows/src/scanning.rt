@@ -137,6 +137,9 @@ impl<W: ColumnWords> RowBoard<W> {
         ensures within { let g = ⟦<RowBoard<W> as Board>⟧.grid self.now in IsWithin g columns → IsWithin g result }
         ensures set { IsSet result }
     {
+        if columns.is_empty() {
+            return Columns::none();
+        }
         let listed = self.lists_row(mask.one_of.as_slice(), row);
         let moving = self.motions_row(mask.motions.as_slice(), row);
         columns.both(listed).both(moving)
