@@ -129,6 +129,20 @@ planes_then height first end source before between after order was more =
       ];
     }
 
+-- and then others that were the same before
+pub planes_and_rest : (height marked count : ℕ) (source before after : List (List Bool)) → marked ≤ count →
+    ((plane : ℕ) → marked ≤ plane → plane < count → DifferOnlyOnRows height plane source before no_columns) →
+    ArePlanesOf height 0 marked source before after → ArePlanesOf height 0 count source before after
+planes_and_rest height marked count source before after order same was =
+    record {
+      below = λ plane row under less. absurd (omega (arith, less));
+      behind = λ plane row under past. was.behind plane row under (omega (arith, past, order));
+      copied = λ plane row under from less. elim (cases_lt plane marked) [
+        | inl early ↦ was.copied plane row under from early
+        | inr late ↦ was.behind plane row under late ∙ sym (same plane late less row under (none_at row))
+      ];
+    }
+
 -- and then one that was the same before
 pub planes_and_same : (height first plane : ℕ) (source before between after : List (List Bool)) → first ≤ plane →
     DifferOnlyOnRows height plane source between no_columns → ArePlanesOf height 0 first source before between →

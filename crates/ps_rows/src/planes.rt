@@ -329,14 +329,15 @@ impl<W: ColumnWords> Planes<W> {
         ensures height { other.new.height ≡ self.now.height }
         ensures count { vec_len other.new.words ≡ vec_len self.now.words }
     {
+        let marked = self.planes_marked(other, self.index.len());
         let mut first = 0;
-        for plane in 0..self.index.len() {
+        for plane in 0..marked {
             if self.is_unmarked_plane(other, plane) {
                 self.copy_planes(other, first, plane);
                 first = plane + 1;
             }
         }
-        self.copy_planes(other, first, self.index.len());
+        self.copy_planes(other, first, marked);
     }
 
     /// Makes rows of a plane of others the same, those in a set that are marked on either side.
@@ -418,7 +419,7 @@ impl<W: ColumnWords> Planes<W> {
 
     /// How many of so many planes, the first ones, there are up to the last that has a marked row, here or on others of
     /// the same height.
-    pub fn planes_marked(&self, other: &Planes<W>, planes: u32) -> u32
+    pub fn planes_marked(&self, other: &Planes<W>, planes: usize) -> usize
         requires height { other.now.height ≡ self.now.height }
         requires here { planes * self.now.height ≤ vec_len self.now.words }
         requires there { planes * self.now.height ≤ vec_len other.now.words }
@@ -427,7 +428,7 @@ impl<W: ColumnWords> Planes<W> {
             DifferOnlyOnRows self.now.height plane self.now.words.items other.now.words.items no_columns }
     {
         let mut count = planes;
-        while 0 < count && self.is_unmarked_plane(other, count as usize - 1) {
+        while 0 < count && self.is_unmarked_plane(other, count - 1) {
             count -= 1;
         }
         count

@@ -99,9 +99,9 @@ pub fn differences<W: ColumnWords>(
         rows_changed first.now.height second.now.words.items rows.items ≡ first.now.words.items)) }
 {
     let mut found = Vec::new(alloc);
-    let marked = first.planes_marked(second, planes);
+    let marked = first.planes_marked(second, planes as usize);
     for plane in 0..marked {
-        add_differences(first, second, plane, &mut found)?;
+        add_differences(first, second, plane as u32, &mut found)?;
         if found.len() > first.words.len() / 2 {
             return Ok(None);
         }

@@ -1,5 +1,5 @@
-use Rattle.std.proofs.Common.{◌*◌, ◌≤◌, ◌∙◌, ℕ, length, sym, ap, arith}
-use Rattle.ps_rows.proofs.PlaneCopies.{all_copied, planes_and_same, planes_then}
+use Rattle.std.proofs.Common.{◌*◌, ◌≤◌, ◌∙◌, ℕ, length, sym, arith}
+use Rattle.ps_rows.proofs.PlaneCopies.{all_copied, planes_and_rest, planes_and_same, planes_then}
 use Rattle.ps_rows.proofs.planes.Planes.copy_into.Goals.{then-is_unmarked_plane, else-is_unmarked_plane}
 use Rattle.ps_rows.proofs.planes.Planes.copy_into.Goals as goal
 
@@ -28,21 +28,16 @@ pub returns-clause-words : goal.returns-clause-words
 returns-clause-words g c =
     let p = c.args.self.now in
     let was = c.loop-plane.invariant in
-    let order : c.loop-plane.first ≤ c.len.result = omega (
-      arith,
-      was.order,
-      c.loop-plane.auto.plane-end,
-      c.len.ensures,
-      c.len-plane-end.ensures,
-    ) in
-    let whole : length p.words.items ≤ c.len.result * p.height = omega (
-      arith,
-      p.whole,
-      p.words.ok.0,
-      ap (λ (n : ℕ). n * p.height) c.len.ensures,
-    ) in
-    all_copied p.height c.len.result p.words.items c.args.other.now.words.items c.copy_planes-2.new.other.words.items
+    let marked : ℕ = c.planes_marked-marked.result in
+    let order : c.loop-plane.first ≤ marked = omega (arith, was.order, c.loop-plane.auto.plane-end) in
+    let whole : length p.words.items ≤ p.index.len * p.height = omega (arith, p.whole, p.words.ok.0) in
+    all_copied p.height p.index.len p.words.items c.args.other.now.words.items c.copy_planes-2.new.other.words.items
     p.some_row whole
     (sym c.copy_planes-2.new.other.words.ok.0 ∙ c.copy_planes-2.ensures.count ∙ was.count ∙ p.words.ok.0)
-    (planes_then p.height c.loop-plane.first c.len.result p.words.items c.args.other.now.words.items
-    c.loop-plane.other.words.items c.copy_planes-2.new.other.words.items order was.copied c.copy_planes-2.ensures.words)
+    (planes_and_rest p.height marked p.index.len p.words.items c.args.other.now.words.items
+    c.copy_planes-2.new.other.words.items (omega (arith, c.planes_marked-marked.ensures.few, c.len.ensures))
+    (λ plane from below.
+    c.planes_marked-marked.ensures.same plane from (omega (arith, below, c.len.ensures)))
+    (planes_then p.height c.loop-plane.first marked p.words.items c.args.other.now.words.items
+    c.loop-plane.other.words.items c.copy_planes-2.new.other.words.items order was.copied
+    c.copy_planes-2.ensures.words))
