@@ -44,8 +44,8 @@ fn rows_across<B: Scan>(board: &B, part: &[CompiledCell]) -> Columns<B::Words>
     rows
 }
 
-/// The rows of the board on which a part that goes down may have its first cell: each cell tells it by the rows that lie
-/// so many steps above those that may fit it.
+/// The rows of the board on which a part that goes down may have its first cell: each cell tells it by the rows that
+/// lie so many steps above those that may fit it.
 fn rows_down<B: Scan>(board: &B, part: &[CompiledCell]) -> Columns<B::Words>
     ensures { BeginsOnlyOn (B.grid board.now) (B.table board.now) Down part.now result }
 {
