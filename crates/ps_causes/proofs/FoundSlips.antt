@@ -139,10 +139,6 @@ told-unbound text line words at times could d within each texts right left_open 
   true_could = true_could;
 }
 
--- what stands behind a place up to the end
-pub up_to_end : {A : Type 0} (xs : List A) (k : ℕ) → take (length xs - k) (drop k xs) ≡ drop k xs
-up_to_end xs k = grind (arith, common_steps)
-
 -- an arrow at a place of a line
 pub told-arrow : (text : List ℕ) (line : ℕ) (words : List Word) (at : ℕ) (d : Word) → at < length words →
     All (IsWordOf text line) words → map text_of words ≡ texts_of text line →

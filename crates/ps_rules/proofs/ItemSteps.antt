@@ -1,7 +1,7 @@
 -- One item, or one object, more of those in which something is looked for twice.
 use Rattle.std.proofs.Common.{◌≡◌, ◌∙◌, ℕ, ◌+◌, ◌<◌, Bool, true, false, ◌||◌, List, [], ◌∷◌, ◌++◌, length, drop, get_or}
-use Rattle.std.proofs.Common.{Option, None, Some, refl, sym, ap, add-one}
-use Rattle.std.specs.List.{flat_map, filter_map, cons_option}
+use Rattle.std.proofs.Common.{refl, sym, ap, add-one}
+use Rattle.std.specs.List.{flat_map, filter_map}
 use Rattle.std.specs.Option.{option_to_list}
 use Rattle.std.proofs.lemmas.List.{map-append}
 use Rattle.std.proofs.lemmas.List.Concat.{flat_map-cons}
@@ -10,6 +10,7 @@ use Rattle.ps_model.specs.rules.RuleNameFaults.{objects_named, property_named}
 use Rattle.ps_rules.specs.declared.tree.Item.{Item}
 use Rattle.ps_rules.specs.RulesShown.{item_shown, items_shown}
 use Rattle.ps_rules.specs.Twice.{twice_behind, object_numbers}
+use Rattle.ps_names.proofs.common.Loops.{option-first}
 use Rattle.ps_rules.proofs.Loops.{drop-at, drop-from}
 
 -- the numbers of the objects that the items from a place on name
@@ -23,11 +24,6 @@ objects-from items k item less e =
     ∙ ap object_numbers (flat_map-cons objects_named (item_shown item) (items_shown (drop (k + 1) items)))
     ∙ map-append (λ (object : ObjectId). object.0) (objects_named (item_shown item))
     (flat_map objects_named (items_shown (drop (k + 1) items)))
-
-option-first : {A : Type 0} (first : Option A) (others : List A) →
-    cons_option first others ≡ option_to_list first ++ others
-option-first None others = refl
-option-first (Some first) others = refl
 
 -- the lines of the properties that the items from a place on name
 pub properties-from : (items : List Item) (k : ℕ) (item : Item) → k < length items → item ≡ get_or items k item →

@@ -1,6 +1,5 @@
 -- The end of a loop over a list.
-use Rattle.std.proofs.Common.{◌≡◌, ℕ, suc, ◌+◌, ◌≤◌, ◌<◌, List, [], ◌∷◌, ◌++◌, length, drop, get_or, sym, ap, ◌∙◌}
-use Rattle.std.proofs.Common.{append_assoc, add-one}
+use Rattle.std.proofs.Common.{◌≡◌, ℕ, suc, ◌≤◌, ◌<◌, List, [], ◌∷◌, ◌++◌, length, drop, get_or, sym, ap, ◌∙◌}
 use Rattle.std.proofs.Math.Seq.{drop-cons}
 use Rattle.std.proofs.lemmas.List.{append-nil, at_drop_all}
 
@@ -19,13 +18,3 @@ drop-at x xs i k less e next = rw next (drop-cons xs i x less ∙ ap (λ y. y �
 pub drop-from : {A : Type 0} (x d : A) (xs : List A) (i k : ℕ) → i < length xs → x ≡ get_or xs i d → k ≡ suc i →
     drop i xs ≡ x ∷ drop k xs
 drop-from x d xs i k less e next = rw next (drop-cons xs i d less ∙ ap (λ y. y ∷ drop (suc i) xs) (sym e))
-
--- one turn more of a loop that makes a list: what it makes of an element is put behind what was made
-pub made-more : {A B : Type 0} (f : List A → List B) (made made' one all : List B) (xs : List A) (i : ℕ) (x d : A) →
-    made' ≡ made ++ one → i < length xs → x ≡ get_or xs i d →
-    f (x ∷ drop (i + 1) xs) ≡ one ++ f (drop (i + 1) xs) → made ++ f (drop i xs) ≡ all →
-    made' ++ f (drop (i + 1) xs) ≡ all
-made-more f made made' one all xs i x d e less is step so_far =
-    ap (λ m. m ++ f (drop (i + 1) xs)) e ∙ append_assoc made one (f (drop (i + 1) xs))
-    ∙ ap (λ ys. made ++ ys) (sym step)
-    ∙ ap (λ ys. made ++ f ys) (sym (drop-from x d xs i (i + 1) less is (add-one i))) ∙ so_far

@@ -2,7 +2,8 @@ use Rattle.std.proofs.Common.{◌+◌, ◌∙◌, ap, List, ℕ, map, take, drop
 use Rattle.ps_text.specs.WordViews.{text_of}
 use Rattle.ps_facts.specs.Counts.{cell_counts}
 use Rattle.ps_causes.specs.RuleCauses.{IsArrowOf}
-use Rattle.ps_causes.proofs.FoundSlips.{told-arrow, up_to_end}
+use Rattle.ps_names.proofs.common.Elements.{rest-of}
+use Rattle.ps_causes.proofs.FoundSlips.{told-arrow}
 use Rattle.ps_causes.proofs.counts.counts_told.Goals as goal
 
 pub returns : goal.returns
@@ -14,4 +15,4 @@ returns c text line each texts =
     (c.in-Some.ensures.there _) in
     c.differing.ensures text line before behind arrow (c.deref.ensures.value ∙ c.in_ok-left.ensures)
     (c.deref-2.ensures.value ∙ c.in_ok-right.ensures ∙ ap (λ words. cell_counts (map text_of words))
-    (up_to_end c.args.words.now (c.in-Some.at + 1)))
+    (rest-of c.args.words.now (c.in-Some.at + 1)))

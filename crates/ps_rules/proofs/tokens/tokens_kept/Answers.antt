@@ -3,7 +3,8 @@ use Rattle.std.proofs.lemmas.List.Elements.{filter-append}
 use Rattle.ps_model.specs.rules.RuleSymbols.{Token as Meant, tokens_kept, is_left_out}
 use Rattle.ps_rules.specs.declared.symbols.Token.{Token}
 use Rattle.ps_rules.specs.SymbolsShown.{token_shown, tokens_shown}
-use Rattle.ps_rules.proofs.Loops.{made-more, loop-end}
+use Rattle.ps_names.proofs.common.Loops.{made-more}
+use Rattle.ps_rules.proofs.Loops.{loop-end}
 use Rattle.ps_rules.proofs.tokens.tokens_kept.Goals as goal
 
 pub loop-token-preserved : goal.loop-token-preserved

@@ -5,7 +5,7 @@ use Rattle.ps_model.specs.rules.SourceRules.{CellPair as Meant}
 use Rattle.ps_model.specs.meaning.Occurrences.{cells_of}
 use Rattle.ps_rules.specs.declared.tree.CellPair.{CellPair}
 use Rattle.ps_rules.specs.RulesShown.{cell_list_shown, tree_row_shown, tree_rows_shown, rule_shown}
-use Rattle.ps_rules.proofs.Loops.{made-more}
+use Rattle.ps_names.proofs.common.Loops.{made-more}
 use Rattle.ps_rules.proofs.tree_cells.cells_of.Goals as goal
 
 pub loop-row-preserved : goal.loop-row-preserved

@@ -1,8 +1,8 @@
-use Rattle.std.proofs.Common.{◌≡◌, ◌∙◌, ◌++◌, ◌∷◌, ◌+◌, ℕ, List, [], map, drop, ap, sym, append_assoc, Bor}
+use Rattle.std.proofs.Common.{◌≡◌, ◌∙◌, ◌++◌, ◌∷◌, ◌+◌, ℕ, List, drop, ap, sym, append_assoc}
 use Rattle.std.proofs.lemmas.List.{map-append, drop_more}
 use Rattle.ps_model.specs.rules.SourceRules as model
 use Rattle.ps_rules.specs.declared.tree.CellPair.{CellPair}
-use Rattle.ps_rules.specs.RulesShown.{cell_shown, part_shown, cell_list_shown}
+use Rattle.ps_rules.specs.RulesShown.{part_shown, cell_list_shown}
 use Rattle.ps_rules.proofs.tree_cells.push_part.Goals as goal
 
 pub loop-cell-preserved : goal.loop-cell-preserved
