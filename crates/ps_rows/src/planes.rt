@@ -16,6 +16,9 @@ use ps_board::{ColumnWords, Columns};
 use ps_model::Memory;
 use std::alloc::Global;
 
+/// How many rows of planes are copied in one go: a few kilobytes, which is the length that processors copy best.
+const MOST_SETS: u32 = 256;
+
 /// Planes of one height. A plane has the columns of each of its rows, the highest row first.
 ///
 /// For each plane the index has a set of rows, with each row of the plane that has a column.
@@ -321,7 +324,7 @@ impl<W: ColumnWords> Planes<W> {
     }
 
     /// Makes other planes, as many of the same height, the same. Those without columns on both sides are passed over,
-    /// and those between two such ones are copied in one go.
+    /// and of those between two such ones so many are copied in one go as have at most `MOST_SETS` rows together.
     pub fn copy_into(&self, other: &mut Planes<W>)
         requires height { other.old.height ≡ self.now.height }
         requires count { vec_len other.old.words ≡ vec_len self.now.words }
@@ -330,11 +333,15 @@ impl<W: ColumnWords> Planes<W> {
         ensures count { vec_len other.new.words ≡ vec_len self.now.words }
     {
         let marked = self.planes_marked(other, self.index.len());
+        let most = (MOST_SETS / self.height) as usize;
         let mut first = 0;
         for plane in 0..marked {
             if self.is_unmarked_plane(other, plane) {
                 self.copy_planes(other, first, plane);
                 first = plane + 1;
+            } else if most <= plane - first {
+                self.copy_planes(other, first, plane);
+                first = plane;
             }
         }
         self.copy_planes(other, first, marked);

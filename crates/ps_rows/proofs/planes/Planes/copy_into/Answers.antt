@@ -1,6 +1,7 @@
 use Rattle.std.proofs.Common.{◌*◌, ◌≤◌, ◌∙◌, ℕ, length, sym, arith}
 use Rattle.ps_rows.proofs.PlaneCopies.{all_copied, planes_and_rest, planes_and_same, planes_then}
-use Rattle.ps_rows.proofs.planes.Planes.copy_into.Goals.{then-is_unmarked_plane, else-is_unmarked_plane}
+use Rattle.ps_rows.proofs.planes.Planes.copy_into.Goals.{then-is_unmarked_plane, else-is_unmarked_plane+then-most-plane}
+use Rattle.ps_rows.proofs.planes.Planes.copy_into.Goals.{else-is_unmarked_plane+else-most-plane}
 use Rattle.ps_rows.proofs.planes.Planes.copy_into.Goals as goal
 
 pub loop-plane-preserved : goal.loop-plane-preserved
@@ -16,7 +17,15 @@ loop-plane-preserved g c =
         height = w.copy_planes.ensures.height;
         count = w.copy_planes.ensures.count ∙ was.count;
       })
-      | else-is_unmarked_plane w ↦ rw (w.first-is, w.other-is) (record {
+      | else-is_unmarked_plane+then-most-plane w ↦ rw (w.first-is, w.other-is) (record {
+        order = omega arith;
+        copied = planes_then p.height c.loop-plane.first c.loop-plane.plane p.words.items c.args.other.now.words.items
+            c.loop-plane.other.words.items w.copy_planes-then-most-plane.new.other.words.items was.order was.copied
+            w.copy_planes-then-most-plane.ensures.words;
+        height = w.copy_planes-then-most-plane.ensures.height;
+        count = w.copy_planes-then-most-plane.ensures.count ∙ was.count;
+      })
+      | else-is_unmarked_plane+else-most-plane w ↦ rw (w.first-is, w.other-is) (record {
         order = omega (arith, was.order);
         copied = was.copied;
         height = was.height;
