@@ -1,6 +1,10 @@
 //! What is done for a command line.
 
-ghost use Rattle.std.specs.Prelude.{◌≡◌, ◌+◌, ◌<◌, ◌≤◌, false, IfOk, IfSome, OnOk, length};
+ghost use Rattle.std.specs.Prelude.{◌≡◌, ◌+◌, ◌<◌, ◌≤◌, false, true, IfOk, IfSome, OnOk, is_some, length};
+ghost use Rattle.ps_model.specs.game.Games.{game};
+ghost use Rattle.ps_check.specs.Checks.{check_line, named_line};
+ghost use Rattle.ps_command.specs.Told.{GrowsBy, TellsOf, TellsOfGame};
+ghost use Rattle.ps_devices.specs.Devices.{Grows};
 
 use crate::command::{Asked, read_command};
 use crate::details::{Detail, show_detail};
@@ -66,13 +70,35 @@ fn check_text<R: Files + AllocGlobal, I: ByteReader, O: ByteWriter>(
 ) -> Result<(), Stop>
     requires heard { (I.state input.old).has_failed ≡ false }
     requires well { (O.state screen.old).has_failed ≡ false }
+    ensures { OnOk result (TellsOfGame (O.state screen.old).contents (O.state screen.new).contents) }
 {
     let text = read_text(rt, path, input)?;
-    if check(rt.alloc(), &text, screen)? {
-        return Ok(());
+    if check_alone(rt.alloc(), &text, detail, screen)? {
+        Ok(())
+    } else {
+        Err(Stop::NotAccepted)
     }
-    show_detail(rt.alloc(), &text, detail, screen)?;
-    Err(Stop::NotAccepted)
+}
+
+/// Says of a text on the screen whether it is a game, and answers that.
+fn check_alone<O: ByteWriter>(
+    alloc: Global,
+    text: &[u8],
+    detail: Detail,
+    screen: &mut O,
+) -> Result<bool, Stop>
+    requires well { (O.state screen.old).has_failed ≡ false }
+    ensures is { IfOk result (λ accepted. accepted ≡ is_some (game text.now)) }
+    ensures accepted { IfOk result (λ accepted. accepted ≡ true
+        → Grows (O.state screen.old).contents (O.state screen.new).contents (check_line text.now)) }
+    ensures told { OnOk result
+        (GrowsBy (check_line text.now) (O.state screen.old).contents (O.state screen.new).contents) }
+{
+    if check(alloc, text, screen)? {
+        return Ok(true);
+    }
+    show_detail(alloc, text, detail, screen)?;
+    Ok(false)
 }
 
 /// Of how many files it was said on the screen that their text is a game, of how many which fault it has, and of how
@@ -151,6 +177,8 @@ fn check_one<R: Files + AllocGlobal + Eprint, I: ByteReader, O: ByteWriter>(
     ensures on { OnOk result ((O.state screen.old).calls ≤ (O.state screen.new).calls) }
     ensures written { IfOk result (λ said. IfSome said (λ _.
         (O.state screen.old).calls < (O.state screen.new).calls)) }
+    ensures told { IfOk result (λ said. IfSome said (λ accepted.
+        TellsOf path.now accepted (O.state screen.old).contents (O.state screen.new).contents)) }
 {
     if path == STANDARD_INPUT {
         let text = read_input(rt.alloc(), input)?;
@@ -180,6 +208,9 @@ fn check_bytes<O: ByteWriter>(
     requires well { (O.state screen.old).has_failed ≡ false }
     ensures well { OnOk result ((O.state screen.new).has_failed ≡ false) }
     ensures written { OnOk result ((O.state screen.old).calls < (O.state screen.new).calls) }
+    ensures accepted { IfOk result (λ accepted. accepted ≡ is_some (game text.now)) }
+    ensures told { OnOk result
+        (GrowsBy (named_line path.now text.now) (O.state screen.old).contents (O.state screen.new).contents) }
 {
     if check_named(alloc, path, text, screen)? {
         return Ok(true);

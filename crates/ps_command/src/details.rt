@@ -1,6 +1,7 @@
 //! What is to be mended of a text that is no game, shown below the line of a check.
 
 ghost use Rattle.std.specs.Prelude.{◌≡◌, ◌≤◌, false, OnOk};
+ghost use Rattle.ps_command.specs.Told.{GrowsOn};
 
 use crate::explanations::sentence_of;
 use crate::stops::Stop;
@@ -44,6 +45,7 @@ pub fn show_detail<O: ByteWriter>(
     requires well { (O.state screen.old).has_failed ≡ false }
     ensures well { OnOk result ((O.state screen.new).has_failed ≡ false) }
     ensures on { OnOk result ((O.state screen.old).calls ≤ (O.state screen.new).calls) }
+    ensures more { OnOk result (GrowsOn (O.state screen.old).contents (O.state screen.new).contents) }
 {
     if detail == Detail::Line {
         return Ok(());

@@ -1,6 +1,9 @@
 //! A game that is played.
 
-ghost use Rattle.std.specs.Prelude.{◌≡◌, false};
+ghost use Rattle.std.specs.Prelude.{◌≡◌, false, OnOk};
+ghost use Rattle.ps_model.specs.declared.play.Ending.{Ending};
+ghost use Rattle.ps_model.specs.game.Headline.{Ends, RunsRightly};
+ghost use Rattle.ps_command.specs.Told.{EndsRightly};
 
 use crate::command::Play;
 use crate::files::read_text;
@@ -66,6 +69,7 @@ fn play_from<R: Files + AllocGlobal, I: ByteReader, O: ByteWriter>(
 ) -> Result<(), Stop>
     requires heard { (I.state keys.old).has_failed ≡ false }
     requires well { (O.state screen.old).has_failed ≡ false }
+    ensures { OnOk result (EndsRightly text.now (O.state screen.old) (O.state screen.new)) }
 {
     let Some(file) = file else {
         return play(rt, text, keys, screen);
@@ -84,6 +88,8 @@ fn play<R: AllocGlobal, I: ByteReader, O: ByteWriter>(
 ) -> Result<(), Stop>
     requires heard { (I.state keys.old).has_failed ≡ false }
     requires well { (O.state screen.old).has_failed ≡ false }
+    ensures { OnOk result ((ending : Ending) × RunsRightly text.now (I.state keys.old) (I.state keys.new)
+        (O.state screen.old) (O.state screen.new) (Ends ending)) }
 {
     let _ending = run(rt.alloc(), text, keys, screen)?;
     Ok(())
