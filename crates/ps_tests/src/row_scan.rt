@@ -1,5 +1,5 @@
 //! Boards of rows: on which rows an object stands, and something moves. A board may tell more rows than that; this one
-//! doesn't.
+//! does so only where an object is asked for on a layer that isn't its own, as no rule does: it tells those that have it.
 
 use crate::boards::expect_set;
 use ps_board::{Board, OneWord};
@@ -16,8 +16,15 @@ const SOUGHT: LayeredObject = LayeredObject {
     layer: LayerId(1),
 };
 
+/// The same object, on a layer that isn't its own.
 const ELSEWHERE: LayeredObject = LayeredObject {
     object: ObjectId(2),
+    layer: LayerId(0),
+};
+
+/// An object with a number that the game has none of.
+const UNKNOWN: LayeredObject = LayeredObject {
+    object: ObjectId(3),
     layer: LayerId(0),
 };
 
@@ -41,7 +48,8 @@ fn tells_the_rows_that_have_an_object(rt: HostRuntime) -> Result<(), Fail> {
     board.clear_moves();
     expect_set(&rt, &board.rows_with(&SOUGHT), &[false, true]);
     expect_set(&rt, &copy.rows_with(&SOUGHT), &[false, true, true]);
-    expect_set(&rt, &copy.rows_with(&ELSEWHERE), &[]);
+    expect_set(&rt, &copy.rows_with(&ELSEWHERE), &[false, true, true]);
+    expect_set(&rt, &copy.rows_with(&UNKNOWN), &[]);
     copy.copy_into(&mut board);
     expect_set(&rt, &board.rows_with(&SOUGHT), &[false, true, true]);
     board.put(2, LayerId(1), None, Motion::Still);
