@@ -51,7 +51,7 @@ kept_by : (moved : List ObjectId) (motion was : Motion) (object : ObjectId) → 
     slot_set_moving moved motion (Holds object was) ≡ Holds object was
 kept_by moved motion was object none = ap (λ (b : Bool). Holds object (cond b motion was)) none
 
-slot_kept : (moved : List ObjectId) (motion : Motion) (slot : Slot) → holds_any moved slot ≡ false →
+pub slot_kept : (moved : List ObjectId) (motion : Motion) (slot : Slot) → holds_any moved slot ≡ false →
     slot_set_moving moved motion slot ≡ slot
 slot_kept moved motion Bare none = refl
 slot_kept moved motion (Holds object was) none = kept_by moved motion was object (sym (among_by moved object) ∙ none)

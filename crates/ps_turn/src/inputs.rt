@@ -1,13 +1,14 @@
 //! What an input does to a board.
 
-ghost use Rattle.std.specs.Prelude.{◌≡◌, ◌+◌, ◌*◌, ◌<◌, ℕ, map};
+ghost use Rattle.std.specs.Prelude.{◌≡◌, ◌+◌, ◌*◌, ◌<◌, ℕ, map, true};
 ghost use Rattle.ps_model.specs.board.Grid.{IsGrid, IsPlace, cell_at, slot_at, with_slot, cell_count};
 ghost use Rattle.ps_model.specs.board.Inputs.{motion_of, with_motion};
+ghost use Rattle.ps_model.specs.declared.pieces.Motion.{Motion};
 ghost use Rattle.ps_turn.specs.Sweeps.{AreChanged, IsCellChanged, IsRowChanged};
 ghost use Rattle.ps_turn.specs.Sweeps.{grid_with_cell, slot_set_moving};
 
 use crate::meanings::has_object;
-use crate::standing::{columns_with, rows_with};
+use crate::standing::{columns_with, layer_columns, rows_with};
 use ps_board::{Board, Columns};
 use ps_model::{Direction, Input, LayerId, Motion, ObjectId};
 
@@ -78,6 +79,17 @@ fn give_cell<B: Board>(board: &mut B, cell: u32, moved: &[ObjectId], motion: Mot
     }
 }
 
+/// Whether none of the objects stands on a layer of a cell, by what the board knows of its row: where a game has many
+/// layers, that is told sooner than which object stands on one.
+fn is_elsewhere<B: Board>(board: &B, cell: u32, layer: LayerId, moved: &[ObjectId]) -> bool
+    requires { IsPlace (B.grid board.now) cell layer.0 }
+    ensures { result ≡ true → (motion : Motion) → let slot = slot_at (B.grid board.now) cell layer.0 in
+        slot_set_moving moved.now motion slot ≡ slot }
+{
+    let (_, height) = board.size();
+    !layer_columns(board, moved, layer, cell % height).has(cell / height)
+}
+
 /// Gives the motion to the object of a slot, if it is one of the objects.
 fn give_slot<B: Board>(board: &mut B, cell: u32, layer: LayerId, moved: &[ObjectId], motion: Motion)
     requires { IsPlace (B.grid board.old) cell layer.0 }
@@ -85,6 +97,9 @@ fn give_slot<B: Board>(board: &mut B, cell: u32, layer: LayerId, moved: &[Object
         (slot_set_moving moved.now motion (slot_at (B.grid board.old) cell layer.0)) }
     ensures table { B.table board.new ≡ B.table board.old }
 {
+    if is_elsewhere(board, cell, layer, moved) {
+        return;
+    }
     let Some(object) = board.object(cell, layer) else {
         return;
     };

@@ -12,7 +12,7 @@ use ps_board::{Board, Columns};
 use ps_model::{LayerId, ObjectId};
 
 /// The columns of a row in which one of the objects stands on a layer.
-fn layer_columns<B: Board>(
+pub fn layer_columns<B: Board>(
     board: &B,
     objects: &[ObjectId],
     layer: LayerId,
