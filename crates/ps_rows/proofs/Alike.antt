@@ -1,6 +1,7 @@
 -- Two boards of the same size for the same game show the same where their planes have the same cells.
 use Rattle.std.proofs.Common.{◌≡◌, ℕ, ◌+◌, ◌*◌, ◌/◌, ◌%◌, ◌<◌, ◌≤◌, inl, inr, Bool, true, false, ◌&&◌, Option}
-use Rattle.std.proofs.Common.{Some, None, List, [], get_or, refl, sym, ap, ◌∙◌, arith}
+use Rattle.std.proofs.Common.{Some, None, List, [], get_or, length, refl, sym, ap, ◌∙◌, arith}
+use Rattle.std.proofs.Math.Nat.{mul-le-mul_left}
 use Rattle.std.specs.Prelude.{nat_eq, slice_get, option_map}
 use Rattle.std.specs.List.{list_any}
 use Rattle.std.proofs.lemmas.Bool.{cases_eq, cases_lt, cases_Bool, false≢true, lt-ltb, le-ltb}
@@ -17,7 +18,7 @@ use Rattle.ps_model.specs.board.Movement.{is_number}
 use Rattle.ps_model.specs.board.Turns.{same_cells}
 use Rattle.ps_model.specs.meaning.Fitting.{same_motion}
 use Rattle.ps_laws.proofs.common.SameThings.{same_cells-own, same_cells-true}
-use Rattle.ps_rows.specs.Planes.{has_cell, row_of}
+use Rattle.ps_rows.specs.Planes.{AreSameFrom, has_cell, row_of}
 use Rattle.ps_rows.specs.Members.{on_layer}
 use Rattle.ps_rows.specs.Showing.{numbered, motions_from, motion_plane, motion_planes, object_shown, motion_shown}
 use Rattle.ps_rows.specs.Showing.{slot_shown, cell_shown, cells_shown, AreObjectsShown, AreMotionsShown}
@@ -83,7 +84,7 @@ plane_of_cells width height first second plane same = λ row under x h.
     ∙ sym (column_read height second row plane x under)
 
 -- the five planes of motions
-five_in : (first q : ℕ) → first ≤ q → q < first + 5 → list_any (nat_eq q) (motion_planes first) ≡ true
+pub five_in : (first q : ℕ) → first ≤ q → q < first + 5 → list_any (nat_eq q) (motion_planes first) ≡ true
 five_in first q low high = elim (cases_eq q first) [
   | inl e ↦ five_true first (Going Up) q (ap Some (sym e))
   | inr a ↦ elim (cases_eq q (first + 1)) [
@@ -197,6 +198,16 @@ same_moves table width height layers first second layer on shown showing same = 
     shown cell layer found.0 plane inside on found.1
     ∙ ap (λ (slot : Slot). same_motion found.0 (motion_in slot)) (same cell inside)
     ∙ sym (showing cell layer found.0 plane inside on found.1))
+
+-- and where no motion is on either
+pub still_moves : (table : List ℕ) (width height : ℕ) (first second : List (List Bool)) (layer : ℕ) →
+    AreSameFrom (length table * height) first second →
+    AreSamePlanes width height first second (motion_planes (motions_from table layer))
+still_moves table width height first second layer same = λ plane listed row under x across.
+    let low : motions_from table layer ≤ plane = five_low (motions_from table layer) plane listed in
+    let more : height * length table ≤ height * plane =
+    mul-le-mul_left height (let past : length table ≤ plane = omega (arith, low) in past) in
+    ap (λ (word : List Bool). column_at word x) (same (plane * height + row) (omega (arith, more)))
 
 -- boards --------------------------------------------------------------------------------------------------------------
 

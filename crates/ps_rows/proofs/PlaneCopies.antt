@@ -8,8 +8,8 @@ use Rattle.std.proofs.lemmas.Bool.{cases_eq, cases_lt}
 use Rattle.std.proofs.lemmas.Nat.{div_below, mod_below, div-add-mod'}
 use Rattle.std.proofs.lemmas.List.{same_lists, get_or_default, get_or-set_same, get_or-set_other, length-take-le}
 use Rattle.std.proofs.lemmas.List.{get_or_append_left, get_or-append_right, get_or-take, get_or-drop, length-append}
-use Rattle.std.proofs.lemmas.List.{length-replicate}
-use Rattle.ps_rows.specs.PlaneCopies.{AreCopied, ArePlanesOf}
+use Rattle.std.proofs.lemmas.List.{get_or_past, length-replicate}
+use Rattle.ps_rows.specs.PlaneCopies.{AreCopied, ArePlanesOf, AreRowsOf}
 use Rattle.ps_rows.specs.RowIndex.{AreRowsMarked}
 use Rattle.ps_rows.specs.Sameness.{DifferOnlyOnRows}
 use Rattle.ps_rows.specs.Showing.{cleared_from}
@@ -18,7 +18,7 @@ use Rattle.ps_rows.proofs.Sets.{none_at}
 use Rattle.ps_board.proofs.ColumnLaws.{none_in}
 use Rattle.ps_board.specs.ColumnSets.{column_at, no_columns, set_columns}
 use Rattle.ps_model.specs.declared.limits.TheConstants.{SIDE_LIMIT}
-use Rattle.ps_rows.specs.Planes.{AreSets, IsSet, row_of}
+use Rattle.ps_rows.specs.Planes.{AreEmptyFrom, AreSameFrom, AreSets, IsSet, row_of}
 
 -- a row of a plane lies before the next plane
 before_plane : (height plane other row : ℕ) → row < height → plane < other → plane * height + row < other * height
@@ -142,6 +142,29 @@ planes_and_rest height marked count source before after order same was =
         | inr late ↦ was.behind plane row under late ∙ sym (same plane late less row under (none_at row))
       ];
     }
+
+-- no more planes than there are rows for
+pub planes_within : (height planes count : ℕ) → 0 < height → planes * height ≤ count * height → planes ≤ count
+planes_within height planes count some rows = elim (cases_lt count planes) [
+  | inl more ↦
+      let past : (count + 1) * height ≤ planes * height =
+      behind_plane height (count + 1) planes (let next : count + 1 ≤ planes = omega (arith, more) in next) in
+      absurd (omega (arith, past, rows, some))
+  | inr less ↦ less
+]
+
+-- a plane of rows that are the same
+pub same_from : (height first : ℕ) (source others : List (List Bool)) →
+    AreSameFrom (first * height) source others → (plane : ℕ) → first ≤ plane →
+    DifferOnlyOnRows height plane source others no_columns
+same_from height first source others same plane from row under off =
+    let past : first * height ≤ plane * height = behind_plane height first plane from in
+    same (plane * height + row) (omega (arith, past))
+
+-- rows without columns are the same
+pub both_empty : (start : ℕ) (first second : List (List Bool)) → AreEmptyFrom start first → AreEmptyFrom start second →
+    AreSameFrom start first second
+both_empty start first second none nor place from = none place from ∙ sym (nor place from)
 
 -- and then one that was the same before
 pub planes_and_same : (height first plane : ℕ) (source before between after : List (List Bool)) → first ≤ plane →
@@ -310,3 +333,70 @@ all_copied height count source before after some whole long changed =
     get_or_default after i d no_columns inside ∙ at_place height i after
     ∙ changed.copied (i / height) (i % height) low (omega arith) plane ∙ sym (at_place height i source)
     ∙ sym (get_or_default source i d no_columns here))
+
+-- rows without columns, cleared
+pub empty_cleared : (start : ℕ) (words : List (List Bool)) → start ≤ length words → AreEmptyFrom start words →
+    words ≡ cleared_from start words
+empty_cleared start words within none =
+    let zeros : List (List Bool) = replicate (length words - start) no_columns in
+    let front : length (take start words) ≡ start = length-take-le start words within in
+    let total : length (cleared_from start words) ≡ length words =
+    length-append (take start words) zeros ∙ (let back : start + (length words - start) ≡ length words =
+    omega (arith, within) in rw (front, length-replicate) back) in
+    same_lists words (cleared_from start words) (sym total)
+    (λ i d inside.
+    let here : i < length (cleared_from start words) = omega (arith, inside, total) in
+    get_or_default words i d no_columns inside
+    ∙ elim (cases_lt i start) [
+      | inl early ↦
+          let under : i < length (take start words) = rw front early in
+          sym (get_or_append_left (take start words) zeros no_columns i under
+          ∙ get_or-take start words i no_columns early)
+      | inr late ↦
+          none i late
+          ∙ sym (get_or-append_right (take start words) zeros start i no_columns front late
+          ∙ blank_word (length words - start) (i - start))
+    ]
+    ∙ sym (get_or_default (cleared_from start words) i d no_columns here))
+
+-- and cleared rows have no columns
+pub cleared_empty : (start : ℕ) (words : List (List Bool)) → start ≤ length words →
+    AreEmptyFrom start (cleared_from start words)
+cleared_empty start words within place from =
+    let zeros : List (List Bool) = replicate (length words - start) no_columns in
+    let front : length (take start words) ≡ start = length-take-le start words within in
+    get_or-append_right (take start words) zeros start place no_columns front from
+    ∙ blank_word (length words - start) (place - start)
+
+-- planes without marked rows have no columns
+pub unmarked_empty : (height first count : ℕ) (words : List (List Bool)) → 0 < height →
+    length words ≤ count * height → ArePlanesOf height first count [] words words → AreEmptyFrom (first * height) words
+unmarked_empty height first count words some whole none place from =
+    let low : place % height < height = mod_below place height some in
+    let e : place / height * height + place % height ≡ place = div-add-mod' place height in
+    let high : first ≤ place / height = elim (cases_lt (place / height) first) [
+      | inl less ↦ let early = before_plane height (place / height) first (place % height) low less in
+          absurd (omega (arith, early, e, from))
+      | inr more ↦ more
+    ] in
+    elim (cases_lt (place / height) count) [
+      | inl own ↦ at_place height place words ∙ none.copied (place / height) (place % height) low high own
+      | inr beyond ↦
+          let past : count * height ≤ place / height * height = behind_plane height count (place / height) beyond in
+          get_or_past words place no_columns (omega (arith, past, e, whole))
+    ]
+
+-- rows without columns behind the planes of which rows were copied
+pub rest_left : (height first : ℕ) (rows : List Bool) (source before after : List (List Bool)) → 0 < height →
+    AreRowsOf height 0 first rows source before after → AreEmptyFrom (first * height) before →
+    AreEmptyFrom (first * height) after
+rest_left height first rows source before after some are none place from =
+    let low : place % height < height = mod_below place height some in
+    let e : place / height * height + place % height ≡ place = div-add-mod' place height in
+    let high : first ≤ place / height = elim (cases_lt (place / height) first) [
+      | inl less ↦ let early = before_plane height (place / height) first (place % height) low less in
+          absurd (omega (arith, early, e, from))
+      | inr more ↦ more
+    ] in
+    at_place height place after ∙ are.behind (place / height) (place % height) low high ∙ sym (at_place height place before)
+    ∙ none place from

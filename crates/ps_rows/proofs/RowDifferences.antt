@@ -1,15 +1,17 @@
 -- Rows that are changed by what differs.
 use Rattle.std.proofs.Common.{◌≡◌, ◌≢◌, ◌∙◌, ℕ, ◌+◌, ◌*◌, ◌-◌, ◌/◌, ◌%◌, ◌<◌, ◌≤◌, inl, inr, Bool, true, false, not, List, []}
 use Rattle.std.proofs.Common.{◌∷◌, ◌++◌, length, get_or, drop, refl, sym, ap, arith}
-use Rattle.std.specs.Prelude.{if◌then◌else◌, slice_set}
+use Rattle.std.specs.Prelude.{if◌then◌else◌, nat_le, slice_set}
+use Rattle.std.specs.List.{list_any}
 use Rattle.std.proofs.Math.Nat.{mul-le-mul_left}
-use Rattle.std.proofs.lemmas.Bool.{cases_eq, cases_lt, le-ltb, lt-ltb}
+use Rattle.std.proofs.lemmas.Bool.{cases_eq, cases_lt, le-ltb, lt-ltb, or_parts}
+use Rattle.std.proofs.lemmas.Bool.Decides.{nat_tests}
 use Rattle.std.proofs.lemmas.Nat.{div_below, div-add-mod', mod_below}
 use Rattle.std.proofs.lemmas.List.{at_drop_all, at_drop_more, get_or_default, get_or-set_other, get_or-set_same}
 use Rattle.std.proofs.lemmas.List.{length-set, same_lists, set_past}
 use Rattle.ps_board.specs.ColumnSets.{column_at, no_columns, unlike_columns}
 use Rattle.ps_board.proofs.ColumnLaws.{columns-agree}
-use Rattle.ps_rows.specs.Planes.{IsSet, row_of}
+use Rattle.ps_rows.specs.Planes.{AreEmptyFrom, IsSet, row_of}
 use Rattle.ps_rows.specs.RowDifferences.{Difference, Lead, LeadBothWays, row_changed, rows_changed}
 use Rattle.ps_rows.specs.Sameness.{DifferOnlyOnRows}
 use Rattle.ps_rows.proofs.Sets.{none_at, same_set, set_where, unlike_at}
@@ -104,6 +106,19 @@ module _ (height : ℕ) (words : List (List Bool)) (difference : Difference) whe
       ap (λ (ws : List (List Bool)). row_of ws other) (changed_inside under)
       ∙ get_or-set_other words place other changed no_columns apart
 
+-- rows without columns behind the planes that are changed
+pub row_rest : (height first : ℕ) (words : List (List Bool)) (difference : Difference) → difference.plane < first →
+    AreEmptyFrom (first * height) words → AreEmptyFrom (first * height) (row_changed height words difference)
+row_rest height first words difference low none place from = elim (cases_lt difference.row height) [
+  | inl under ↦
+      let early : height * (difference.plane + 1) ≤ height * first =
+      mul-le-mul_left height (let next : difference.plane + 1 ≤ first = omega (arith, low) in next) in
+      row_elsewhere height words difference place under (λ e. absurd (omega (arith, e, early, under, from)))
+      ∙ none place from
+  | inr below ↦
+      ap (λ (ws : List (List Bool)). row_of ws place) (changed_below height words difference below) ∙ none place from
+]
+
 -- many rows -----------------------------------------------------------------------------------------------------------
 
 pub length-rows_changed : (height : ℕ) (words : List (List Bool)) (differences : List Difference) →
@@ -113,6 +128,17 @@ length-rows_changed height words [] = refl
 length-rows_changed height words (difference ∷ differences) =
     length-rows_changed height (row_changed height words difference) differences
     ∙ length-row_changed height words difference
+
+pub rows_rest : (height first : ℕ) (words : List (List Bool)) (differences : List Difference) →
+    list_any (λ difference. nat_le first difference.plane) differences ≡ false → AreEmptyFrom (first * height) words →
+    AreEmptyFrom (first * height) (rows_changed height words differences)
+unfolding rows_changed
+rows_rest height first words [] few none = none
+rows_rest height first words (difference ∷ differences) few none =
+    let parts = or_parts (nat_le first difference.plane) (list_any (λ d. nat_le first d.plane) differences) few in
+    let low : difference.plane < first = grind (arith, nat_tests, parts.0) in
+    rows_rest height first (row_changed height words difference) differences parts.1
+    (row_rest height first words difference low none)
 
 -- one more, behind the others
 pub changed_push : (height : ℕ) (words : List (List Bool)) (differences : List Difference) (difference : Difference) →

@@ -1,5 +1,5 @@
 -- What isn't marked has no cell to take away.
-use Rattle.std.proofs.Common.{◌≡◌, ◌∙◌, ℕ, ◌+◌, ◌*◌, ◌/◌, ◌%◌, ◌<◌, ◌≤◌, Bool, true, false, None, List, refl, arith}
+use Rattle.std.proofs.Common.{◌≡◌, ◌∙◌, ℕ, ◌+◌, ◌*◌, ◌/◌, ◌%◌, ◌<◌, ◌≤◌, ◌||◌, Bool, true, false, None, List, refl, arith}
 use Rattle.std.proofs.Common.{inl, inr, sym, ap}
 use Rattle.std.specs.Prelude.{nat_eq, slice_set, if◌then◌else◌}
 use Rattle.std.proofs.lemmas.Bool.{cases_eq, or_parts}
@@ -10,6 +10,7 @@ use Rattle.ps_board.proofs.ColumnLaws.{columns-agree}
 use Rattle.ps_model.specs.declared.pieces.Motion.TheVariants.{Still}
 use Rattle.ps_rows.specs.Planes.{has_cell, row_of, with_cell, with_cell_in}
 use Rattle.ps_rows.specs.RowIndex.{AreRowsMarked}
+use Rattle.ps_rows.specs.RowTests.{five_rows}
 use Rattle.ps_rows.specs.Showing.{first_motion, motion_planes}
 use Rattle.ps_rows.proofs.Sets.{either_at, none_at}
 
@@ -67,6 +68,27 @@ five_clear index first row few none plane low high =
         ]
       ]
     ]
+
+-- a row of five planes without columns
+either_none : either_columns no_columns no_columns ≡ no_columns
+either_none = columns-agree (λ x. column_at no_columns x || column_at no_columns x) (λ x. false)
+    (λ x low. rw (none_at x) refl)
+
+pub five_none : (height : ℕ) (words : List (List Bool)) (first row : ℕ) →
+    ((plane : ℕ) → first ≤ plane → plane ≤ first + 4 → row_of words (plane * height + row) ≡ no_columns) →
+    five_rows height words first row ≡ no_columns
+five_none height words first row none =
+    rw (
+      none first (omega arith) (omega arith),
+      none (first + 1) (omega arith) (omega arith),
+      none (first + 2) (omega arith) (omega arith),
+      none (first + 3) (omega arith) (omega arith),
+      none (first + 4) (omega arith) (omega arith),
+      either_none,
+      either_none,
+      either_none,
+      either_none,
+    ) refl
 
 -- the cell of a row and a column in a plane, or not
 abbrev pub cell_with : ℕ → ℕ → ℕ → List (List Bool) → Bool → ℕ → List (List Bool)

@@ -18,6 +18,14 @@ row_of words place = slice_index_or words place no_columns
 abbrev pub AreSets : List (List Bool) → Type 0
 AreSets words = (place : ℕ) → IsSet (row_of words place)
 
+-- from a place on no row has a column
+abbrev pub AreEmptyFrom : ℕ → List (List Bool) → Type 0
+AreEmptyFrom start words = (place : ℕ) → start ≤ place → row_of words place ≡ no_columns
+
+-- from a place on each row is as there
+abbrev pub AreSameFrom : ℕ → List (List Bool) → List (List Bool) → Type 0
+AreSameFrom start first second = (place : ℕ) → start ≤ place → row_of first place ≡ row_of second place
+
 -- the plane has the cell
 unfoldable pub has_cell : ℕ → List (List Bool) → ℕ → ℕ → Bool
 has_cell height words cell plane = column_at (row_of words (plane * height + cell % height)) (cell / height)

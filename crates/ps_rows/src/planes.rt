@@ -6,7 +6,7 @@ ghost use Rattle.std.specs.List.{list_any};
 ghost use Rattle.ps_model.specs.board.Movement.{is_number};
 ghost use Rattle.ps_model.specs.declared.limits.TheConstants.{SIDE_LIMIT};
 ghost use Rattle.ps_board.specs.ColumnSets.{column_at, no_columns, unlike_columns, with_column};
-ghost use Rattle.ps_rows.specs.Planes.{AreSets, HavePlanes, IsSet, has_cell, row_of, with_cell, with_cell_in};
+ghost use Rattle.ps_rows.specs.Planes.{AreEmptyFrom, AreSameFrom, AreSets, HavePlanes, IsSet, has_cell, row_of, with_cell, with_cell_in};
 ghost use Rattle.ps_rows.specs.PlaneCopies.{AreCopied, ArePlanesOf, AreRowsOf};
 ghost use Rattle.ps_rows.specs.RowIndex.{AreRowsMarked};
 ghost use Rattle.ps_rows.specs.Sameness.{DifferOnlyOnRows};
@@ -159,6 +159,17 @@ impl<W: ColumnWords> Planes<W> {
         self.index[plane as usize]
     }
 
+    /// The marked rows of each of five planes from the first on.
+    fn five_marked(&self, first: u32) -> &[Columns<W>]
+        requires { first + 5 ≤ vec_len self.now.index }
+        ensures rows { let p = self.now in (k : ℕ) → k < 5 →
+            slice_index_or result.now k no_columns ≡ row_of p.index.items (first + k) }
+        ensures long { length result.now ≡ 5 }
+    {
+        let start = first as usize;
+        &self.index[start..start + 5]
+    }
+
     /// The rows that one of five planes from the first on may have a column in.
     pub fn five_rows_of(&self, first: u32) -> Columns<W>
         requires few { first + 4 < 2 ^ 32 }
@@ -167,11 +178,12 @@ impl<W: ColumnWords> Planes<W> {
             row < p.height → column_at result row ≡ false →
             row_of p.words.items (plane * p.height + row) ≡ no_columns }
     {
-        self.rows_of(first)
-            .either(self.rows_of(first + 1))
-            .either(self.rows_of(first + 2))
-            .either(self.rows_of(first + 3))
-            .either(self.rows_of(first + 4))
+        let five = self.five_marked(first);
+        five[0]
+            .either(five[1])
+            .either(five[2])
+            .either(five[3])
+            .either(five[4])
     }
 
     /// Gives a row of a plane these columns.
@@ -204,10 +216,7 @@ impl<W: ColumnWords> Planes<W> {
         ensures { result ≡ true → (plane : ℕ) → first ≤ plane → plane ≤ first + 4 →
             row_of self.now.words.items (plane * self.now.height + row) ≡ no_columns }
     {
-        let upright = self.rows_of(first).either(self.rows_of(first + 1));
-        let across = self.rows_of(first + 2).either(self.rows_of(first + 3));
-        let rows = upright.either(across).either(self.rows_of(first + 4));
-        !rows.has(row)
+        !self.five_rows_of(first).has(row)
     }
 
     /// Puts the cell of a row and a column into a plane, or takes it away. A row that isn't marked has nothing to take.
@@ -302,6 +311,20 @@ impl<W: ColumnWords> Planes<W> {
         }
     }
 
+    /// Clears the planes from that one on, unless it is known that none of them has a column.
+    pub fn clear_moved(&mut self, first: u32, may_move: bool)
+        requires within { first * self.old.height ≤ vec_len self.old.words }
+        requires rest { may_move ≡ false → AreEmptyFrom (first * self.old.height) self.old.words.items }
+        ensures words { self.new.words.items ≡ cleared_from (first * self.old.height) self.old.words.items }
+        ensures height { self.new.height ≡ self.old.height }
+        ensures count { vec_len self.new.words ≡ vec_len self.old.words }
+    {
+        if !may_move {
+            return;
+        }
+        self.clear_from(first);
+    }
+
     /// Makes planes of others, from the first one up to the end, the same.
     fn copy_planes(&self, other: &mut Planes<W>, first: usize, end: usize)
         requires order { first ≤ end }
@@ -323,16 +346,19 @@ impl<W: ColumnWords> Planes<W> {
         copy_sets(self.index.as_slice(), first, end, index);
     }
 
-    /// Makes other planes, as many of the same height, the same. Those without columns on both sides are passed over,
-    /// and of those between two such ones so many are copied in one go as have at most `MOST_SETS` rows together.
-    pub fn copy_into(&self, other: &mut Planes<W>)
+    /// Makes other planes, as many of the same height, the same, of which so many, the first ones, aren't known to be
+    /// so. Those without columns on both sides are passed over, and of those between two such ones so many are copied
+    /// in one go as have at most `MOST_SETS` rows together.
+    pub fn copy_into(&self, other: &mut Planes<W>, planes: usize)
         requires height { other.old.height ≡ self.now.height }
         requires count { vec_len other.old.words ≡ vec_len self.now.words }
+        requires within { planes * self.now.height ≤ vec_len self.now.words }
+        requires rest { AreSameFrom (planes * self.now.height) self.now.words.items other.old.words.items }
         ensures words { other.new.words.items ≡ self.now.words.items }
         ensures height { other.new.height ≡ self.now.height }
         ensures count { vec_len other.new.words ≡ vec_len self.now.words }
     {
-        let marked = self.planes_marked(other, self.index.len());
+        let marked = self.planes_marked(other, planes);
         let most = (MOST_SETS / self.height) as usize;
         let mut first = 0;
         for plane in 0..marked {

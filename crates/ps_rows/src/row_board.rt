@@ -6,7 +6,7 @@ ghost use Rattle.std.specs.Prelude.{option_map, slice_get, slice_index_or, vec_l
 ghost use Rattle.ps_model.specs.board.Movement.{is_number};
 ghost use Rattle.ps_model.specs.declared.limits.TheConstants.{LAYER_LIMIT, SIDE_LIMIT};
 ghost use Rattle.ps_board.specs.ColumnSets.{columns_below, no_columns};
-ghost use Rattle.ps_rows.specs.Planes.{HavePlanes, row_of};
+ghost use Rattle.ps_rows.specs.Planes.{AreEmptyFrom, AreSameFrom, HavePlanes, row_of};
 ghost use Rattle.ps_program.specs.ProgramShown.{write_shown};
 ghost use Rattle.ps_rows.specs.RowDifferences.{rows_changed};
 ghost use Rattle.ps_rows.specs.RowTests.{IsRowOf, IsWithin};
@@ -20,7 +20,7 @@ use crate::changes::change_layer;
 use crate::members::Members;
 use crate::motions::{choose_motion, first_motion};
 use crate::planes::Planes;
-use crate::row_differences::{RowDifference, change_rows, differences};
+use crate::row_differences::{RowDifference, change_rows, differences, reach};
 use crate::sameness::{differing_row, same_planes, unlike_row};
 use ps_board::{Board, ColumnWords, Columns};
 use ps_model::{LayerId, LayeredObject, Memory, Motion, MotionTest, ObjectId};
@@ -40,7 +40,9 @@ pub struct RowBoard<W: ColumnWords> {
     pub(crate) all_columns: Columns<W>,
     layers: u32,
     members: Members,
-    planes: Planes<W>,
+    pub(crate) planes: Planes<W>,
+    /// Whether a plane of motions may have a column. Where none has, these planes needn't be looked at.
+    may_move: bool,
     ghost some_column: { 0 < width },
     ghost columns: { width ≤ SIDE_LIMIT },
     ghost narrow: { width ≤ W.limit },
@@ -52,6 +54,7 @@ pub struct RowBoard<W: ColumnWords> {
     ghost objects: { AreObjectsShown members.table.items planes.height planes.words.items (width * planes.height) },
     ghost motions: { AreMotionsShown members.table.items layers planes.height planes.words.items
         (width * planes.height) },
+    ghost rest: { may_move ≡ false → AreEmptyFrom (length members.table.items * planes.height) planes.words.items },
 }
 
 /// Puts an object with its motion into a cell of a layer, whose objects have these planes and whose motions have those
@@ -223,7 +226,61 @@ impl<W: ColumnWords> RowBoard<W> {
         let (objects, motions) = self.layer_change(write, layer, row, columns);
         let first = self.motions_from(layer);
         let places = self.members.of(layer);
+        self.may_move = true;
         change_layer(&mut self.planes, row, places, objects, first, motions)
+    }
+
+    /// Whether it is known that no plane of motions has a column.
+    fn rests(&self) -> bool
+        ensures { let p = self.now.planes in
+            result ≡ true → AreEmptyFrom (length self.now.members.table.items * p.height) p.words.items }
+    {
+        if !self.may_move {
+            return true;
+        }
+        self.planes.rows_from(self.members.count()).is_empty()
+    }
+
+    /// Whether it is known that nothing moves on the board, nor on another one of the same size for the same game.
+    fn both_rest(&self, other: &RowBoard<W>) -> bool
+        requires height { other.now.planes.height ≡ self.now.planes.height }
+        requires table { other.now.members.table.items ≡ self.now.members.table.items }
+        ensures { let p = self.now.planes in let first = length self.now.members.table.items * p.height in
+            result ≡ true → AreSameFrom first p.words.items other.now.planes.words.items }
+    {
+        if !self.rests() {
+            return false;
+        }
+        other.rests()
+    }
+
+    /// Whether both boards, of the same size for the same game, say at once that nothing moves on them.
+    fn stand_still(&self, other: &RowBoard<W>) -> bool
+        requires height { other.now.planes.height ≡ self.now.planes.height }
+        requires table { other.now.members.table.items ≡ self.now.members.table.items }
+        ensures { let p = self.now.planes in let first = length self.now.members.table.items * p.height in
+            result ≡ true → AreSameFrom first p.words.items other.now.planes.words.items }
+    {
+        if self.may_move {
+            return false;
+        }
+        !other.may_move
+    }
+
+    /// How many planes there are, from the first on, in which the board may differ from another one of the same size
+    /// for the same game: those of objects, where nothing moves on either.
+    fn planes_used(&self, other: &RowBoard<W>) -> u32
+        requires height { other.now.planes.height ≡ self.now.planes.height }
+        requires layers { other.now.layers ≡ self.now.layers }
+        requires table { other.now.members.table.items ≡ self.now.members.table.items }
+        ensures within { result * self.now.planes.height ≤ vec_len self.now.planes.words }
+        ensures same { let p = self.now.planes in
+            AreSameFrom (result * p.height) p.words.items other.now.planes.words.items }
+    {
+        if self.both_rest(other) {
+            return self.members.count();
+        }
+        self.members.count() + 5 * self.layers
     }
 
     /// The rows in which the board differs from another one of the same size for the same game; nothing, where they are
@@ -245,7 +302,7 @@ impl<W: ColumnWords> RowBoard<W> {
         ensures back { let p = self.now.planes in IfOk result (λ found. IfSome found (λ rows.
             rows_changed p.height other.now.planes.words.items rows.items ≡ p.words.items)) }
     {
-        let planes = self.members.count() + 5 * self.layers;
+        let planes = self.planes_used(other);
         differences(alloc, &self.planes, &other.planes, planes)
     }
 
@@ -262,6 +319,7 @@ impl<W: ColumnWords> RowBoard<W> {
         ensures layers { self.new.layers ≡ self.old.layers }
         ensures table { self.new.members.table.items ≡ self.old.members.table.items }
     {
+        self.may_move = self.may_move | reach(rows, self.members.count());
         change_rows(&mut self.planes, rows);
     }
 
@@ -282,6 +340,9 @@ impl<W: ColumnWords> RowBoard<W> {
         let objects = self.members.of(layer);
         if !same_planes(&self.planes, &other.planes, self.width, objects) {
             return false;
+        }
+        if self.stand_still(other) {
+            return true;
         }
         let first = self.motions_from(layer);
         let motions = [first, first + 1, first + 2, first + 3, first + 4];
@@ -314,6 +375,7 @@ impl<W: ColumnWords> Board for RowBoard<W> {
             layers,
             members,
             planes,
+            may_move: true,
         })
     }
 
@@ -326,6 +388,7 @@ impl<W: ColumnWords> Board for RowBoard<W> {
             layers: self.layers,
             members,
             planes,
+            may_move: self.may_move,
         })
     }
 
@@ -350,16 +413,20 @@ impl<W: ColumnWords> Board for RowBoard<W> {
         let first = self.motions_from(layer.0);
         let objects = self.members.of(layer.0);
         let object = number_of(object);
+        self.may_move = true;
         put_slot(&mut self.planes, cell, objects, object, first, motion);
     }
 
     fn clear_moves(&mut self) {
         let first = self.members.count();
-        self.planes.clear_from(first);
+        self.planes.clear_moved(first, self.may_move);
+        self.may_move = false;
     }
 
     fn copy_into(&self, other: &mut RowBoard<W>) {
-        self.planes.copy_into(&mut other.planes);
+        let planes = self.planes_used(other);
+        self.planes.copy_into(&mut other.planes, planes as usize);
+        other.may_move = self.may_move;
     }
 
     fn movers(&self, layer: LayerId, row: u32) -> Columns<W> {
@@ -388,6 +455,9 @@ impl<W: ColumnWords> Board for RowBoard<W> {
 
     /// The rows of all planes of motions, by the index.
     fn rows_moving_any(&self) -> Columns<W> {
+        if !self.may_move {
+            return Columns::none();
+        }
         self.planes.rows_from(self.members.count())
     }
 
@@ -431,6 +501,7 @@ impl<W: ColumnWords> Board for RowBoard<W> {
     fn copy_rows(&self, other: &mut RowBoard<W>, rows: &Columns<W>) {
         let objects = self.members.count();
         self.planes.copy_rows(&mut other.planes, objects, *rows);
-        other.planes.clear_from(objects);
+        other.planes.clear_moved(objects, other.may_move);
+        other.may_move = false;
     }
 }

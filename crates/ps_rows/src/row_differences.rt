@@ -1,6 +1,8 @@
 //! How the rows of planes differ from others', and how they become those.
 
-ghost use Rattle.std.specs.Prelude.{◌≡◌, ◌+◌, ◌*◌, ◌<◌, ◌≤◌, ◌^◌, IfOk, IfSome, OnOk, vec_len};
+ghost use Rattle.std.specs.Prelude.{◌≡◌, ◌+◌, ◌*◌, ◌<◌, ◌≤◌, ◌^◌, IfOk, IfSome, OnOk, nat_le, vec_len};
+ghost use Rattle.std.specs.List.{list_any};
+ghost use Rattle.ps_rows.specs.Planes.{AreSameFrom};
 ghost use Rattle.ps_rows.specs.RowDifferences.{LeadBothWays, row_changed, rows_changed};
 
 use crate::planes::Planes;
@@ -44,6 +46,13 @@ pub fn change_rows<W: ColumnWords>(planes: &mut Planes<W>, rows: &[RowDifference
     }
 }
 
+/// Whether one of some rows is of that plane or of one behind it.
+pub fn reach<S: Copy>(rows: &[RowDifference<S>], plane: u32) -> bool
+    ensures { result ≡ list_any (λ row. nat_le plane row.plane) rows.now }
+{
+    rows.iter().any(|row| plane <= row.plane)
+}
+
 /// Adds the rows in which a plane differs, where the planes before it have been added. Those that neither side has
 /// marked aren't read.
 fn add_differences<W: ColumnWords>(
@@ -78,8 +87,9 @@ fn add_differences<W: ColumnWords>(
     Ok(())
 }
 
-/// The rows in which planes differ from others, as many of the same height; nothing, where they are more than half of
-/// all rows. They make the first planes the second ones, and the second ones the first.
+/// The rows in which planes differ from others, as many of the same height, of which so many, the first ones, aren't
+/// known to be the same; nothing, where they are more than half of all rows. They make the first planes the second ones,
+/// and the second ones the first.
 ///
 /// # Errors
 ///
@@ -92,7 +102,8 @@ pub fn differences<W: ColumnWords>(
 ) -> Result<Option<Vec<RowDifference<Columns<W>>>>, Memory>
     requires height { second.now.height ≡ first.now.height }
     requires count { vec_len second.now.words ≡ vec_len first.now.words }
-    requires planes { planes * first.now.height ≡ vec_len first.now.words }
+    requires planes { planes * first.now.height ≤ vec_len first.now.words }
+    requires rest { AreSameFrom (planes * first.now.height) first.now.words.items second.now.words.items }
     ensures forth { IfOk result (λ found. IfSome found (λ rows.
         rows_changed first.now.height first.now.words.items rows.items ≡ second.now.words.items)) }
     ensures back { IfOk result (λ found. IfSome found (λ rows.

@@ -1,6 +1,6 @@
 //! Whether planes have the same cells on two boards, or in two columns of one.
 
-ghost use Rattle.std.specs.Prelude.{◌≡◌, ◌+◌, ◌*◌, ◌<◌, ◌≤◌, length, true, vec_len};
+ghost use Rattle.std.specs.Prelude.{◌≡◌, ◌+◌, ◌*◌, ◌<◌, ◌≤◌, false, length, true, vec_len};
 ghost use Rattle.ps_model.specs.declared.limits.TheConstants.{SIDE_LIMIT};
 ghost use Rattle.ps_rows.specs.Planes.{HavePlanes, row_of};
 ghost use Rattle.ps_rows.specs.Sameness.{AreSamePlanes, AreSameRows, HasDifferences, IsSamePlane};
@@ -19,7 +19,31 @@ fn same_row<W: ColumnWords>(first: Columns<W>, second: Columns<W>, width: u32) -
     first.unlike(second).both(Columns::below(width)).is_empty()
 }
 
-/// Whether a plane has the same cells on two boards of this width. Rows that neither has marked aren't read.
+/// Whether the first row of a plane that is marked, on one of two boards of this width, has other cells on the other.
+fn differs_first<W: ColumnWords>(
+    first: &Planes<W>,
+    second: &Planes<W>,
+    width: u32,
+    plane: u32,
+) -> bool
+    requires width { width ≤ SIDE_LIMIT }
+    requires narrow { width ≤ W.limit }
+    requires height { second.now.height ≡ first.now.height }
+    requires first { (plane + 1) * first.now.height ≤ vec_len first.now.words }
+    requires second { (plane + 1) * first.now.height ≤ vec_len second.now.words }
+    ensures { let here = first.now.words.items in
+        IsSamePlane width first.now.height here second.now.words.items plane → result ≡ false }
+{
+    let rows = first.rows_of(plane).either(second.rows_of(plane));
+    let mut left = rows.both(Columns::below(first.height));
+    let Some(row) = left.take_first() else {
+        return false;
+    };
+    !same_row(first.row(plane, row), second.row(plane, row), width)
+}
+
+/// Whether a plane has the same cells on two boards of this width. Rows that neither has marked aren't read. The first
+/// of the others is looked at by itself: where one thing has moved, it tells.
 fn same_plane<W: ColumnWords>(first: &Planes<W>, second: &Planes<W>, width: u32, plane: u32) -> bool
     requires width { width ≤ SIDE_LIMIT }
     requires narrow { width ≤ W.limit }
@@ -31,6 +55,9 @@ fn same_plane<W: ColumnWords>(first: &Planes<W>, second: &Planes<W>, width: u32,
     ensures other { let here = first.now.words.items in
         IsSamePlane width first.now.height here second.now.words.items plane → result ≡ true }
 {
+    if differs_first(first, second, width, plane) {
+        return false;
+    }
     if first.has_same_plane(second, plane) {
         return true;
     }

@@ -91,6 +91,9 @@ impl<W: ColumnWords> RowBoard<W> {
         requires row { row < self.now.planes.height }
         ensures { result ≡ five_rows self.now.planes.height self.now.planes.words.items first row }
     {
+        if self.planes.is_unmarked(first, row) {
+            return Columns::none();
+        }
         self.row(first, row)
             .either(self.row(first + 1, row))
             .either(self.row(first + 2, row))

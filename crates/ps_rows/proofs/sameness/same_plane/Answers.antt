@@ -12,6 +12,10 @@ returns-then-has_same_plane-clause-same g c = λ told row under x across.
     ap (λ (word : List Bool). column_at word x)
     (c.has_same_plane.ensures c.if-has_same_plane.true row under (none_at row))
 
+pub returns-then-differs_first-clause-other : goal.returns-then-differs_first-clause-other
+returns-then-differs_first-clause-other g c = λ same.
+    sym (c.differs_first.ensures same) ∙ c.if-differs_first.true
+
 pub loop-row-init : goal.loop-row-init
 loop-row-init g c =
     let p = c.args.first.now in

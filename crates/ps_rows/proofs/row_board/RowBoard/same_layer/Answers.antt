@@ -2,7 +2,8 @@ use Rattle.std.proofs.Common.{◌*◌, ◌∙◌, ℕ, List, sym}
 use Rattle.ps_rows.specs.Members.{on_layer}
 use Rattle.ps_rows.specs.Showing.{motion_planes, motions_from, AreObjectsShown, AreMotionsShown}
 use Rattle.ps_rows.specs.Sameness.{AreSamePlanes}
-use Rattle.ps_rows.proofs.Alike.{layer_same, same_objects, same_moves, other_whole, other_objects, other_motions}
+use Rattle.ps_rows.proofs.Alike.{layer_same, same_objects, same_moves, still_moves, other_whole, other_objects}
+use Rattle.ps_rows.proofs.Alike.{other_motions}
 use Rattle.ps_rows.proofs.Puts.{planes_whole}
 use Rattle.ps_rows.proofs.row_board.RowBoard.same_layer.Goals as goal
 
@@ -35,6 +36,19 @@ returns-then-not-same_planes-clause-other g c = λ same.
     (same_objects table b.width b.planes.height b.planes.words.items o.planes.words.items c.args.layer b.objects
     showing same) in
     sym c.if-not-same_planes.true ∙ c.same_planes.ensures.other objects
+
+pub returns-then-stand_still-clause-same : goal.returns-then-stand_still-clause-same
+returns-then-stand_still-clause-same g c = λ e.
+    let b = c.args.self.now in
+    let o = c.args.other.now in
+    let table : List ℕ = b.members.table.items in
+    let objects : AreSamePlanes b.width b.planes.height b.planes.words.items o.planes.words.items
+    (on_layer table c.args.layer) =
+    rw (← c.of-objects.ensures) (c.same_planes.ensures.same c.if-not-same_planes.false) in
+    layer_same table b.width b.planes.height b.planes.words.items o.planes.words.items c.args.layer b.planes.some_row
+    objects
+    (still_moves table b.width b.planes.height b.planes.words.items o.planes.words.items c.args.layer
+    (c.stand_still.ensures c.if-stand_still.true))
 
 pub returns-clause-same : goal.returns-clause-same
 returns-clause-same g c = λ e.

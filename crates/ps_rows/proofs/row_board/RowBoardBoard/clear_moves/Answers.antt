@@ -1,14 +1,30 @@
-use Rattle.std.proofs.Common.{◌≡◌, ℕ, ◌*◌, ◌∙◌, List, length, sym, ap}
-use Rattle.ps_rows.specs.Showing.{cleared_from}
+use Rattle.std.proofs.Common.{◌≡◌, ℕ, ◌*◌, ◌≤◌, ◌∙◌, List, length, sym, ap, arith}
+use Rattle.ps_rows.specs.Showing.{cleared_from, motions_from}
+use Rattle.ps_rows.proofs.PlaneCopies.{behind_plane, cleared_empty}
 use Rattle.ps_rows.proofs.Rests.{rested_objects, rested_motions}
 use Rattle.ps_rows.proofs.Whole.{rest_grid}
 use Rattle.ps_rows.proofs.row_board.RowBoardBoard.clear_moves.Goals as goal
+
+pub clear_moved-requires-clause-rest : goal.clear_moved-requires-clause-rest
+clear_moved-requires-clause-rest g c = λ still. rw c.count-first.ensures.value (c.args.self.now.rest still)
+
+pub invariant_of-self-clause-rest : goal.invariant_of-self-clause-rest
+invariant_of-self-clause-rest g c = λ still.
+    let b = c.args.self.now in
+    let first : ℕ = length b.members.table.items in
+    let all : ℕ = motions_from b.members.table.items b.layers in
+    let fewer : first ≤ all = omega arith in
+    let less : first * b.planes.height ≤ all * b.planes.height = behind_plane b.planes.height first all fewer in
+    let within : first * b.planes.height ≤ length b.planes.words.items =
+    omega (arith, less, b.whole, b.planes.words.ok.0) in
+    rw (c.clear_moved.ensures.words, c.clear_moved.ensures.height, c.count-first.ensures.value)
+    (cleared_empty (first * b.planes.height) b.planes.words.items within)
 
 pub invariant_of-self-clause-objects : goal.invariant_of-self-clause-objects
 invariant_of-self-clause-objects g c =
     let b = c.args.self.now in
     let table : List ℕ = b.members.table.items in
-    rw (c.clear_from.ensures.words, c.clear_from.ensures.height, c.count-first.ensures.value)
+    rw (c.clear_moved.ensures.words, c.clear_moved.ensures.height, c.count-first.ensures.value)
     (rested_objects table b.layers b.planes.height (b.width * b.planes.height) b.planes.words.items b.planes.some_row
     (sym b.planes.words.ok.0 ∙ b.whole) b.objects)
 
@@ -16,7 +32,7 @@ pub invariant_of-self-clause-motions : goal.invariant_of-self-clause-motions
 invariant_of-self-clause-motions g c =
     let b = c.args.self.now in
     let table : List ℕ = b.members.table.items in
-    rw (c.clear_from.ensures.words, c.clear_from.ensures.height, c.count-first.ensures.value)
+    rw (c.clear_moved.ensures.words, c.clear_moved.ensures.height, c.count-first.ensures.value)
     (rested_motions table b.layers b.planes.height (b.width * b.planes.height) b.planes.words.items b.planes.some_row
     (sym b.planes.words.ok.0 ∙ b.whole))
 
@@ -24,9 +40,9 @@ pub returns-clause-grid : goal.returns-clause-grid
 returns-clause-grid g c =
     let b = c.args.self.now in
     let table : List ℕ = b.members.table.items in
-    let so : c.clear_from.new.self.words.items ≡ cleared_from (length table * b.planes.height) b.planes.words.items =
-    c.clear_from.ensures.words ∙ ap (λ (first : ℕ).
+    let so : c.clear_moved.new.self.words.items ≡ cleared_from (length table * b.planes.height) b.planes.words.items =
+    c.clear_moved.ensures.words ∙ ap (λ (first : ℕ).
     cleared_from (first * b.planes.height) b.planes.words.items) c.count-first.ensures.value in
-    rw c.clear_from.ensures.height
-    (rest_grid table b.width b.planes.height b.layers b.planes.words.items c.clear_from.new.self.words.items
+    rw c.clear_moved.ensures.height
+    (rest_grid table b.width b.planes.height b.layers b.planes.words.items c.clear_moved.new.self.words.items
     b.planes.some_row (sym b.planes.words.ok.0 ∙ b.whole) so)

@@ -1,8 +1,18 @@
-use Rattle.std.proofs.Common.{◌<◌, arith}
+use Rattle.std.proofs.Common.{◌+◌, ◌*◌, ◌<◌, length, arith}
 use Rattle.ps_rows.proofs.Marked.{planes_indexed}
+use Rattle.ps_rows.proofs.PlaneCopies.{behind_plane}
 use Rattle.ps_rows.proofs.Unmarked.{none_moving}
 use Rattle.ps_model.specs.declared.limits.TheConstants.{SIDE_LIMIT}
 use Rattle.ps_rows.proofs.row_board.RowBoardBoard.rows_moving_any.Goals as goal
+
+pub returns-then-not-self : goal.returns-then-not-self
+returns-then-not-self g c = λ row under none.
+    let b = c.args.self.now in
+    none_moving b.members.table.items b.width b.planes.height b.layers b.planes.words.items row b.planes.some_row
+    b.columns under b.motions
+    (λ plane above below.
+    let past = behind_plane b.planes.height (length b.members.table.items) plane above in
+    b.rest c.if-not-self.true (plane * b.planes.height + row) (omega (arith, past)))
 
 pub returns : goal.returns
 returns g c = λ row under none.
