@@ -175,7 +175,7 @@ module _ (g : Grid) (table : Option (List ℕ)) (axis : Axis) (part : List Compi
         ∙ column_at-beyond (λ y. column_at own y && column_at below y) row far) ∙ on in absurd (cc)
   ]
 
-  count_low : (axis' : Axis) → count ≡ rows_with_room axis' g.height (length part) → count ≤ g.height
+  pub count_low : (axis' : Axis) → count ≡ rows_with_room axis' g.height (length part) → count ≤ g.height
   count_low Right is = omega (arith, is)
   count_low Down is = omega (arith, is, some)
 
@@ -231,6 +231,31 @@ module _ (g : Grid) (table : Option (List ℕ)) (axis : Axis) (part : List Compi
             absurd (cc)
         | inr from ↦ between row from (high row on)
       ]) are
+
+-- the only row of a set
+only_first : (rows left : List Bool) (first row : ℕ) → set_columns rows ≡ first ∷ set_columns left →
+    set_columns left ≡ [] → row < SIDE_LIMIT → column_at rows row ≡ true → row ≡ first
+only_first rows left first row taken none low on = elim (cases_eq row first) [
+  | inl same ↦ same
+  | inr apart ↦
+      let other : nat_eq row first ≡ false = grind (arith, nat_tests, apart) in
+      let clash : false ≡ true =
+      sym (taken_out rows left first row taken low
+      ∙ ap (λ (b : Bool). b || column_at left row) other ∙ none_in left row none low) ∙ on in
+      absurd (cc)
+]
+
+pub only_on : (of below both left : List Bool) (first row : ℕ) → both ≡ both_columns of below →
+    set_columns both ≡ first ∷ set_columns left → set_columns left ≡ [] → column_at both row ≡ true → row ≡ first
+only_on of below both left first row is taken none on = elim (cases_lt row SIDE_LIMIT) [
+  | inl low ↦ only_first both left first row taken none low on
+  | inr far ↦
+      let off : column_at both row ≡ false =
+      ap (λ (set : List Bool). column_at set row) is
+      ∙ column_at-beyond (λ x. column_at of x && column_at below x) row far in
+      let clash : false ≡ true = sym off ∙ on in
+      absurd (cc)
+]
 
 -- the columns kept of a row on which a part begins
 pub kept_where : (g : Grid) (table : Option (List ℕ)) (axis : Axis) (part : List CompiledCell)

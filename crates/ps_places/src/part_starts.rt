@@ -1,9 +1,9 @@
 //! Where one part of a row of a rule begins as the board is, row by row of the board.
 
-ghost use Rattle.std.specs.Prelude.{◌≡◌, ◌≢◌, ◌+◌, ◌<◌, ◌≤◌, ◌∷◌, [], length, replicate, true};
+ghost use Rattle.std.specs.Prelude.{◌≡◌, ◌≢◌, ◌+◌, ◌<◌, ◌≤◌, ◌∷◌, ℕ, [], length, replicate, true};
 ghost use Rattle.ps_model.specs.declared.limits.TheConstants.{SIDE_LIMIT};
 ghost use Rattle.ps_model.specs.board.Places.{places};
-ghost use Rattle.ps_board.specs.ColumnSets.{no_columns, set_columns};
+ghost use Rattle.ps_board.specs.ColumnSets.{column_at, no_columns, set_columns};
 ghost use Rattle.ps_program.specs.Axes.{direction_of};
 ghost use Rattle.ps_laws.specs.WholeRows.{HasCells};
 ghost use Rattle.ps_places.specs.Lines.{part_meaning};
@@ -196,6 +196,32 @@ fn rows_begun<W: ColumnWords>(rows: Columns<W>, starts: &[Columns<W>]) -> Column
     begun
 }
 
+/// Finds the columns in which a part begins of the only one of some rows, and answers these rows, where it has one.
+fn find_on_row<B: Scan>(
+    board: &B,
+    axis: Axis,
+    part: &[CompiledCell],
+    rows: Columns<B::Words>,
+    first: u32,
+    starts: &mut [Columns<B::Words>],
+) -> Columns<B::Words>
+    requires whole { HasCells part.now }
+    requires row { first < (B.grid board.now).height }
+    requires only { (row : ℕ) → column_at rows row ≡ true → row ≡ first }
+    requires room { SIDE_LIMIT ≤ length starts.old }
+    ensures begun { BeginBetween (B.grid board.now) (B.table board.now) axis part.now first (first + 1) starts.new }
+    ensures rows { AreRowsBegun rows starts.new result }
+    ensures long { length starts.new ≡ length starts.old }
+{
+    let (_width, _height) = board.size();
+    let columns = starts_on_row(board, axis, part, first);
+    starts[first as usize] = columns;
+    if columns.is_empty() {
+        return Columns::none();
+    }
+    rows
+}
+
 /// Whether it is known by what the cells of a part ask for that it begins nowhere; it needn't be known where it does.
 /// No memory is taken.
 pub fn begins_nowhere<B: Scan>(board: &B, axis: Axis, part: &[CompiledCell]) -> bool
@@ -232,6 +258,9 @@ pub fn find_rows<B: Scan>(
     let Some(first) = left.take_first() else {
         return rows;
     };
+    if left.is_empty() {
+        return find_on_row(board, axis, part, rows, first, starts);
+    }
     let end = end_of(rows, first, count);
     find_between(board, axis, part, first, end, starts, scanned);
     rows_begun(rows, starts)
