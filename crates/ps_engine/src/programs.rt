@@ -83,6 +83,7 @@ fn play_loop<'r, B: Scan>(
 /// # Errors
 ///
 /// `Memory`, as for a group or a loop.
+#[inline(always)]
 fn play_section<'r, B: Scan>(
     section: &CompiledSection<'r>,
     repeats: u32,
