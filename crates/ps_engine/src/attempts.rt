@@ -114,6 +114,9 @@ pub fn attempt<'r, B: Scan>(
     ensures sides { sides_of (B.grid board.new) ≡ sides_of (B.grid board.old) }
     ensures rooms { length rooms.new ≡ length rooms.old }
 {
+    if lacks_object(board, rule) {
+        return false;
+    }
     if !rule.rewrites {
         attempt_commands(rule, board, queue, rooms);
         return false;
@@ -121,9 +124,6 @@ pub fn attempt<'r, B: Scan>(
     let rows = rule.rows.as_slice();
     if let Some(part) = only_part(rows) {
         return attempt_part(rule, part, board, queue, rooms);
-    }
-    if lacks_object(board, rule) {
-        return false;
     }
     if let Some(writer) = rule.writer {
         return attempt_writer(rule, writer, board, queue, &mut rooms[0]);
