@@ -1,9 +1,9 @@
 //! What is done for a command line.
 
-ghost use Rattle.std.specs.Prelude.{◌≡◌, ◌+◌, ◌<◌, ◌≤◌, false, true, IfOk, IfSome, OnOk, is_some, length};
+ghost use Rattle.std.specs.Prelude.{◌≡◌, ◌+◌, ◌<◌, ◌≤◌, false, true, IfOk, IfSome, OnOk, is_some, length, map};
 ghost use Rattle.ps_model.specs.game.Games.{game};
 ghost use Rattle.ps_check.specs.Checks.{check_line, named_line};
-ghost use Rattle.ps_command.specs.Told.{GrowsBy, TellsOf, TellsOfGame};
+ghost use Rattle.ps_command.specs.Told.{GrowsBy, TellsOf, TellsOfGame, TellsOfGames};
 ghost use Rattle.ps_devices.specs.Devices.{Grows};
 
 use crate::command::{Asked, read_command};
@@ -110,7 +110,8 @@ struct Said {
     unread: usize,
 }
 
-/// Says of each of several files on the screen whether its text is a game. It is well where all are.
+/// Says of each of several files on the screen whether its text is a game. It is well where all are: then the line of
+/// each was written, in their order, and nothing else.
 fn check_texts<R: Files + AllocGlobal + Eprint, I: ByteReader, O: ByteWriter>(
     rt: &R,
     paths: &[&str],
@@ -120,6 +121,8 @@ fn check_texts<R: Files + AllocGlobal + Eprint, I: ByteReader, O: ByteWriter>(
 ) -> Result<(), Stop>
     requires heard { (I.state input.old).has_failed ≡ false }
     requires well { (O.state screen.old).has_failed ≡ false }
+    ensures { OnOk result (TellsOfGames (map (λ path. path.now) paths.now)
+        (O.state screen.old).contents (O.state screen.new).contents) }
 {
     let said = check_each(rt, paths, detail, input, screen)?;
     if said.faulty == 0 && said.unread == 0 {
@@ -143,6 +146,8 @@ fn check_each<R: Files + AllocGlobal + Eprint, I: ByteReader, O: ByteWriter>(
     ensures each { IfOk result (λ said. said.games + (said.faulty + said.unread) ≡ length paths.now) }
     ensures written { IfOk result (λ said.
         (O.state screen.old).calls + (said.games + said.faulty) ≤ (O.state screen.new).calls) }
+    ensures games { IfOk result (λ said. said.games ≡ length paths.now → TellsOfGames (map (λ path. path.now) paths.now)
+        (O.state screen.old).contents (O.state screen.new).contents) }
 {
     let mut games = 0;
     let mut faulty = 0;
@@ -211,6 +216,8 @@ fn check_bytes<O: ByteWriter>(
     ensures accepted { IfOk result (λ accepted. accepted ≡ is_some (game text.now)) }
     ensures told { OnOk result
         (GrowsBy (named_line path.now text.now) (O.state screen.old).contents (O.state screen.new).contents) }
+    ensures alone { IfOk result (λ accepted. accepted ≡ true
+        → Grows (O.state screen.old).contents (O.state screen.new).contents (named_line path.now text.now)) }
 {
     if check_named(alloc, path, text, screen)? {
         return Ok(true);

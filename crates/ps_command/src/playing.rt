@@ -1,9 +1,9 @@
 //! A game that is played.
 
-ghost use Rattle.std.specs.Prelude.{◌≡◌, false, OnOk};
+ghost use Rattle.std.specs.Prelude.{◌≡◌, false, IfErr, None, OnOk};
 ghost use Rattle.ps_model.specs.declared.play.Ending.{Ending};
 ghost use Rattle.ps_model.specs.game.Headline.{Ends, RunsRightly};
-ghost use Rattle.ps_command.specs.Told.{EndsRightly};
+ghost use Rattle.ps_command.specs.Told.{EndsRightly, StopsRightly};
 
 use crate::command::Play;
 use crate::files::read_text;
@@ -69,7 +69,9 @@ fn play_from<R: Files + AllocGlobal, I: ByteReader, O: ByteWriter>(
 ) -> Result<(), Stop>
     requires heard { (I.state keys.old).has_failed ≡ false }
     requires well { (O.state screen.old).has_failed ≡ false }
-    ensures { OnOk result (EndsRightly text.now (O.state screen.old) (O.state screen.new)) }
+    ensures ended { OnOk result (EndsRightly text.now (O.state screen.old) (O.state screen.new)) }
+    ensures stopped { file.entry ≡ None → IfErr result (λ stop. StopsRightly text.now (I.state keys.old)
+        (I.state keys.new) (O.state screen.old) (O.state screen.new) stop) }
 {
     let Some(file) = file else {
         return play(rt, text, keys, screen);
@@ -88,9 +90,13 @@ fn play<R: AllocGlobal, I: ByteReader, O: ByteWriter>(
 ) -> Result<(), Stop>
     requires heard { (I.state keys.old).has_failed ≡ false }
     requires well { (O.state screen.old).has_failed ≡ false }
-    ensures { OnOk result ((ending : Ending) × RunsRightly text.now (I.state keys.old) (I.state keys.new)
+    ensures ended { OnOk result ((ending : Ending) × RunsRightly text.now (I.state keys.old) (I.state keys.new)
         (O.state screen.old) (O.state screen.new) (Ends ending)) }
+    ensures stopped { IfErr result (λ stop. StopsRightly text.now (I.state keys.old) (I.state keys.new)
+        (O.state screen.old) (O.state screen.new) stop) }
 {
-    let _ending = run(rt.alloc(), text, keys, screen)?;
-    Ok(())
+    match run(rt.alloc(), text, keys, screen) {
+        Ok(_ending) => Ok(()),
+        Err(fault) => Err(Stop::Run(fault)),
+    }
 }

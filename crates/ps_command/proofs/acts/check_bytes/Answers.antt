@@ -1,4 +1,4 @@
-use Rattle.std.proofs.Common.{[], List, ℕ, ap, subst, sym}
+use Rattle.std.proofs.Common.{[], List, ℕ, subst, sym}
 use Rattle.std.proofs.lemmas.List.{append-nil}
 use Rattle.ps_check.specs.Checks.{named_line}
 use Rattle.ps_devices.specs.Devices.{Grows}
