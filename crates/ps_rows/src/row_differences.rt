@@ -88,8 +88,8 @@ fn add_differences<W: ColumnWords>(
 }
 
 /// The rows in which planes differ from others, as many of the same height, of which so many, the first ones, aren't
-/// known to be the same; nothing, where they are more than half of all rows. They make the first planes the second ones,
-/// and the second ones the first.
+/// known to be the same; nothing, where they are more than half of all rows. They make the first planes the second
+/// ones, and the second ones the first.
 ///
 /// # Errors
 ///

@@ -26,7 +26,7 @@ nothing_given : (left : Option (List ℕ)) → Loses left left []
 nothing_given None = refl
 nothing_given (Some known) = refl
 
-nothing_taken : (contents : Option (List ℕ)) → Grows contents contents []
+pub nothing_taken : (contents : Option (List ℕ)) → Grows contents contents []
 nothing_taken None = refl
 nothing_taken (Some known) = rw (append-nil known) refl
 
