@@ -8,12 +8,8 @@ use Rattle.std.proofs.lemmas.List.Folds.{concat-append}
 use Rattle.ps_check.specs.Checks.{named_line}
 use Rattle.ps_devices.specs.Devices.{Grows}
 use Rattle.ps_devices.proofs.Pieces.{grows_twice}
+use Rattle.ps_run.proofs.Rightly.{nothing_taken}
 use Rattle.ps_command.specs.Told.{TellsOf, TellsOfGames}
-
--- nothing more
-grows_nothing : (before : Option (List ℕ)) → Grows before before []
-grows_nothing None = refl
-grows_nothing (Some bytes) = ap Some (sym (append-nil bytes))
 
 -- none so far
 pub games_none : (before : Option (List ℕ)) → TellsOfGames [] before before
@@ -22,7 +18,7 @@ games_none before =
       lines = [];
       long = refl;
       each = λ k few. absurd (omega (arith, few));
-      wrote = grows_nothing before;
+      wrote = nothing_taken before;
     }
 
 -- one more name
