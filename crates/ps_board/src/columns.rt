@@ -1,6 +1,6 @@
 //! Sets of columns of one row of a board.
 
-ghost use Rattle.std.specs.Prelude.{◌≡◌, ◌<◌, ◌≤◌, [], ◌∷◌, None, IfSome, false, length, true};
+ghost use Rattle.std.specs.Prelude.{◌≡◌, ◌<◌, ◌≤◌, [], ◌∷◌, None, IfSome, false, length, nat_le, true};
 ghost use Rattle.ps_model.specs.declared.limits.TheConstants.{SIDE_LIMIT};
 ghost use Rattle.ps_board.specs.ColumnSets.{both_columns, column_at, columns_ahead, columns_behind};
 ghost use Rattle.ps_board.specs.ColumnSets.{columns_below, columns_without, either_columns};
@@ -82,6 +82,20 @@ impl<W: ColumnWords> Columns<W> {
         ensures some { result ≡ false → 0 < length (set_columns self.now) }
     {
         self.words.is_empty()
+    }
+
+    /// Whether at most two columns are in the set.
+    pub fn has_few(self) -> bool
+        ensures { result ≡ nat_le (length (set_columns self)) 2 }
+    {
+        let mut left = self;
+        if left.take_first().is_none() {
+            return true;
+        }
+        if left.take_first().is_none() {
+            return true;
+        }
+        left.is_empty()
     }
 
     /// The set with a column in it, or without it.

@@ -425,6 +425,21 @@ impl<W: ColumnWords> Planes<W> {
         unlike.is_empty()
     }
 
+    /// Whether a plane is known to have the same rows on others, of the same height, where these may have a column. Where
+    /// that are few, they are sooner looked at one by one, and the answer is no.
+    pub fn has_same_many(&self, other: &Planes<W>, plane: u32, marked: Columns<W>) -> bool
+        requires height { other.now.height ≡ self.now.height }
+        requires here { (plane + 1) * self.now.height ≤ vec_len self.now.words }
+        requires there { (plane + 1) * self.now.height ≤ vec_len other.now.words }
+        ensures { result ≡ true →
+            DifferOnlyOnRows self.now.height plane self.now.words.items other.now.words.items no_columns }
+    {
+        if marked.has_few() {
+            return false;
+        }
+        self.has_same_words(other, plane)
+    }
+
     /// Whether a plane is known to have the same rows on others, of the same height. One without columns on both sides
     /// isn't read.
     pub fn has_same_plane(&self, other: &Planes<W>, plane: u32) -> bool
@@ -476,11 +491,11 @@ impl<W: ColumnWords> Planes<W> {
         requires there { (plane + 1) * self.now.height ≤ vec_len other.now.words }
         ensures { DifferOnlyOnRows self.now.height plane self.now.words.items other.now.words.items result }
     {
-        if self.has_same_plane(other, plane) {
-            return Columns::none();
-        }
         let mut rows = self.rows_of(plane).either(other.rows_of(plane));
         let mut left = rows.both(Columns::below(self.height));
+        if self.has_same_many(other, plane, left) {
+            return Columns::none();
+        }
         while let Some(row) = left.take_first() {
             let unlike = self.row(plane, row).unlike(other.row(plane, row));
             rows = rows.with(row, !unlike.is_empty());

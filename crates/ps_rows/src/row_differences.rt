@@ -69,11 +69,11 @@ fn add_differences<W: ColumnWords>(
     ensures { let p = first.now in OnOk result
         (LeadBothWays p.height ((plane + 1) * p.height) p.words.items second.now.words.items found.new.items) }
 {
-    if first.has_same_plane(second, plane) {
-        return Ok(());
-    }
     let marked = first.rows_of(plane).either(second.rows_of(plane));
     let mut left = marked.both(Columns::below(first.height));
+    if first.has_same_many(second, plane, left) {
+        return Ok(());
+    }
     while let Some(row) = left.take_first() {
         let columns = first.row(plane, row).unlike(second.row(plane, row));
         if !columns.is_empty() {

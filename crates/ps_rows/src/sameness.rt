@@ -42,8 +42,7 @@ fn differs_first<W: ColumnWords>(
     !same_row(first.row(plane, row), second.row(plane, row), width)
 }
 
-/// Whether a plane has the same cells on two boards of this width. Rows that neither has marked aren't read. The first
-/// of the others is looked at by itself: where one thing has moved, it tells.
+/// Whether a plane has the same cells on two boards of this width. Rows that neither has marked aren't read.
 fn same_plane<W: ColumnWords>(first: &Planes<W>, second: &Planes<W>, width: u32, plane: u32) -> bool
     requires width { width ≤ SIDE_LIMIT }
     requires narrow { width ≤ W.limit }
@@ -55,20 +54,41 @@ fn same_plane<W: ColumnWords>(first: &Planes<W>, second: &Planes<W>, width: u32,
     ensures other { let here = first.now.words.items in
         IsSamePlane width first.now.height here second.now.words.items plane → result ≡ true }
 {
-    if differs_first(first, second, width, plane) {
-        return false;
-    }
-    if first.has_same_plane(second, plane) {
-        return true;
-    }
     let marked = first.rows_of(plane).either(second.rows_of(plane));
     let mut left = marked.both(Columns::below(first.height));
+    if first.has_same_many(second, plane, left) {
+        return true;
+    }
     while let Some(row) = left.take_first() {
         if !same_row(first.row(plane, row), second.row(plane, row), width) {
             return false;
         }
     }
     true
+}
+
+/// Whether the first marked row of one of these planes tells that they don't have the same cells on two boards of this
+/// width: where one thing has moved, it does, before a whole plane is looked at.
+fn differ_soon<W: ColumnWords>(
+    first: &Planes<W>,
+    second: &Planes<W>,
+    width: u32,
+    planes: &[u32],
+) -> bool
+    requires width { width ≤ SIDE_LIMIT }
+    requires narrow { width ≤ W.limit }
+    requires height { second.now.height ≡ first.now.height }
+    requires first { HavePlanes first.now.height first.now.words.items planes.now }
+    requires second { HavePlanes first.now.height second.now.words.items planes.now }
+    ensures { let here = first.now.words.items in
+        AreSamePlanes width first.now.height here second.now.words.items planes.now → result ≡ false }
+{
+    for plane in planes {
+        if differs_first(first, second, width, *plane) {
+            return true;
+        }
+    }
+    false
 }
 
 /// Whether these planes have the same cells on two boards of this width.
@@ -88,6 +108,9 @@ pub fn same_planes<W: ColumnWords>(
     ensures other { let here = first.now.words.items in
         AreSamePlanes width first.now.height here second.now.words.items planes.now → result ≡ true }
 {
+    if differ_soon(first, second, width, planes) {
+        return false;
+    }
     for plane in planes {
         if !same_plane(first, second, width, *plane) {
             return false;

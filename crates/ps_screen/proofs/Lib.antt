@@ -1,6 +1,7 @@
 mod FrameTexts
 mod Groups
 mod KeptRows
+mod LookedUp
 mod Objects
 mod Painting
 mod PlainFrames

@@ -1,11 +1,10 @@
 -- Frames, a cell and a row further, and the three tests for a glyph.
-use Rattle.std.proofs.Common.{◌≡◌, ◌∙◌, ℕ, suc, zero, ◌+◌, List, ◌++◌, Option, Some, None, refl, sym, ap, ap₂}
+use Rattle.std.proofs.Common.{◌≡◌, ◌∙◌, ℕ, suc, zero, ◌+◌, List, ◌++◌, Option, Some, None, refl, sym, ap}
 use Rattle.std.proofs.Common.{append_assoc, append-nil, arith, option_map}
 use Rattle.std.specs.List.{flat_map, range_with_len}
-use Rattle.std.specs.Prelude.{unwrap_or, find}
-use Rattle.ps_model.specs.declared.pieces.ObjectId.{ObjectId}
-use Rattle.ps_model.specs.names.Names.{Glyph, members}
-use Rattle.ps_model.specs.session.Frames.{same_objects, first_of_three, character_of}
+use Rattle.std.specs.Prelude.{unwrap_or}
+use Rattle.ps_model.specs.names.Names.{Glyph}
+use Rattle.ps_model.specs.session.Frames.{first_of_three, character_of}
 
 -- what one more number brings
 pub flat_map_range_more : {X : Type 0} (f : ℕ → List X) (a n j : ℕ) → a + n ≡ j →
@@ -29,14 +28,6 @@ pub text_more : {X : Type 0} (f : ℕ → List X) (n : ℕ) (before text more : 
     text ≡ before ++ flat_map f (range_with_len 0 n) → more ≡ text ++ f n →
     more ≡ before ++ flat_map f (range_with_len 0 (n + 1))
 text_more f n before text more so_far is = text_more_from f 0 n n before text more (omega arith) so_far is
-
--- the first glyph for equal objects among equal glyphs
-pub found_same : (glyphs others : List Glyph) (objects those : List ObjectId) → glyphs ≡ others → objects ≡ those →
-    option_map (λ glyph. glyph.character) (find (λ glyph. same_objects (members glyph.meaning) objects) glyphs)
-    ≡ option_map (λ glyph. glyph.character) (find (λ glyph. same_objects (members glyph.meaning) those) others)
-found_same glyphs others objects those e d =
-    ap₂ (λ (gs : List Glyph) (os : List ObjectId).
-    option_map (λ glyph. glyph.character) (find (λ glyph. same_objects (members glyph.meaning) os) gs)) e d
 
 -- the first test fits
 pub first_fits : (first second third : Option Glyph) (c : ℕ) → Some c ≡ option_map (λ glyph. glyph.character) first →

@@ -1,4 +1,5 @@
 pub mod FrameTexts
+pub mod Glyphs
 pub mod KeptRows
 pub mod PlainFrames
 pub mod PlainRows

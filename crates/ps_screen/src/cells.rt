@@ -2,13 +2,12 @@
 
 ghost use Rattle.std.specs.Prelude.{◌≡◌, ◌++◌, ◌<◌, OnOk, IfOk, option_to_list};
 ghost use Rattle.ps_model.specs.board.Grid.{IsGrid, cell_at, cell_count, slot_at};
-ghost use Rattle.ps_model.specs.board.Levels.{background_layer};
 ghost use Rattle.ps_model.specs.session.Frames.{objects_in, shown_character};
 
 use crate::glyphs::objects_character;
+use crate::look::Look;
 use ps_board::Board;
 use ps_model::{LayerId, Memory, ObjectId};
-use ps_names::Names;
 use std::alloc::Global;
 
 /// Space for the objects of one cell: all of them, and those above the background layer.
@@ -34,19 +33,17 @@ impl CellSpace {
 ///
 /// `Memory`.
 pub fn cell_character<B: Board>(
-    names: &Names,
-    ground: LayerId,
+    look: &Look<'_>,
     board: &B,
     cell: u32,
     space: &mut CellSpace,
 ) -> Result<char, Memory>
-    requires ground { ground.0 ≡ background_layer names.now }
     requires cell { cell < cell_count (B.grid board.now) }
     requires shape { IsGrid (B.grid board.now) }
-    ensures { IfOk result (λ character. character ≡ shown_character names.now (cell_at (B.grid board.now) cell)) }
+    ensures { IfOk result (λ character. character ≡ shown_character look.now (cell_at (B.grid board.now) cell)) }
 {
     gather_objects(board, cell, &mut space.objects)?;
-    objects_character(names, ground, &space.objects, &mut space.above)
+    objects_character(look, &space.objects, &mut space.above)
 }
 
 /// Gathers the objects of a cell, the lowest layer first, in place of what `objects` held.

@@ -1,17 +1,16 @@
 //! The text of a frame, as a picture keeps it.
 
 ghost use Rattle.std.specs.Prelude.{◌≡◌, ◌++◌, IfOk, IfSome, OnErr, OnOk};
-ghost use Rattle.ps_model.specs.board.Levels.{background_layer};
 ghost use Rattle.ps_model.specs.session.Frames.{frame};
 ghost use Rattle.ps_screen.specs.FrameTexts.{IsPatched, IsTextOf};
 
 use crate::cells::CellSpace;
+use crate::look::Look;
 use crate::output_text::OutputText;
 use crate::plain_frames::{draw_frame, patch_frame};
 use crate::rows::{draw_rows, patch_rows};
 use ps_board::{Board, Columns};
-use ps_model::{LayerId, Memory};
-use ps_names::Names;
+use ps_model::Memory;
 use std::alloc::Global;
 
 /// The text of a frame.
@@ -31,24 +30,22 @@ pub enum FrameText {
 /// `Memory`.
 pub fn draw_text<B: Board>(
     alloc: Global,
-    names: &Names,
-    ground: LayerId,
+    look: &Look<'_>,
     board: &B,
     space: &mut CellSpace,
     kept: Option<FrameText>,
 ) -> Result<FrameText, Memory>
-    requires { ground.0 ≡ background_layer names.now }
-    ensures { IfOk result (λ text. IsTextOf names.now (B.grid board.now) text) }
+    ensures { IfOk result (λ text. IsTextOf look.now (B.grid board.now) text) }
 {
     let mut whole = match kept {
         Some(FrameText::Whole(text)) => text,
         Some(FrameText::Rows(_texts)) => OutputText::new(alloc),
         None => OutputText::new(alloc),
     };
-    if draw_frame(names, ground, board, space, &mut whole)? {
+    if draw_frame(look, board, space, &mut whole)? {
         return Ok(FrameText::Whole(whole));
     }
-    let rows = draw_rows(alloc, names, ground, board, space)?;
+    let rows = draw_rows(alloc, look, board, space)?;
     Ok(FrameText::Rows(rows))
 }
 
@@ -59,27 +56,25 @@ pub fn draw_text<B: Board>(
 ///
 /// `Memory`.
 pub fn patch_text<B: Board>(
-    names: &Names,
-    ground: LayerId,
+    look: &Look<'_>,
     shown: &B,
     board: &B,
     rows: Columns<B::Words>,
     space: &mut CellSpace,
     kept: FrameText,
 ) -> Result<Option<FrameText>, Memory>
-    requires ground { ground.0 ≡ background_layer names.now }
     requires width { (B.grid shown.now).width ≡ (B.grid board.now).width }
     requires height { (B.grid shown.now).height ≡ (B.grid board.now).height }
     requires layers { (B.grid shown.now).layers ≡ (B.grid board.now).layers }
     requires table { B.table shown.now ≡ B.table board.now }
-    requires kept { IsTextOf names.now (B.grid shown.now) kept }
+    requires kept { IsTextOf look.now (B.grid shown.now) kept }
     ensures { IfOk result (λ made. IfSome made (λ text.
-        IsPatched names.now rows (B.grid board.now) (B.grid shown.now) text)) }
+        IsPatched look.now rows (B.grid board.now) (B.grid shown.now) text)) }
 {
     match kept {
         FrameText::Whole(text) => {
             let mut whole = text;
-            if patch_frame(names, ground, shown, board, rows, space, &mut whole)? {
+            if patch_frame(look, shown, board, rows, space, &mut whole)? {
                 return Ok(Some(FrameText::Whole(whole)));
             }
             Ok(None)
@@ -87,7 +82,7 @@ pub fn patch_text<B: Board>(
         FrameText::Rows(texts) => {
             let mut texts = texts;
             let drawn = texts.as_mut_slice();
-            patch_rows(names, ground, shown, board, rows, space, drawn)?;
+            patch_rows(look, shown, board, rows, space, drawn)?;
             Ok(Some(FrameText::Rows(texts)))
         }
     }
@@ -99,13 +94,13 @@ pub fn patch_text<B: Board>(
 ///
 /// `Memory`, and the output is as before.
 pub fn add_text<B: Board>(
-    names: &Names,
+    look: &Look<'_>,
     board: &B,
     text: &FrameText,
     output: &mut OutputText,
 ) -> Result<(), Memory>
-    requires { IsTextOf names.now (B.grid board.now) text.now }
-    ensures added { OnOk result (output.new ≡ output.old ++ frame names.now (B.grid board.now)) }
+    requires { IsTextOf look.now (B.grid board.now) text.now }
+    ensures added { OnOk result (output.new ≡ output.old ++ frame look.now (B.grid board.now)) }
     ensures kept { OnErr result (output.new ≡ output.old) }
 {
     match text {

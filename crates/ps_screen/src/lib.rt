@@ -6,6 +6,7 @@
 mod cells;
 mod frame_texts;
 mod glyphs;
+mod look;
 mod meanings;
 mod output_text;
 mod patching;

@@ -3,17 +3,16 @@
 
 ghost use Rattle.std.specs.Prelude.{◌≡◌, ◌≢◌, ◌+◌, ◌<◌, ◌∷◌, [], ◌++◌, IfOk, IfSome, OnOk, ℕ, codes, encode_utf8};
 ghost use Rattle.std.specs.Prelude.{length, replicate, slice_index, true};
-ghost use Rattle.ps_model.specs.board.Levels.{background_layer};
 ghost use Rattle.ps_model.specs.declared.limits.TheConstants.{SIDE_LIMIT};
 ghost use Rattle.ps_board.specs.ColumnSets.{column_at};
 ghost use Rattle.ps_board.specs.Rows.{AreAlike};
 ghost use Rattle.ps_screen.specs.PlainRows.{AreDrawn, IsOutside, IsPlainRow};
 
 use crate::cells::{CellSpace, cell_character};
+use crate::look::Look;
 use crate::output_text::OutputText;
 use ps_board::{Board, ColumnWords, Columns};
-use ps_model::{LayerId, Memory};
-use ps_names::Names;
+use ps_model::Memory;
 
 /// Adds a row of so many blanks, and a line feed.
 ///
@@ -66,7 +65,7 @@ fn others_alike<B: Board>(
     requires column { column < (B.grid board.now).width }
     ensures { AreAlike result (B.grid board.now) row column }
 {
-    if left.is_empty() {
+    if left.has_few() {
         return Columns::none();
     }
     board.alike(row, column)
@@ -79,8 +78,7 @@ fn others_alike<B: Board>(
 ///
 /// `Memory`, and the row is of no use.
 pub fn patch_columns<B: Board>(
-    names: &Names,
-    ground: LayerId,
+    look: &Look<'_>,
     board: &B,
     row: u32,
     space: &mut CellSpace,
@@ -88,20 +86,19 @@ pub fn patch_columns<B: Board>(
     start: u32,
     text: &mut OutputText,
 ) -> Result<bool, Memory>
-    requires ground { ground.0 ≡ background_layer names.now }
     requires row { row < (B.grid board.now).height }
     requires within { (x : ℕ) → x < SIDE_LIMIT → column_at columns x ≡ true → x < (B.grid board.now).width }
-    requires drawn { AreDrawn names.now (B.grid board.now) row columns start text.old }
+    requires drawn { AreDrawn look.now (B.grid board.now) row columns start text.old }
     ensures long { length text.new ≡ length text.old }
     ensures plain { IfOk result (λ plain. plain ≡ true
-        → IsPlainRow names.now (B.grid board.now) row start text.new) }
+        → IsPlainRow look.now (B.grid board.now) row start text.new) }
     ensures elsewhere { (at : ℕ) → IsOutside start (B.grid board.now).width at
         → slice_index text.new at ≡ slice_index text.old at }
 {
     let (_width, height) = board.size();
     let mut left = columns;
     while let Some(column) = left.take_first() {
-        let character = cell_character(names, ground, board, column * height + row, space)?;
+        let character = cell_character(look, board, column * height + row, space)?;
         let Some(byte) = one_byte(character) else {
             return Ok(false);
         };

@@ -1,7 +1,6 @@
 //! Frames, asked of a picture.
 
 ghost use Rattle.std.specs.Prelude.{◌≡◌, ◌++◌, IfOk, IfSome, OnOk, OnErr};
-ghost use Rattle.ps_model.specs.board.Levels.{background_layer};
 ghost use Rattle.ps_model.specs.session.Frames.{frame};
 ghost use Rattle.ps_model.specs.session.Rooms.{frame_in, room_window, window_frame};
 ghost use Rattle.ps_screen.specs.FrameTexts.{IsTextOf};
@@ -9,12 +8,12 @@ ghost use Rattle.ps_screen.specs.Windows.{AgreeInWindow, IsWindowOf};
 
 use crate::cells::CellSpace;
 use crate::frame_texts::{FrameText, add_text, draw_text, patch_text};
-use crate::meanings::ground_layer;
+use crate::look::Look;
 use crate::output_text::OutputText;
 use crate::rooms::{room_window, rows_to_draw, whole_board};
 use crate::windows::add_window;
 use ps_board::Board;
-use ps_model::{LayerId, Memory, Room, RoomSize, Window};
+use ps_model::{Memory, Room, RoomSize, Window};
 use ps_names::Names;
 use std::alloc::Global;
 use std::marker::Model;
@@ -31,8 +30,7 @@ struct LastFrame<B: Board> {
 #[derive(Drop)]
 pub struct Picture<'g, B: Board> {
     alloc: Global,
-    names: &'g Names,
-    ground: LayerId,
+    look: Look<'g>,
     space: CellSpace,
     last: Option<LastFrame<B>>,
 }
@@ -40,29 +38,31 @@ pub struct Picture<'g, B: Board> {
 impl<'g, B: Board> Model for Picture<'g, B> {
     ghost use Rattle.std.specs.Prelude.{◌≡◌, IfSome};
     ghost use Rattle.ps_model.specs.names.Names.{Names as Meant};
-    ghost use Rattle.ps_model.specs.board.Levels.{background_layer};
     ghost use Rattle.ps_screen.specs.FrameTexts.{IsTextOf};
 
     ghost Value = { Meant };
 
-    ghost view = { λ p. p.names.now };
+    ghost view = { λ p. p.look };
 
-    ghost invariant = { λ p. (p.ground.0 ≡ background_layer p.names.now)
-        × IfSome p.last (λ last. IsTextOf p.names.now (B.grid last.board.value) last.text) };
+    ghost invariant = { λ p. IfSome p.last (λ last. IsTextOf p.look (B.grid last.board.value) last.text) };
 }
 
 impl<'g, B: Board> Picture<'g, B> {
     /// A picture for the game of these names, which has shown nothing.
-    pub fn new(alloc: Global, names: &'g Names) -> Picture<'g, B>
-        ensures { result ≡ names.entry.now }
+    ///
+    /// # Errors
+    ///
+    /// `Memory`.
+    pub fn new(alloc: Global, names: &'g Names) -> Result<Picture<'g, B>, Memory>
+        ensures { IfOk result (λ picture. picture ≡ names.entry.now) }
     {
-        Picture {
+        let look = Look::new(alloc, names)?;
+        Ok(Picture {
             alloc,
-            names,
-            ground: ground_layer(names),
+            look,
             space: CellSpace::new(alloc),
             last: None,
-        }
+        })
     }
 
     /// Adds a frame of a board to an output: its rows from the top, then an empty line.
@@ -77,14 +77,13 @@ impl<'g, B: Board> Picture<'g, B> {
     {
         let last = redraw(
             self.alloc,
-            self.names,
-            self.ground,
+            &self.look,
             self.last.take(),
             board,
             whole_board(board),
             &mut self.space,
         )?;
-        let added = add_text(self.names, &*last.board, &last.text, output);
+        let added = add_text(&self.look, &*last.board, &last.text, output);
         self.last = Some(last);
         added
     }
@@ -110,16 +109,14 @@ impl<'g, B: Board> Picture<'g, B> {
         let window = room_window(board, size, room);
         let last = redraw(
             self.alloc,
-            self.names,
-            self.ground,
+            &self.look,
             self.last.take(),
             board,
             window,
             &mut self.space,
         )?;
         let added = add_window(
-            self.names,
-            self.ground,
+            &self.look,
             &*last.board,
             window,
             &last.text,
@@ -161,34 +158,32 @@ impl<'g, B: Board> Picture<'g, B> {
 /// `Memory`.
 fn redraw<B: Board>(
     alloc: Global,
-    names: &Names,
-    ground: LayerId,
+    look: &Look<'_>,
     last: Option<LastFrame<B>>,
     board: &B,
     window: Window,
     space: &mut CellSpace,
 ) -> Result<LastFrame<B>, Memory>
-    requires ground { ground.0 ≡ background_layer names.now }
     requires window { IsWindowOf (B.grid board.now) window }
-    requires last { IfSome last (λ last. IsTextOf names.now (B.grid last.board.value) last.text) }
-    ensures text { IfOk result (λ last. IsTextOf names.now (B.grid last.board.value) last.text) }
+    requires last { IfSome last (λ last. IsTextOf look.now (B.grid last.board.value) last.text) }
+    ensures text { IfOk result (λ last. IsTextOf look.now (B.grid last.board.value) last.text) }
     ensures shown { IfOk result (λ last. AgreeInWindow window (B.grid board.now) (B.grid last.board.value)) }
     ensures width { IfOk result (λ last. (B.grid last.board.value).width ≡ (B.grid board.now).width) }
     ensures height { IfOk result (λ last. (B.grid last.board.value).height ≡ (B.grid board.now).height) }
 {
     let Some(last) = last else {
-        return draw(alloc, names, ground, None, board, space);
+        return draw(alloc, look, None, board, space);
     };
     let LastFrame {
         text,
         board: mut before,
     } = last;
     if !board.is_alike(&*before) {
-        return draw(alloc, names, ground, Some(text), board, space);
+        return draw(alloc, look, Some(text), board, space);
     }
     let rows = rows_to_draw(board, &*before, window);
-    let Some(text) = patch_text(names, ground, &*before, board, rows, space, text)? else {
-        return draw(alloc, names, ground, None, board, space);
+    let Some(text) = patch_text(look, &*before, board, rows, space, text)? else {
+        return draw(alloc, look, None, board, space);
     };
     board.copy_rows(&mut *before, &rows);
     Ok(LastFrame {
@@ -204,17 +199,15 @@ fn redraw<B: Board>(
 /// `Memory`.
 fn draw<B: Board>(
     alloc: Global,
-    names: &Names,
-    ground: LayerId,
+    look: &Look<'_>,
     kept: Option<FrameText>,
     board: &B,
     space: &mut CellSpace,
 ) -> Result<LastFrame<B>, Memory>
-    requires { ground.0 ≡ background_layer names.now }
-    ensures text { IfOk result (λ last. IsTextOf names.now (B.grid last.board.value) last.text) }
+    ensures text { IfOk result (λ last. IsTextOf look.now (B.grid last.board.value) last.text) }
     ensures board { IfOk result (λ last. B.grid last.board.value ≡ B.grid board.now) }
 {
-    let text = draw_text(alloc, names, ground, board, space, kept)?;
+    let text = draw_text(alloc, look, board, space, kept)?;
     let copy = board.try_copy(alloc)?;
     let board = Box::new(alloc, copy)?;
     Ok(LastFrame { text, board })

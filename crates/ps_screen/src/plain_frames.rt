@@ -2,15 +2,14 @@
 //! feed, so that a cell's byte is found by its row and its column, and what differs is written in place.
 
 ghost use Rattle.std.specs.Prelude.{◌≡◌, IfOk, OnOk, true};
-ghost use Rattle.ps_model.specs.board.Levels.{background_layer};
 ghost use Rattle.ps_screen.specs.PlainFrames.{IsBlankFrame, IsPatchedFrame, IsPlainFrame};
 
 use crate::cells::CellSpace;
+use crate::look::Look;
 use crate::output_text::OutputText;
 use crate::patching::{add_blank_row, patch_columns};
 use ps_board::{Board, Columns};
-use ps_model::{LayerId, Memory};
-use ps_names::Names;
+use ps_model::Memory;
 
 /// Makes a text a board's frame, and answers whether each character of it is of one byte. Where not, the text is of no
 /// use.
@@ -19,21 +18,19 @@ use ps_names::Names;
 ///
 /// `Memory`, and the text is of no use.
 pub fn draw_frame<B: Board>(
-    names: &Names,
-    ground: LayerId,
+    look: &Look<'_>,
     board: &B,
     space: &mut CellSpace,
     text: &mut OutputText,
 ) -> Result<bool, Memory>
-    requires { ground.0 ≡ background_layer names.now }
-    ensures { IfOk result (λ plain. plain ≡ true → IsPlainFrame names.now (B.grid board.now) text.new) }
+    ensures { IfOk result (λ plain. plain ≡ true → IsPlainFrame look.now (B.grid board.now) text.new) }
 {
     let (width, height) = board.size();
     make_blank(text, width, height)?;
     let columns = Columns::below(width);
     for row in 0..height {
         let start = row * (width + 1);
-        let plain = patch_columns(names, ground, board, row, space, columns, start, text)?;
+        let plain = patch_columns(look, board, row, space, columns, start, text)?;
         if !plain {
             return Ok(false);
         }
@@ -48,22 +45,20 @@ pub fn draw_frame<B: Board>(
 ///
 /// `Memory`, and the text is of no use.
 pub fn patch_frame<B: Board>(
-    names: &Names,
-    ground: LayerId,
+    look: &Look<'_>,
     shown: &B,
     board: &B,
     rows: Columns<B::Words>,
     space: &mut CellSpace,
     text: &mut OutputText,
 ) -> Result<bool, Memory>
-    requires ground { ground.0 ≡ background_layer names.now }
     requires width { (B.grid shown.now).width ≡ (B.grid board.now).width }
     requires height { (B.grid shown.now).height ≡ (B.grid board.now).height }
     requires layers { (B.grid shown.now).layers ≡ (B.grid board.now).layers }
     requires table { B.table shown.now ≡ B.table board.now }
-    requires text { IsPlainFrame names.now (B.grid shown.now) text.old }
+    requires text { IsPlainFrame look.now (B.grid shown.now) text.old }
     ensures { IfOk result (λ plain. plain ≡ true
-        → IsPatchedFrame names.now rows (B.grid board.now) (B.grid shown.now) text.new) }
+        → IsPatchedFrame look.now rows (B.grid board.now) (B.grid shown.now) text.new) }
 {
     let (width, height) = board.size();
     let columns = Columns::below(width);
@@ -71,7 +66,7 @@ pub fn patch_frame<B: Board>(
     while let Some(row) = left.take_first() {
         let differing = board.differing(shown, row).both(columns);
         let start = row * (width + 1);
-        let plain = patch_columns(names, ground, board, row, space, differing, start, text)?;
+        let plain = patch_columns(look, board, row, space, differing, start, text)?;
         if !plain {
             return Ok(false);
         }

@@ -5,7 +5,6 @@
 //! the text of the whole, where bytes are columns, and else drawn anew.
 
 ghost use Rattle.std.specs.Prelude.{◌≡◌, ◌++◌, ◌+◌, ◌<◌, ◌≤◌, OnErr, OnOk, drop, length, take};
-ghost use Rattle.ps_model.specs.board.Levels.{background_layer};
 ghost use Rattle.ps_model.specs.session.Frames.{frame_row};
 ghost use Rattle.ps_model.specs.session.Rooms.{window_frame, window_row};
 ghost use Rattle.ps_screen.specs.FrameTexts.{IsTextOf};
@@ -16,10 +15,10 @@ ghost use Rattle.ps_screen.specs.Windows.{IsWindowOf};
 
 use crate::cells::{CellSpace, cell_character};
 use crate::frame_texts::FrameText;
+use crate::look::Look;
 use crate::output_text::OutputText;
 use ps_board::Board;
-use ps_model::{LayerId, Memory, Window};
-use ps_names::Names;
+use ps_model::{Memory, Window};
 
 /// So many bytes of a text, from a place on.
 fn stretch(text: &[u8], start: usize, count: usize) -> &[u8]
@@ -35,7 +34,7 @@ fn stretch(text: &[u8], start: usize, count: usize) -> &[u8]
 ///
 /// `Memory`, and the output is as before.
 fn add_plain_part<B: Board>(
-    names: &Names,
+    look: &Look<'_>,
     board: &B,
     row: u32,
     window: Window,
@@ -44,8 +43,8 @@ fn add_plain_part<B: Board>(
     output: &mut OutputText,
 ) -> Result<(), Memory>
     requires window { IsWindowOf (B.grid board.now) window }
-    requires text { IsPlainRow names.now (B.grid board.now) row start text.now }
-    ensures added { OnOk result (output.new ≡ output.old ++ window_row names.now (B.grid board.now) window row) }
+    requires text { IsPlainRow look.now (B.grid board.now) row start text.now }
+    ensures added { OnOk result (output.new ≡ output.old ++ window_row look.now (B.grid board.now) window row) }
     ensures kept { OnErr result (output.new ≡ output.old) }
 {
     let first = start as usize + window.first_column as usize;
@@ -58,24 +57,22 @@ fn add_plain_part<B: Board>(
 ///
 /// `Memory`, and some of the characters may have been added.
 fn draw_part<B: Board>(
-    names: &Names,
-    ground: LayerId,
+    look: &Look<'_>,
     board: &B,
     row: u32,
     window: Window,
     space: &mut CellSpace,
     output: &mut OutputText,
 ) -> Result<(), Memory>
-    requires ground { ground.0 ≡ background_layer names.now }
     requires row { row < (B.grid board.now).height }
     requires window { IsWindowOf (B.grid board.now) window }
-    ensures added { OnOk result (output.new ≡ output.old ++ window_row names.now (B.grid board.now) window row) }
+    ensures added { OnOk result (output.new ≡ output.old ++ window_row look.now (B.grid board.now) window row) }
     ensures front { OnErr result (take (length output.old) output.new ≡ output.old) }
 {
     let (_width, height) = board.size();
     for step in 0..window.columns {
         let column = window.first_column + step;
-        let character = cell_character(names, ground, board, column * height + row, space)?;
+        let character = cell_character(look, board, column * height + row, space)?;
         output.add_character(character)?;
     }
     output.add(b"\n")
@@ -88,8 +85,7 @@ fn draw_part<B: Board>(
 ///
 /// `Memory`, and some of the characters may have been added.
 fn add_part<B: Board>(
-    names: &Names,
-    ground: LayerId,
+    look: &Look<'_>,
     board: &B,
     row: u32,
     window: Window,
@@ -97,19 +93,18 @@ fn add_part<B: Board>(
     space: &mut CellSpace,
     output: &mut OutputText,
 ) -> Result<(), Memory>
-    requires ground { ground.0 ≡ background_layer names.now }
     requires row { row < (B.grid board.now).height }
     requires window { IsWindowOf (B.grid board.now) window }
-    requires text { text.now ≡ frame_row names.now (B.grid board.now) row }
-    ensures added { OnOk result (output.new ≡ output.old ++ window_row names.now (B.grid board.now) window row) }
+    requires text { text.now ≡ frame_row look.now (B.grid board.now) row }
+    ensures added { OnOk result (output.new ≡ output.old ++ window_row look.now (B.grid board.now) window row) }
     ensures front { OnErr result (take (length output.old) output.new ≡ output.old) }
 {
     let (width, _height) = board.size();
     let bytes = text.bytes();
     if bytes.len() == width as usize + 1 {
-        return add_plain_part(names, board, row, window, 0, bytes, output);
+        return add_plain_part(look, board, row, window, 0, bytes, output);
     }
-    draw_part(names, ground, board, row, window, space, output)
+    draw_part(look, board, row, window, space, output)
 }
 
 /// Adds the frame of a part of a board that has all its columns, by the plain frame of the whole board: there its rows
@@ -119,7 +114,7 @@ fn add_part<B: Board>(
 ///
 /// `Memory`, and its rows may have been added.
 fn add_whole_rows<B: Board>(
-    names: &Names,
+    look: &Look<'_>,
     board: &B,
     window: Window,
     text: &[u8],
@@ -127,8 +122,8 @@ fn add_whole_rows<B: Board>(
 ) -> Result<(), Memory>
     requires window { IsWindowOf (B.grid board.now) window }
     requires columns { window.columns ≡ (B.grid board.now).width }
-    requires text { IsPlainFrame names.now (B.grid board.now) text.now }
-    ensures added { OnOk result (output.new ≡ output.old ++ window_frame names.now (B.grid board.now) window) }
+    requires text { IsPlainFrame look.now (B.grid board.now) text.now }
+    ensures added { OnOk result (output.new ≡ output.old ++ window_frame look.now (B.grid board.now) window) }
     ensures front { OnErr result (take (length output.old) output.new ≡ output.old) }
 {
     let (_width, _height) = board.size();
@@ -144,25 +139,25 @@ fn add_whole_rows<B: Board>(
 ///
 /// `Memory`, and some of its rows may have been added.
 fn add_plain_window<B: Board>(
-    names: &Names,
+    look: &Look<'_>,
     board: &B,
     window: Window,
     text: &OutputText,
     output: &mut OutputText,
 ) -> Result<(), Memory>
     requires window { IsWindowOf (B.grid board.now) window }
-    requires text { IsPlainFrame names.now (B.grid board.now) text.now }
-    ensures added { OnOk result (output.new ≡ output.old ++ window_frame names.now (B.grid board.now) window) }
+    requires text { IsPlainFrame look.now (B.grid board.now) text.now }
+    ensures added { OnOk result (output.new ≡ output.old ++ window_frame look.now (B.grid board.now) window) }
     ensures front { OnErr result (take (length output.old) output.new ≡ output.old) }
 {
     let (width, _height) = board.size();
     if window.columns == width {
-        return add_whole_rows(names, board, window, text.bytes(), output);
+        return add_whole_rows(look, board, window, text.bytes(), output);
     }
     for step in 0..window.rows {
         let row = window.first_row + step;
         let start = row * (width + 1);
-        add_plain_part(names, board, row, window, start, text.bytes(), output)?;
+        add_plain_part(look, board, row, window, start, text.bytes(), output)?;
     }
     output.add(b"\n")
 }
@@ -173,50 +168,44 @@ fn add_plain_window<B: Board>(
 ///
 /// `Memory`, and some of its rows may have been added.
 fn add_window_of_rows<B: Board>(
-    names: &Names,
-    ground: LayerId,
+    look: &Look<'_>,
     board: &B,
     window: Window,
     texts: &[OutputText],
     space: &mut CellSpace,
     output: &mut OutputText,
 ) -> Result<(), Memory>
-    requires ground { ground.0 ≡ background_layer names.now }
     requires window { IsWindowOf (B.grid board.now) window }
-    requires texts { AreRowsOf names.now (B.grid board.now) texts.now }
-    ensures added { OnOk result (output.new ≡ output.old ++ window_frame names.now (B.grid board.now) window) }
+    requires texts { AreRowsOf look.now (B.grid board.now) texts.now }
+    ensures added { OnOk result (output.new ≡ output.old ++ window_frame look.now (B.grid board.now) window) }
     ensures front { OnErr result (take (length output.old) output.new ≡ output.old) }
 {
     let (_width, _height) = board.size();
     for step in 0..window.rows {
         let row = window.first_row + step;
         let text = &texts[row as usize];
-        add_part(names, ground, board, row, window, text, space, output)?;
+        add_part(look, board, row, window, text, space, output)?;
     }
     output.add(b"\n")
 }
 
 /// Adds the frame of a part of a board, by the text of the whole board's frame; without memory, a front of it.
 fn add_rows<B: Board>(
-    names: &Names,
-    ground: LayerId,
+    look: &Look<'_>,
     board: &B,
     window: Window,
     text: &FrameText,
     space: &mut CellSpace,
     output: &mut OutputText,
 ) -> Result<(), Memory>
-    requires ground { ground.0 ≡ background_layer names.now }
     requires window { IsWindowOf (B.grid board.now) window }
-    requires text { IsTextOf names.now (B.grid board.now) text.now }
-    ensures added { OnOk result (output.new ≡ output.old ++ window_frame names.now (B.grid board.now) window) }
+    requires text { IsTextOf look.now (B.grid board.now) text.now }
+    ensures added { OnOk result (output.new ≡ output.old ++ window_frame look.now (B.grid board.now) window) }
     ensures front { OnErr result (take (length output.old) output.new ≡ output.old) }
 {
     match text {
-        FrameText::Whole(whole) => add_plain_window(names, board, window, whole, output),
-        FrameText::Rows(rows) => {
-            add_window_of_rows(names, ground, board, window, rows, space, output)
-        }
+        FrameText::Whole(whole) => add_plain_window(look, board, window, whole, output),
+        FrameText::Rows(rows) => { add_window_of_rows(look, board, window, rows, space, output) }
     }
 }
 
@@ -226,22 +215,20 @@ fn add_rows<B: Board>(
 ///
 /// `Memory`, and the output is as before.
 pub fn add_window<B: Board>(
-    names: &Names,
-    ground: LayerId,
+    look: &Look<'_>,
     board: &B,
     window: Window,
     text: &FrameText,
     space: &mut CellSpace,
     output: &mut OutputText,
 ) -> Result<(), Memory>
-    requires ground { ground.0 ≡ background_layer names.now }
     requires window { IsWindowOf (B.grid board.now) window }
-    requires text { IsTextOf names.now (B.grid board.now) text.now }
-    ensures added { OnOk result (output.new ≡ output.old ++ window_frame names.now (B.grid board.now) window) }
+    requires text { IsTextOf look.now (B.grid board.now) text.now }
+    ensures added { OnOk result (output.new ≡ output.old ++ window_frame look.now (B.grid board.now) window) }
     ensures kept { OnErr result (output.new ≡ output.old) }
 {
     let before = output.bytes().len();
-    if let Err(Memory) = add_rows(names, ground, board, window, text, space, output) {
+    if let Err(Memory) = add_rows(look, board, window, text, space, output) {
         output.cut(before);
         return Err(Memory);
     }

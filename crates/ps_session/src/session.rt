@@ -76,7 +76,7 @@ impl<'g, B: Board, H: History<B>> Session<'g, B, H> {
         ensures late { R.meant rules.new.late ≡ R.meant rules.old.late }
     {
         let history = H::try_new(alloc)?;
-        let mut stage = Stage::new(alloc, game, sides);
+        let mut stage = Stage::new(alloc, game, sides)?;
         let location = stage.begin(rules, entry)?;
         stage.move_text(output)?;
         Ok(Session {

@@ -14,7 +14,7 @@ use Rattle.ps_model.specs.declared.pieces.Slot.TheVariants.{Bare, Holds}
 use Rattle.ps_model.specs.names.Names.{Names, layer_of}
 use Rattle.ps_model.specs.board.Grid.{Grid, IsGrid, cell_at, with_slot, empty_grid}
 use Rattle.ps_model.specs.board.Levels.{Level, cell_of, loaded}
-use Rattle.ps_turn.specs.Sweeps.{grid_with_cell}
+use Rattle.ps_stage.specs.CellsLoaded.{grid_with_cell}
 use Rattle.ps_stage.specs.Playable.{IsPlayable}
 
 -- a grid of which so many cells are loaded, and the others bare

@@ -1,3 +1,4 @@
+pub mod CellsLoaded
 pub mod KeysShown
 pub mod Locations
 pub mod Playable

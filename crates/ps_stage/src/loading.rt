@@ -6,7 +6,7 @@ ghost use Rattle.ps_model.specs.declared.pieces.Slot.TheVariants.{Holds};
 ghost use Rattle.ps_model.specs.board.Grid.{IsGrid, cell_at, cell_count};
 ghost use Rattle.ps_model.specs.names.Names.{layer_of, object_count};
 ghost use Rattle.ps_model.specs.board.Levels.{loaded};
-ghost use Rattle.ps_turn.specs.Sweeps.{grid_with_cell};
+ghost use Rattle.ps_stage.specs.CellsLoaded.{grid_with_cell};
 ghost use Rattle.ps_stage.specs.Playable.{IsPlayable, HaveOwnRoom, LevelFits};
 
 use ps_board::Board;

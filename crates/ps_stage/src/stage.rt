@@ -44,20 +44,28 @@ impl<'g, B: Board> Model for Stage<'g, B> {
 
 impl<'g, B: Board> Stage<'g, B> {
     /// A game without a text, on boards for levels with such sides.
-    pub fn new(alloc: Global, game: SessionGame<'g>, sides: BoardSides) -> Stage<'g, B>
+    ///
+    /// # Errors
+    ///
+    /// `Memory`.
+    pub fn new(
+        alloc: Global,
+        game: SessionGame<'g>,
+        sides: BoardSides,
+    ) -> Result<Stage<'g, B>, Memory>
         requires { sides.most ≤ B.Words.limit }
-        ensures game { result.game ≡ game.entry }
-        ensures text { result.text ≡ [] }
+        ensures game { IfOk result (λ stage. stage.game ≡ game.entry) }
+        ensures text { IfOk result (λ stage. stage.text ≡ []) }
     {
-        let picture = Picture::new(alloc, game.names());
-        Stage {
+        let picture = Picture::new(alloc, game.names())?;
+        Ok(Stage {
             alloc,
             game,
             sides,
             picture,
             spares: SpareBoards::none(),
             text: OutputText::new(alloc),
-        }
+        })
     }
 
     /// The game.

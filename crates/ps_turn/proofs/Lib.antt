@@ -1,5 +1,6 @@
 mod RowsOfCells
 mod RowsHeld
+mod SlotsChanged
 mod Stayed
 mod Sweeps
 mod CellsChanged

@@ -10,11 +10,11 @@ use Rattle.ps_rows.proofs.RowsDiffering.{row_unmarked}
 use Rattle.ps_rows.proofs.Sets.{same_by_unlike, same_set}
 use Rattle.ps_rows.proofs.row_differences.add_differences.Goals as goal
 
-pub returns-then-has_same_plane : goal.returns-then-has_same_plane
-returns-then-has_same_plane g c =
+pub returns-then-has_same_many : goal.returns-then-has_same_many
+returns-then-has_same_many g c =
     both_plane c.args.first.now.height c.args.plane c.args.first.now.words.items c.args.second.now.words.items
     c.args.found.now.items
-    (c.has_same_plane.ensures c.if-has_same_plane.true) c.requires.before
+    (c.has_same_many.ensures c.if-has_same_many.true) c.requires.before
 
 pub loop-row-init : goal.loop-row-init
 loop-row-init g c =

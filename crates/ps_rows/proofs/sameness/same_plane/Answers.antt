@@ -7,14 +7,10 @@ use Rattle.ps_rows.proofs.RowsDiffering.{row_unmarked}
 use Rattle.ps_rows.proofs.Sets.{none_at}
 use Rattle.ps_rows.proofs.sameness.same_plane.Goals as goal
 
-pub returns-then-has_same_plane-clause-same : goal.returns-then-has_same_plane-clause-same
-returns-then-has_same_plane-clause-same g c = λ told row under x across.
+pub returns-then-has_same_many-clause-same : goal.returns-then-has_same_many-clause-same
+returns-then-has_same_many-clause-same g c = λ told row under x across.
     ap (λ (word : List Bool). column_at word x)
-    (c.has_same_plane.ensures c.if-has_same_plane.true row under (none_at row))
-
-pub returns-then-differs_first-clause-other : goal.returns-then-differs_first-clause-other
-returns-then-differs_first-clause-other g c = λ same.
-    sym (c.differs_first.ensures same) ∙ c.if-differs_first.true
+    (c.has_same_many.ensures c.if-has_same_many.true row under (none_at row))
 
 pub loop-row-init : goal.loop-row-init
 loop-row-init g c =

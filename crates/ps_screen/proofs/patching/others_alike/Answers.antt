@@ -5,8 +5,8 @@ use Rattle.ps_board.specs.ColumnSets.{column_at, no_columns}
 use Rattle.ps_board.proofs.ColumnLaws.{column_at-beyond, column_at-where}
 use Rattle.ps_screen.proofs.patching.others_alike.Goals as goal
 
-pub returns-then-is_empty : goal.returns-then-is_empty
-returns-then-is_empty g c = λ x under has.
+pub returns-then-has_few : goal.returns-then-has_few
+returns-then-has_few g c = λ x under has.
     let none : column_at no_columns x ≡ false =
     elim (cases_lt x SIDE_LIMIT) [
       | inl low ↦ column_at-where (λ (y : ℕ). false) x low

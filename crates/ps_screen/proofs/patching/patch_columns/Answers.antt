@@ -60,8 +60,8 @@ loop-column-preserved g c =
     c.without-left.ensures ∙ ap (λ (set : List Bool). columns_without left set) made in
     let own = first_was_in c.loop-column.left left column c.in-Some.ensures.some c.in-Some.ensures.within in
     let shown = c.in_ok-character.ensures ∙ ap (λ (h : ℕ).
-    shown_character c.args.names.now (cell_at grid (column * h + c.args.row))) c.size-width.ensures.height in
-    let group : Group c.args.names.now grid c.args.row column c.in-Some-one_byte.byte c.loop-column.left left
+    shown_character c.args.look.now (cell_at grid (column * h + c.args.row))) c.size-width.ensures.height in
+    let group : Group c.args.look.now grid c.args.row column c.in-Some-one_byte.byte c.loop-column.left left
     c.others_alike.result c.args.start c.loop-column.text c.put_columns.new.text =
     record {
       narrow = c.size-width.ensures.shape.columns;
@@ -83,10 +83,10 @@ loop-column-preserved g c =
           (was_left left (group_of left c.others_alike.result column) x low
           (ap (λ (set : List Bool). column_at set x) (sym behind) ∙ has)));
       long = c.put_columns.ensures.long ∙ c.loop-column.invariant.long;
-      drawn = rw behind (group_drawn c.args.names.now grid c.args.row column c.in-Some-one_byte.byte c.loop-column.left
+      drawn = rw behind (group_drawn c.args.look.now grid c.args.row column c.in-Some-one_byte.byte c.loop-column.left
           left c.others_alike.result c.args.start c.loop-column.text c.put_columns.new.text group);
       elsewhere = λ at outside.
-          group_kept c.args.names.now grid c.args.row column c.in-Some-one_byte.byte c.loop-column.left left
+          group_kept c.args.look.now grid c.args.row column c.in-Some-one_byte.byte c.loop-column.left left
           c.others_alike.result c.args.start c.loop-column.text c.put_columns.new.text group at outside
           ∙ c.loop-column.invariant.elsewhere at outside;
     }
@@ -96,7 +96,7 @@ returns g c =
     record {
       long = c.loop-column.invariant.long;
       plain = λ plain.
-          all_drawn c.args.names.now (g.B.Board.grid c.args.board.now) c.args.row c.loop-column.left c.args.start
+          all_drawn c.args.look.now (g.B.Board.grid c.args.board.now) c.args.row c.loop-column.left c.args.start
           c.loop-column.text c.size-width.ensures.shape.columns
           (c.in_default.ensures.none refl) c.loop-column.invariant.drawn;
       elsewhere = c.loop-column.invariant.elsewhere;

@@ -10,7 +10,7 @@ invariant-loop-column g l =
     record {
       within : (x : ℕ) → x < SIDE_LIMIT → column_at l.left x ≡ true → x < (g.B.Board.grid l.board).width;
       long : length l.text ≡ length l.fn.text;
-      drawn : AreDrawn l.names (g.B.Board.grid l.board) l.row l.left l.start l.text;
+      drawn : AreDrawn l.look (g.B.Board.grid l.board) l.row l.left l.start l.text;
       elsewhere : (at : ℕ) → IsOutside l.start (g.B.Board.grid l.board).width at →
           get_or l.text at 0 ≡ get_or l.fn.text at 0;
     }

@@ -7,7 +7,7 @@ use Rattle.ps_screen.proofs.picture.redraw.Goals as goal
 
 pub returns-clause-text : goal.returns-clause-text
 returns-clause-text g c =
-    let names = c.args.names.now in
+    let names = c.args.look.now in
     let rows = c.rows_to_draw-rows.result in
     let now = g.B.Board.grid c.args.board.now in
     let before = g.B.Board.grid c.in-Some.last.board.value in

@@ -8,6 +8,6 @@ abbrev pub invariant-loop-row : goal.invariant-loop-row
 invariant-loop-row g l =
     record {
       ends : IsBlankFrame (g.B.Board.grid l.board).width (g.B.Board.grid l.board).height l.text;
-      drawn : (row : ℕ) → row < l.row → IsPlainRow l.names (g.B.Board.grid l.board) row
+      drawn : (row : ℕ) → row < l.row → IsPlainRow l.look (g.B.Board.grid l.board) row
           (row_start (g.B.Board.grid l.board).width row) l.text;
     }

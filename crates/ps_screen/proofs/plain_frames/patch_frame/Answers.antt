@@ -18,10 +18,10 @@ loop-row-init g c =
     let made : c.both-left.result ≡ both_columns c.args.rows (columns_below after.height) =
     c.both-left.ensures ∙ ap (λ (set : List Bool). both_columns c.args.rows set) (c.below.ensures
     ∙ ap columns_below c.size-width.ensures.height) in
-    let was = row_of c.args.names.now after before c.args.text.now c.requires.width c.requires.height c.requires.text in
+    let was = row_of c.args.look.now after before c.args.text.now c.requires.width c.requires.height c.requires.text in
     record {
       ends = rw (← c.requires.width, ← c.requires.height)
-          (has_ends c.args.names.now before c.args.text.now c.requires.text);
+          (has_ends c.args.look.now before c.args.text.now c.requires.text);
       within = λ row small has. within_width c.args.rows after.height row small
           (ap (λ (set : List Bool). column_at set row) (sym made) ∙ has);
       wanted = λ row small has. one_of_both c.args.rows (columns_below after.height) row small
@@ -65,7 +65,7 @@ patch_columns-requires-clause-drawn g c =
     let own = first_was_in c.loop-row.left c.take_first.new.self row c.in-Some.ensures.some c.in-Some.ensures.within in
     let under = c.loop-row.invariant.within row c.in-Some.ensures.within own in
     rw c.size-width.ensures.width
-    (drawn_but c.args.names.now after before row c.both-differing.result (row_start after.width row) c.loop-row.text
+    (drawn_but c.args.look.now after before row c.both-differing.result (row_start after.width row) c.loop-row.text
     c.requires.width c.requires.height
     (λ x inside none. c.differing.ensures x inside
     (out_of_both c.differing.result after.width x (omega (arith, inside, narrow)) inside
@@ -85,9 +85,9 @@ loop-row-preserved g c =
     let low = c.size-width.ensures.shape.rows in
     let start : first * (c.size-width.result.0 + 1) ≡ row_start after.width first =
     ap (λ (n : ℕ). first * (n + 1)) c.size-width.ensures.width in
-    let wrote = row_written c.args.names.now after first _ text drawn start c.patch_columns.ensures.long
+    let wrote = row_written c.args.look.now after first _ text drawn start c.patch_columns.ensures.long
     c.patch_columns.ensures.elsewhere in
-    let plain : IsPlainRow c.args.names.now after first (row_start after.width first) drawn =
+    let plain : IsPlainRow c.args.look.now after first (row_start after.width first) drawn =
     rw (← start) (c.in_ok-plain.ensures.plain c.if-not-plain.false) in
     record {
       ends = ends_stay after.width after.height first text drawn under wrote c.loop-row.invariant.ends;
@@ -100,21 +100,21 @@ loop-row-preserved g c =
         | inr apart ↦ elim (not_left c.loop-row.left c.take_first.new.self first row c.in-Some.ensures.some
             (omega (arith, below, low)) none) [
               | inl e ↦ absurd (apart e)
-              | inr gone ↦ row_stays c.args.names.now after after first row text drawn refl apart wrote
+              | inr gone ↦ row_stays c.args.look.now after after first row text drawn refl apart wrote
                   (c.loop-row.invariant.drawn row below gone on)
             ]
       ];
       kept = λ row below off. elim (cases_eq row first) [
         | inl e ↦ absurd (false≢true (sym off ∙ ap (column_at c.args.rows) e
             ∙ c.loop-row.invariant.wanted first c.in-Some.ensures.within own))
-        | inr apart ↦ row_stays c.args.names.now after before first row text drawn c.requires.width apart wrote
+        | inr apart ↦ row_stays c.args.look.now after before first row text drawn c.requires.width apart wrote
             (c.loop-row.invariant.kept row below off)
       ];
       left = λ row below has. elim (cases_eq row first) [
         | inl e ↦ absurd (false≢true (sym (first_gone c.loop-row.left c.take_first.new.self first
             c.in-Some.ensures.some c.in-Some.ensures.within) ∙ ap (column_at c.take_first.new.self) (sym e) ∙ has))
         | inr apart ↦
-            row_stays c.args.names.now after before first row text drawn c.requires.width apart wrote
+            row_stays c.args.look.now after before first row text drawn c.requires.width apart wrote
             (c.loop-row.invariant.left row below
             (was_in c.loop-row.left c.take_first.new.self first row c.in-Some.ensures.some
             (omega (arith, below, low)) has))

@@ -14,11 +14,11 @@ invariant-loop-row g l =
       wanted : (row : ℕ) → row < SIDE_LIMIT → column_at l.left row ≡ true → column_at l.fn.rows row ≡ true;
       drawn : (row : ℕ) → row < (g.B.Board.grid l.board).height → column_at l.left row ≡ false →
           column_at l.fn.rows row ≡ true →
-          IsPlainRow l.names (g.B.Board.grid l.board) row (row_start (g.B.Board.grid l.board).width row) l.text;
+          IsPlainRow l.look (g.B.Board.grid l.board) row (row_start (g.B.Board.grid l.board).width row) l.text;
       kept : (row : ℕ) → row < (g.B.Board.grid l.board).height → column_at l.fn.rows row ≡ false →
-          IsPlainRow l.names (g.B.Board.grid l.shown) row (row_start (g.B.Board.grid l.board).width row) l.text;
+          IsPlainRow l.look (g.B.Board.grid l.shown) row (row_start (g.B.Board.grid l.board).width row) l.text;
       left : (row : ℕ) → row < (g.B.Board.grid l.board).height → column_at l.left row ≡ true →
-          IsPlainRow l.names (g.B.Board.grid l.shown) row (row_start (g.B.Board.grid l.board).width row) l.text;
+          IsPlainRow l.look (g.B.Board.grid l.shown) row (row_start (g.B.Board.grid l.board).width row) l.text;
     }
 
 abbrev pub decreases-loop-row : goal.decreases-loop-row

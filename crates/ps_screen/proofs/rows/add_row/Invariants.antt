@@ -10,6 +10,6 @@ abbrev pub invariant-loop-column : goal.invariant-loop-column
 invariant-loop-column g l =
     l.output
     ≡ l.fn.output
-    ++ flat_map (λ column. encode_utf8 (shown_character l.names
+    ++ flat_map (λ column. encode_utf8 (shown_character l.look
     (cell_at (g.B.Board.grid l.board) (column * (g.B.Board.grid l.board).height + l.row))))
     (range_with_len 0 l.column)

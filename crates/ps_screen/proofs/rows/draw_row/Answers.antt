@@ -14,7 +14,7 @@ patch_columns-requires-clause-within g c = λ x low has.
 pub patch_columns-requires-clause-drawn : goal.patch_columns-requires-clause-drawn
 patch_columns-requires-clause-drawn g c =
     let grid = g.B.Board.grid c.args.board.now in
-    blank_drawn c.args.names.now grid c.args.row c.below-columns.result c.add_blank_row.new.text
+    blank_drawn c.args.look.now grid c.args.row c.below-columns.result c.add_blank_row.new.text
     c.size-width.ensures.shape.columns
     (c.below-columns.ensures ∙ ap columns_below c.size-width.ensures.width)
     (c.in_ok-add_blank_row.ensures ∙ ap₂ (λ (t : List ℕ) (n : ℕ).
@@ -26,6 +26,6 @@ returns-then-plain g c =
     let blank : c.add_blank_row.new.text ≡ replicate grid.width 32 ++ codes "\n" =
     c.in_ok-add_blank_row.ensures ∙ ap₂ (λ (t : List ℕ) (n : ℕ).
     t ++ (replicate n 32 ++ codes "\n")) c.clear.ensures c.size-width.ensures.width in
-    of_plain c.args.names.now grid c.args.row c.patch_columns.new.text (c.patch_columns.ensures.long
+    of_plain c.args.look.now grid c.args.row c.patch_columns.new.text (c.patch_columns.ensures.long
     ∙ ap (λ (t : List ℕ). length t) blank ∙ blank_long grid.width)
     (c.in_ok-plain.ensures.plain c.if-plain.true)

@@ -5,4 +5,4 @@ use Rattle.ps_screen.proofs.rows.draw_rows.Given as goal
 
 -- the rows passed by are made
 abbrev pub invariant-loop-row : goal.invariant-loop-row
-invariant-loop-row g l = l.texts.items ≡ map (frame_row l.names (g.B.Board.grid l.board)) (range_with_len 0 l.row)
+invariant-loop-row g l = l.texts.items ≡ map (frame_row l.look (g.B.Board.grid l.board)) (range_with_len 0 l.row)

@@ -12,11 +12,11 @@ invariant-loop-row g l =
       within : (row : ℕ) → row < SIDE_LIMIT → column_at l.left row ≡ true → row < (g.B.Board.grid l.board).height;
       wanted : (row : ℕ) → row < SIDE_LIMIT → column_at l.left row ≡ true → column_at l.fn.rows row ≡ true;
       kept : (row : ℕ) → row < (g.B.Board.grid l.board).height → column_at l.fn.rows row ≡ false →
-          get_or l.texts row [] ≡ frame_row l.names (g.B.Board.grid l.shown) row;
+          get_or l.texts row [] ≡ frame_row l.look (g.B.Board.grid l.shown) row;
       drawn : (row : ℕ) → row < (g.B.Board.grid l.board).height → column_at l.left row ≡ false →
-          column_at l.fn.rows row ≡ true → get_or l.texts row [] ≡ frame_row l.names (g.B.Board.grid l.board) row;
+          column_at l.fn.rows row ≡ true → get_or l.texts row [] ≡ frame_row l.look (g.B.Board.grid l.board) row;
       left : (row : ℕ) → row < (g.B.Board.grid l.shown).height → column_at l.left row ≡ true →
-          get_or l.texts row [] ≡ frame_row l.names (g.B.Board.grid l.shown) row;
+          get_or l.texts row [] ≡ frame_row l.look (g.B.Board.grid l.shown) row;
     }
 
 abbrev pub decreases-loop-row : goal.decreases-loop-row

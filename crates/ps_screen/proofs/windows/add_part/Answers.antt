@@ -8,4 +8,4 @@ add_plain_part-requires-clause-text g c =
     let long : length c.args.text.now ≡ grid.width + 1 =
     ap (λ (t : List ℕ). length t) (sym c.bytes-bytes.ensures) ∙ c.if-bytes-width.true
     ∙ ap (λ (n : ℕ). n + 1) c.size-width.ensures.width in
-    rw c.bytes-bytes.ensures (plain_of c.args.names.now grid c.args.row c.args.text.now c.requires.text long)
+    rw c.bytes-bytes.ensures (plain_of c.args.look.now grid c.args.row c.args.text.now c.requires.text long)

@@ -15,5 +15,5 @@ returns-clause-added g c =
     on_ok_weaker c.add_row.result
     (λ added. added ∙ ap (λ (bytes : List ℕ). c.args.output.now ++ (bytes ++ codes "\n"))
     (part_ended text c.stretch.result.now first count within c.stretch.ensures
-    ∙ plain_columns c.args.names.now grid c.args.row c.args.start text c.args.window.first_column count
+    ∙ plain_columns c.args.look.now grid c.args.row c.args.start text c.args.window.first_column count
     c.requires.window.columns c.requires.text)) c.add_row.ensures.added

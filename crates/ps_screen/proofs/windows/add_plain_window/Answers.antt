@@ -14,5 +14,5 @@ pub loop-step-preserved : goal.loop-step-preserved
 loop-step-preserved g c =
     let grid = g.B.Board.grid c.args.board.now in
     let row : ℕ = c.args.window.first_row + c.loop-step.step in
-    text_more_from (window_row c.args.names.now grid c.args.window) c.args.window.first_row c.loop-step.step row
+    text_more_from (window_row c.args.look.now grid c.args.window) c.args.window.first_row c.loop-step.step row
     c.args.output.now c.loop-step.output _ refl c.loop-step.invariant c.in_ok-add_plain_part.ensures.added

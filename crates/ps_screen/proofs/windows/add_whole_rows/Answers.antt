@@ -7,14 +7,14 @@ use Rattle.ps_screen.proofs.windows.add_whole_rows.Goals as goal
 pub stretch-requires : goal.stretch-requires
 stretch-requires g c =
     let window = c.args.window in
-    rows_within c.args.names.now (g.B.Board.grid c.args.board.now) window c.args.text.now (window.columns + 1)
+    rows_within c.args.look.now (g.B.Board.grid c.args.board.now) window c.args.text.now (window.columns + 1)
     (window.first_row * (window.columns + 1)) (window.rows * (window.columns + 1)) c.requires.window c.requires.columns
     c.requires.text refl refl refl
 
 pub returns-clause-added : goal.returns-clause-added
 returns-clause-added g c =
     let window = c.args.window in
-    let rows = whole_rows c.args.names.now (g.B.Board.grid c.args.board.now) window c.args.text.now (window.columns + 1)
+    let rows = whole_rows c.args.look.now (g.B.Board.grid c.args.board.now) window c.args.text.now (window.columns + 1)
     (window.first_row * (window.columns + 1)) (window.rows * (window.columns + 1)) c.requires.window c.requires.columns
     c.requires.text refl refl refl in
     on_ok_weaker c.add-2.result

@@ -21,7 +21,7 @@ loop-step-preserved g c =
     let grid = g.B.Board.grid c.args.board.now in
     let column : ℕ = c.args.window.first_column + c.loop-step.step in
     let shown = c.in_ok-character.ensures ∙ ap (λ (h : ℕ).
-    shown_character c.args.names.now (cell_at grid (column * h + c.args.row))) c.size-width.ensures.height in
-    text_more_from (column_bytes c.args.names.now grid c.args.row) c.args.window.first_column c.loop-step.step column
+    shown_character c.args.look.now (cell_at grid (column * h + c.args.row))) c.size-width.ensures.height in
+    text_more_from (column_bytes c.args.look.now grid c.args.row) c.args.window.first_column c.loop-step.step column
     c.args.output.now c.loop-step.output _ refl c.loop-step.invariant
     (c.in_ok-add_character.ensures.added ∙ ap (λ (character : ℕ). c.loop-step.output ++ encode_utf8 character) shown)

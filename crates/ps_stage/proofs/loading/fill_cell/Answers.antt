@@ -8,7 +8,7 @@ use Rattle.ps_model.specs.declared.pieces.Slot.{Slot}
 use Rattle.ps_model.specs.declared.pieces.Slot.TheVariants.{Holds}
 use Rattle.ps_model.specs.names.Names.{Names, layer_of}
 use Rattle.ps_model.specs.board.Grid.{Grid, cell_at, with_slot}
-use Rattle.ps_turn.specs.Sweeps.{grid_with_cell}
+use Rattle.ps_stage.specs.CellsLoaded.{grid_with_cell}
 use Rattle.ps_stage.proofs.PartLoaded.{put_in_cell}
 use Rattle.ps_stage.proofs.loading.fill_cell.Goals as goal
 

@@ -4,7 +4,7 @@ use Rattle.ps_model.specs.declared.pieces.Motion.TheVariants.{Still}
 use Rattle.ps_model.specs.declared.pieces.Slot.TheVariants.{Holds}
 use Rattle.ps_model.specs.names.Names.{layer_of}
 use Rattle.ps_model.specs.board.Grid.{cell_at}
-use Rattle.ps_turn.specs.Sweeps.{grid_with_cell}
+use Rattle.ps_stage.specs.CellsLoaded.{grid_with_cell}
 use Rattle.ps_stage.proofs.loading.fill_cell.Given as goal
 
 -- the objects passed by stand in the cell, and there is room as before

@@ -7,7 +7,7 @@ use Rattle.ps_model.specs.declared.pieces.Slot.TheVariants.{Holds}
 use Rattle.ps_model.specs.names.Names.{Names, layer_of}
 use Rattle.ps_model.specs.board.Grid.{Grid, cell_at}
 use Rattle.ps_model.specs.board.Levels.{Level}
-use Rattle.ps_turn.specs.Sweeps.{grid_with_cell}
+use Rattle.ps_stage.specs.CellsLoaded.{grid_with_cell}
 use Rattle.ps_stage.proofs.OwnRooms.{have-own-room}
 use Rattle.ps_stage.proofs.PartLoaded.{partly_shape, one_more_loaded, all_loaded, none_loaded}
 use Rattle.ps_stage.proofs.loading.load.Goals as goal

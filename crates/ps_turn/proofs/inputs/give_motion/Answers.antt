@@ -28,7 +28,7 @@ loop-row-init g c =
           rw cleared
           (passed-init (IsRowChanged change rested rested) c.rows_with-standing.result c.below.result
           c.both-left.result rested.height shape.rows below c.both-left.ensures
-          (row_kept c.args.moved.now c.args.motion rested shape c.rows_with-standing.result held));
+          (row_kept c.args.moved.now c.args.motion rested c.rows_with-standing.result held));
       table = c.clear_moves.ensures.table;
     }
 

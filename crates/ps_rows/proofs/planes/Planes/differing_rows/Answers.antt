@@ -6,8 +6,8 @@ use Rattle.ps_rows.specs.Sameness.{DifferOnlyOnRows}
 use Rattle.ps_rows.proofs.RowsDiffering.{row_compared, row_unmarked}
 use Rattle.ps_rows.proofs.planes.Planes.differing_rows.Goals as goal
 
-pub returns-then-has_same_plane : goal.returns-then-has_same_plane
-returns-then-has_same_plane g c = rw c.none.ensures (c.has_same_plane.ensures c.if-has_same_plane.true)
+pub returns-then-has_same_many : goal.returns-then-has_same_many
+returns-then-has_same_many g c = rw c.none.ensures (c.has_same_many.ensures c.if-has_same_many.true)
 
 pub loop-row-init : goal.loop-row-init
 loop-row-init g c =

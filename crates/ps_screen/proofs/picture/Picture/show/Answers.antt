@@ -7,7 +7,7 @@ use Rattle.ps_screen.proofs.picture.Picture.show.Goals as goal
 
 pub returns-clause-shown : goal.returns-clause-shown
 returns-clause-shown g c =
-    let names = c.self.inside.names.now in
+    let names = c.self.inside.look in
     let now = g.B.Board.grid c.args.board.now in
     let after = g.B.Board.grid c.in_ok-last.last.board.value in
     let within = subst (λ (window : Window). IsWindowOf now window) c.whole_board.ensures.window

@@ -6,7 +6,7 @@ use Rattle.ps_screen.proofs.picture.Picture.show_room.Goals as goal
 
 pub returns-clause-shown : goal.returns-clause-shown
 returns-clause-shown g c =
-    let names = c.self.inside.names.now in
+    let names = c.self.inside.look in
     let now = g.B.Board.grid c.args.board.now in
     let after = g.B.Board.grid c.in_ok-last.last.board.value in
     let window = c.room_window-window.result in

@@ -1,9 +1,6 @@
-use Rattle.std.proofs.Common.{◌≡◌, ◌∙◌, ℕ, List, Option, Some, subst, sym, ap}
-use Rattle.ps_model.specs.board.Programs.{Section}
-use Rattle.ps_model.specs.board.Turns.{Script, Finished, turn}
-use Rattle.ps_turn.specs.States.{done_shown}
+use Rattle.std.proofs.Common.{◌≡◌, ◌∙◌, subst, sym, ap}
 use Rattle.ps_stage.specs.KeysShown.{IsNext, tried_outcome}
-use Rattle.ps_stage.specs.Standings.{StageValue, script_for, with_done}
+use Rattle.ps_stage.specs.Standings.{StageValue, with_done}
 use Rattle.ps_stage.proofs.KeyChanges.{stopped_as, tried_done}
 use Rattle.ps_stage.proofs.Scripts.{same_script}
 use Rattle.ps_stage.proofs.stage.Stage.take_input.Goals as goal

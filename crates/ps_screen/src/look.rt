@@ -1,0 +1,119 @@
+//! What frames look up of a game's names, made ready once.
+
+ghost use Rattle.std.specs.Prelude.{◌≡◌, IfOk, map};
+ghost use Rattle.std.specs.List.{list_all};
+ghost use Rattle.ps_model.specs.names.Names.{same_object};
+ghost use Rattle.ps_model.specs.board.Levels.{is_ground};
+ghost use Rattle.ps_names.specs.GlyphsShown.{glyph_shown};
+ghost use Rattle.ps_screen.specs.Glyphs.{character_for, single_place};
+
+use crate::meanings::{are_same, ground_layer};
+use ps_model::{LayerId, Memory, ObjectId};
+use ps_names::{Glyph, Names};
+use std::alloc::Global;
+use std::marker::Model;
+
+/// The names of a game as frames look them up: the layer of the ground, and the glyphs. A cell shows most often one
+/// object beside the ground, so that glyphs of one object are found by its number, and the others one after the other.
+/// Contracts see the names.
+#[derive(Drop)]
+pub struct Look<'g> {
+    names: &'g Names,
+    ground: LayerId,
+    /// By the objects' numbers, the character of the first glyph that shows that object alone.
+    single: Vec<Option<char>>,
+    /// The glyphs that show several objects, in order of declaration.
+    mixed: Vec<&'g Glyph>,
+}
+
+impl<'g> Model for Look<'g> {
+    ghost use Rattle.std.specs.Prelude.{◌≡◌, map};
+    ghost use Rattle.ps_model.specs.names.Names.{Names as Meant};
+    ghost use Rattle.ps_model.specs.board.Levels.{background_layer};
+    ghost use Rattle.ps_names.specs.GlyphsShown.{glyph_shown};
+    ghost use Rattle.ps_screen.specs.Glyphs.{AreLookedUp};
+
+    ghost Value = { Meant };
+
+    ghost view = { λ l. l.names.now };
+
+    ghost invariant = { λ l. (l.ground.0 ≡ background_layer l.names.now)
+        × AreLookedUp l.names.now.glyphs l.single.items (map (λ glyph. glyph_shown glyph.now) l.mixed.items) };
+}
+
+/// Whether each of a list is that object.
+fn are_all(object: ObjectId, objects: &[ObjectId]) -> bool
+    ensures { result ≡ list_all (same_object object) objects.now }
+{
+    objects.iter().all(|other| object.0 == other.0)
+}
+
+/// The number of the object that each of a list is, if it is below a count.
+fn single_place(objects: &[ObjectId], count: usize) -> Option<usize>
+    ensures { result ≡ single_place count objects.now }
+{
+    let Some((first, rest)) = objects.split_first() else {
+        return None;
+    };
+    let place = first.0 as usize;
+    if place < count && are_all(*first, rest) {
+        return Some(place);
+    }
+    None
+}
+
+/// The character of the first of some glyphs that shows just these objects.
+fn first_glyph(glyphs: &[&Glyph], objects: &[ObjectId]) -> Option<char>
+    ensures { result ≡ character_for (map (λ glyph. glyph_shown glyph.now) glyphs.now) objects.now }
+{
+    for glyph in glyphs {
+        if are_same(glyph.meaning.members(), objects) {
+            return Some(glyph.character);
+        }
+    }
+    None
+}
+
+impl<'g> Look<'g> {
+    /// The names of a game, looked through once.
+    ///
+    /// # Errors
+    ///
+    /// `Memory`.
+    pub fn new(alloc: Global, names: &'g Names) -> Result<Look<'g>, Memory>
+        ensures { IfOk result (λ look. look ≡ names.entry.now) }
+    {
+        let count = names.object_count() as usize;
+        let mut single = Vec::from_elem(alloc, None, count)?;
+        let mut mixed = Vec::new(alloc);
+        for glyph in names.glyphs() {
+            match single_place(glyph.meaning.members(), count) {
+                Some(place) => single[place] = single[place].or(Some(glyph.character)),
+                None => mixed.push(glyph)?,
+            }
+        }
+        Ok(Look {
+            names,
+            ground: ground_layer(names),
+            single,
+            mixed,
+        })
+    }
+
+    /// Whether an object lies on the layer of the ground.
+    pub fn is_ground(&self, object: ObjectId) -> bool
+        ensures { result ≡ is_ground self.now object }
+    {
+        self.names.layer_of(object).0 == self.ground.0
+    }
+
+    /// The character of the first glyph that shows just these objects.
+    pub fn glyph_for(&self, objects: &[ObjectId]) -> Option<char>
+        ensures { result ≡ character_for self.now.glyphs objects.now }
+    {
+        match single_place(objects, self.single.len()) {
+            Some(place) => self.single[place],
+            None => first_glyph(self.mixed.as_slice(), objects),
+        }
+    }
+}
