@@ -54,8 +54,8 @@ fn put_columns<W: ColumnWords>(text: &mut OutputText, start: u32, columns: Colum
     }
 }
 
-/// Columns of a row that show the same as one of them, where many are left; none, where few are, which are sooner looked up
-/// one by one.
+/// Columns of a row that show the same as one of them, where many are left; none, where few are, which are sooner looked
+/// up one by one.
 fn others_alike<B: Board>(
     board: &B,
     row: u32,
@@ -73,8 +73,8 @@ fn others_alike<B: Board>(
 }
 
 /// Draws the columns of a set of a plain row anew, which begins at byte `start`, and answers whether each of them has
-/// a character of one byte. Where not, the row is of no use. Where many are left, cells with the same objects are looked
-/// up once.
+/// a character of one byte. Where not, the row is of no use. Where many are left, cells with the same objects are
+/// looked up once.
 ///
 /// # Errors
 ///

@@ -55,13 +55,12 @@ row_kept moved motion g rows none row low out x across =
     slots_kept moved motion (cell_at g (x * g.height + row)) (none row low out x across)
 
 -- all cells are changed
-map_fixed : (change : List Slot → List Slot) (cells : List (List Slot)) →
-    ((n : ℕ) → n < length cells → change (get_or cells n []) ≡ get_or cells n []) →
-    map change cells ≡ cells
-map_fixed change [] same = refl
-map_fixed change (cell ∷ cells) same =
-    ap₂ (λ (c : List Slot) (cs : List (List Slot)).
-    c ∷ cs) (same 0 (omega arith)) (map_fixed change cells (λ n low. same (suc n) (omega (arith, low))))
+pub map_fixed : {X : Type 0} (change : X → X) (d : X) (xs : List X) →
+    ((n : ℕ) → n < length xs → change (get_or xs n d) ≡ get_or xs n d) → map change xs ≡ xs
+map_fixed change d [] same = refl
+map_fixed {X} change d (x ∷ xs) same =
+    ap₂ (λ (y : X) (ys : List X). y ∷ ys) (same 0 (omega arith))
+    (map_fixed change d xs (λ n low. same (suc n) (omega (arith, low))))
 
 cell_fixed : (change : List Slot → List Slot) (sides g : Grid) → 0 < sides.height →
     ((row : ℕ) → row < sides.height → IsRowChanged change sides g row) →
@@ -78,5 +77,5 @@ all_rows_changed change before after shape are rows =
     let long : length after.cells ≡ before.width * before.height =
     sym (length-map after.cells change) ∙ ap length are.all ∙ length-map before.cells change ∙ shape.cells in
     let fixed : map change after.cells ≡ after.cells =
-    map_fixed change after.cells (λ n low. cell_fixed change before after shape.some_row rows n (rw (← long) low)) in
+    map_fixed change [] after.cells (λ n low. cell_fixed change before after shape.some_row rows n (rw (← long) low)) in
     are.sides ∙ ap (grid_with_cells before) (sym fixed ∙ are.all)

@@ -1,17 +1,14 @@
 -- Slots of a grid that are changed one after the other, in whatever order.
-use Rattle.std.proofs.Common.{◌≡◌, ◌∙◌, ℕ, suc, ◌<◌, ◌≤◌, inl, inr, List, [], ◌∷◌, length, map, get_or, refl, sym, ap, ap₂, arith}
+use Rattle.std.proofs.Common.{◌≡◌, ◌∙◌, ℕ, ◌<◌, ◌≤◌, inl, inr, List, [], length, map, get_or}
+use Rattle.std.proofs.Common.{refl, sym, ap, arith}
 use Rattle.std.specs.Prelude.{slice_set}
 use Rattle.std.proofs.lemmas.Bool.{cases_eq}
-use Rattle.std.proofs.lemmas.Grind.{common_steps}
 use Rattle.std.proofs.lemmas.List.{get_or-map, get_or-set_other, get_or-set_same, length-map, map-set, set-get_or}
 use Rattle.ps_model.specs.declared.pieces.Slot.{Slot}
 use Rattle.ps_model.specs.declared.pieces.Slot.TheVariants.{Bare}
 use Rattle.ps_model.specs.board.Grid.{Grid, cell_at, slot_at, with_slot}
 use Rattle.ps_turn.specs.Sweeps.{AreChanged, IsCellChanged, IsSlotChanged, StayChanged}
-
--- a number at the end of a list or behind it
-past_end : {X : Type 0} (xs : List X) (i : ℕ) (d : X) → length xs ≤ i → get_or xs i d ≡ d
-past_end xs i d far = grind (arith, common_steps, far)
+use Rattle.ps_turn.proofs.CellsChanged.{map_fixed}
 
 -- a change leaves a list as long as it is
 module _ (change : Slot → Slot) (before after : Grid) (are : AreChanged (map change) before after) where
@@ -101,15 +98,7 @@ module _ (change : Slot → Slot) (again : (slot : Slot) → change (change slot
       }
 
 -- a cell is changed where each of its slots is
-fixed_by : (change : Slot → Slot) (slots : List Slot) →
-    ((layer : ℕ) → layer < length slots → change (get_or slots layer Bare) ≡ get_or slots layer Bare) →
-    map change slots ≡ slots
-fixed_by change [] each = refl
-fixed_by change (slot ∷ slots) each =
-    ap₂ (λ (s : Slot) (ss : List Slot). s ∷ ss) (each 0 (omega arith))
-    (fixed_by change slots (λ layer low. each (suc layer) (omega (arith, low))))
-
 pub cell_of_slots : (change : Slot → Slot) (g : Grid) (cell layers : ℕ) → length (cell_at g cell) ≤ layers →
     ((layer : ℕ) → layer < layers → IsSlotChanged change g cell layer) → IsCellChanged (map change) g cell
 cell_of_slots change g cell layers few each =
-    fixed_by change (cell_at g cell) (λ layer low. each layer (omega (arith, low, few)))
+    map_fixed change Bare (cell_at g cell) (λ layer low. each layer (omega (arith, low, few)))

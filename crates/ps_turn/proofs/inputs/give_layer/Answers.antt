@@ -78,7 +78,8 @@ loop-column-preserved g c =
     let low : layer < length (cell_at now cell) = rw long c.requires.layer in
     let made : next ≡ with_slot now cell layer (change (slot_at now cell layer)) =
     c.give_slot.ensures.moved
-    ∙ ap (λ (h : ℕ). with_slot now (column * h + c.args.row) layer (change (slot_at now (column * h + c.args.row) layer)))
+    ∙ ap (λ (h : ℕ). let at : ℕ = column * h + c.args.row in
+    with_slot now at layer (change (slot_at now at layer)))
     c.size-width.ensures.height in
     let stay : StayChanged change now next =
     subst (StayChanged change now) (sym made) (slots_stay change again refl now cell layer within low) in
