@@ -78,8 +78,8 @@ fn play_loop<'r, B: Scan>(
     }
 }
 
-/// A section with so many repeats left. Most sections have nothing to do, so that a call for each would be felt: this is
-/// in line.
+/// A section with so many repeats left. Most sections have nothing to do, so that a call for each would be felt: this
+/// is in line.
 ///
 /// # Errors
 ///

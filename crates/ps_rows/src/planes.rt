@@ -425,8 +425,8 @@ impl<W: ColumnWords> Planes<W> {
         unlike.is_empty()
     }
 
-    /// Whether a plane, which is marked in these rows here or on others of the same height, is known to have the same rows
-    /// on both. Where they are few, they are sooner looked at one by one, and the answer is no.
+    /// Whether a plane, which is marked in these rows here or on others of the same height, is known to have the same
+    /// rows on both. Where they are few, they are sooner looked at one by one, and the answer is no.
     pub fn has_same_many(&self, other: &Planes<W>, plane: u32, marked: Columns<W>) -> bool
         requires height { other.now.height ≡ self.now.height }
         requires here { (plane + 1) * self.now.height ≤ vec_len self.now.words }

@@ -54,8 +54,8 @@ fn put_columns<W: ColumnWords>(text: &mut OutputText, start: u32, columns: Colum
     }
 }
 
-/// Columns of a row that show the same as one of them, where many are left; none, where few are, which are sooner looked
-/// up one by one.
+/// Columns of a row that show the same as one of them, where many are left; none, where few are, which are sooner
+/// looked up one by one.
 fn others_alike<B: Board>(
     board: &B,
     row: u32,
