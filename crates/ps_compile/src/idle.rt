@@ -2,14 +2,15 @@
 
 ghost use Rattle.std.specs.Prelude.{◌≡◌, map};
 ghost use Rattle.std.specs.List.{list_all, list_any};
-ghost use Rattle.ps_rules.specs.RulesShown.{commands_shown};
+ghost use Rattle.ps_program.specs.CommandsShown.{commands_shown};
 ghost use Rattle.ps_program.specs.Leaving.{is_listed, leaves};
 ghost use Rattle.ps_program.specs.ProgramShown.{cell_shown, mask_shown, row_shown, rows_shown, rule_shown};
 ghost use Rattle.ps_compile.specs.IdleRules.{is_void, is_void_cell, asks, is_idle};
 
 use ps_model::LayeredObject;
-use ps_program::{CellMask, CompiledCell, CompiledRow, CompiledRule, all_listed, is_listed};
-use ps_rules::Commands;
+use ps_program::{
+    CellMask, Commands, CompiledCell, CompiledRow, CompiledRule, all_listed, is_listed,
+};
 use ps_text::List;
 
 /// Whether one of these objects is of the list.

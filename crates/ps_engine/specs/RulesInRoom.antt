@@ -2,7 +2,7 @@
 use Rattle.std.specs.Prelude.{ℕ, Option, List, map}
 use Rattle.ps_model.specs.meaning.RuleMeanings.{RuleMeaning}
 use Rattle.ps_model.specs.board.Programs.{Section, Group, Loop}
-use Rattle.ps_rules.specs.RulesShown.{commands_shown}
+use Rattle.ps_program.specs.CommandsShown.{commands_shown}
 use Rattle.ps_program.specs.declared.rules.CompiledRule.{CompiledRule}
 use Rattle.ps_program.specs.declared.program.CompiledSection.{CompiledSection}
 use Rattle.ps_program.specs.declared.program.CompiledSection.TheVariants.{Group as GroupOf, Loop as LoopOf}

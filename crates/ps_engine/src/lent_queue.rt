@@ -3,7 +3,7 @@
 ghost use Rattle.std.specs.Prelude.{◌≡◌, option_map, true};
 ghost use Rattle.ps_model.specs.rules.SourceRules.{no_commands};
 ghost use Rattle.ps_model.specs.board.Attempts.{both, queued};
-ghost use Rattle.ps_rules.specs.RulesShown.{commands_shown};
+ghost use Rattle.ps_program.specs.CommandsShown.{commands_shown};
 
 use ps_program::Commands;
 use ps_text::Text;

@@ -1,4 +1,5 @@
 pub mod CellsShown
+pub mod CommandsShown
 pub mod Keeping
 pub mod KeepingCells
 pub mod Leaving

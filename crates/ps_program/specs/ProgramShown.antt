@@ -2,7 +2,7 @@
 use Rattle.std.specs.Prelude.{List, map}
 use Rattle.ps_model.specs.board.RuleSections.{Group as GroupOf, Loop as LoopOf}
 use Rattle.ps_model.specs.meaning.Compiled as model
-use Rattle.ps_rules.specs.RulesShown.{commands_shown}
+use Rattle.ps_program.specs.CommandsShown.{commands_shown}
 use Rattle.ps_program.specs.declared.cells.CompiledCell.{CompiledCell}
 use Rattle.ps_program.specs.declared.rows.CompiledRow.{CompiledRow}
 use Rattle.ps_program.specs.declared.rules.CompiledRule.{CompiledRule}

@@ -2,6 +2,7 @@
 #![tactic(auto)]
 
 mod cells;
+mod commands;
 mod keeping;
 mod leaving;
 mod needs;
@@ -12,11 +13,11 @@ mod sleeping;
 mod writers;
 
 pub use cells::{CellMask, CellWrite, CompiledCell};
+pub use commands::Commands;
 pub use keeping::{keeping_cells, sleeping_cells, write_keeps, write_wakes};
 pub use leaving::{all_listed, is_listed, leaving_cells};
 pub use program::{CompiledSection, Program};
 pub use ps_model::{LayerWrite, LayeredObject, MotionTest, ObjectWrite};
-pub use ps_rules::Commands;
 pub use rows::{Axis, CompiledRow, PART_LIMIT};
 pub use rules::CompiledRule;
 pub use writers::{Writer, settling_cells};

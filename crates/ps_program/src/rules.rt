@@ -6,12 +6,12 @@ ghost use Rattle.ps_program.specs.Axes.{LiesAlong};
 ghost use Rattle.ps_program.specs.Sleeping.{rows_sleep};
 ghost use Rattle.ps_program.specs.Writers.{rows_writer};
 
+use crate::commands::Commands;
 use crate::needs::asked_by;
 use crate::rows::{Axis, CompiledRow};
 use crate::sleeping::told_to_sleep;
 use crate::writers::{Writer, writer_of};
 use ps_model::{LayeredObject, Memory, MotionTest};
-use ps_rules::Commands;
 use ps_text::List;
 use std::alloc::Global;
 

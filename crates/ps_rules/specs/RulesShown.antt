@@ -3,10 +3,10 @@ use Rattle.std.specs.Prelude.{List, map}
 use Rattle.std.specs.Borrow.{Bor}
 use Rattle.ps_model.specs.rules.SourceRules as model
 use Rattle.ps_names.specs.Shown.{meaning_shown}
+use Rattle.ps_program.specs.CommandsShown.{commands_shown}
 use Rattle.ps_rules.specs.declared.tree.Item.{Item}
 use Rattle.ps_rules.specs.declared.tree.Item.TheVariants.{Is, No}
 use Rattle.ps_rules.specs.declared.tree.CellPair.{CellPair}
-use Rattle.ps_rules.specs.declared.tree.Commands.{Commands}
 use Rattle.ps_rules.specs.declared.tree.SourceRule.{SourceRule}
 use Rattle.ps_rules.specs.declared.tree.RuleLine.{RuleLine}
 use Rattle.ps_rules.specs.declared.tree.RuleLine.TheVariants.{Rule, LoopStart, LoopEnd}
@@ -29,16 +29,6 @@ tree_row_shown parts = map part_shown parts
 
 abbrev pub tree_rows_shown : List (List (List CellPair)) → List (List (List model.CellPair))
 tree_rows_shown rows = map tree_row_shown rows
-
-abbrev pub commands_shown : Commands → model.Commands
-commands_shown commands = record {
-  cancel = commands.cancel;
-  restart = commands.restart;
-  again = commands.again;
-  checkpoint = commands.checkpoint;
-  win = commands.win;
-  message = commands.message;
-}
 
 abbrev pub rule_shown : SourceRule → model.SourceRule
 rule_shown rule = record {

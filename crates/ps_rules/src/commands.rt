@@ -7,13 +7,13 @@ ghost use Rattle.ps_model.specs.rules.RuleShape.{has_kind};
 ghost use Rattle.ps_model.specs.rules.RuleTree.{gives, directions_given, with_command, text_of, commands_of};
 ghost use Rattle.ps_model.specs.rules.SourceRules.{no_commands};
 ghost use Rattle.ps_rules.specs.Asked.{asked_shown};
-ghost use Rattle.ps_rules.specs.RulesShown.{commands_shown};
+ghost use Rattle.ps_program.specs.CommandsShown.{commands_shown};
 ghost use Rattle.ps_rules.specs.SymbolsShown.{symbol_shown, tokens_shown};
 
 use crate::kinds::{Kind, has_kind};
 use crate::symbols::{Command, Symbol, Token};
-use crate::tree::Commands;
 use ps_model::{Direction, Memory};
+use ps_program::Commands;
 use ps_text::{List, Source, Text};
 use std::alloc::Global;
 

@@ -35,4 +35,4 @@ pub use movement_words::is_several;
 pub use occurrences::Occurrences;
 pub use ps_model::{Direction, Fault, FaultKind, MovementWord, Refusal};
 pub use read::read_rules;
-pub use tree::{CellPair, Commands, Item, RuleLine, RuleText, SourceRule};
+pub use tree::{CellPair, Item, RuleLine, RuleText, SourceRule};

@@ -6,7 +6,8 @@ ghost use Rattle.ps_rules.specs.RulesShown.{lines_shown};
 
 use ps_model::{Direction, MovementWord, ObjectId};
 use ps_names::Meaning;
-use ps_text::{List, Text};
+use ps_program::Commands;
+use ps_text::List;
 use smallvec::SmallVec;
 use std::marker::Model;
 
@@ -40,18 +41,6 @@ impl Default for Item {
 pub struct CellPair {
     pub left: SmallVec<Item, 2>,
     pub right: SmallVec<Item, 2>,
-}
-
-/// What a rule asks of the turn besides rewriting.
-#[derive(Drop)]
-pub struct Commands {
-    pub cancel: bool,
-    pub restart: bool,
-    pub again: bool,
-    pub checkpoint: bool,
-    pub win: bool,
-    /// The text of its message, as it stands but for the blanks at both ends.
-    pub message: Option<Text>,
 }
 
 /// A rule.

@@ -1,7 +1,7 @@
 use Rattle.std.proofs.Common.{ℕ, Option, List}
 use Rattle.ps_model.specs.board.Grid.{Grid}
 use Rattle.ps_model.specs.board.Attempts.{combinations_on}
-use Rattle.ps_rules.specs.RulesShown.{commands_shown}
+use Rattle.ps_program.specs.CommandsShown.{commands_shown}
 use Rattle.ps_program.specs.Axes.{direction_of}
 use Rattle.ps_engine.specs.Choosing.{rows_meaning}
 use Rattle.ps_engine.specs.RulesInRoom.{rule_meaning}

@@ -5,7 +5,7 @@ use Rattle.ps_model.specs.board.Places.{places}
 use Rattle.ps_model.specs.board.Attempts.{Result, Rewritten, applied, combinations}
 use Rattle.ps_model.specs.rules.SourceRules.{Commands}
 use Rattle.ps_model.specs.meaning.RuleMeanings.{CellMeaning}
-use Rattle.ps_rules.specs.RulesShown.{commands_shown}
+use Rattle.ps_program.specs.CommandsShown.{commands_shown}
 use Rattle.ps_program.specs.Axes.{direction_of}
 use Rattle.ps_program.specs.declared.rows.Axis.{Axis}
 use Rattle.ps_places.specs.Lines.{part_meaning}

@@ -3,7 +3,7 @@ use Rattle.std.specs.Prelude.{slice_index_or}
 use Rattle.ps_model.specs.board.Grid.{Grid}
 use Rattle.ps_model.specs.board.Attempts.{Result, Rewritten, applied, combinations_on}
 use Rattle.ps_model.specs.rules.SourceRules.{Commands}
-use Rattle.ps_rules.specs.RulesShown.{commands_shown}
+use Rattle.ps_program.specs.CommandsShown.{commands_shown}
 use Rattle.ps_program.specs.Axes.{direction_of}
 use Rattle.ps_program.specs.declared.rows.CompiledRow.{CompiledRow}
 use Rattle.ps_engine.specs.Choosing.{rows_meaning}

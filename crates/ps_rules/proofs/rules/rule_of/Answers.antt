@@ -3,7 +3,8 @@ use Rattle.ps_model.specs.text.LineNumbers.{line_at}
 use Rattle.ps_model.specs.text.Lines.{Line}
 use Rattle.ps_model.specs.rules.RuleShape.{RuleShape, at_end}
 use Rattle.ps_model.specs.rules.RuleTree.{rows_of, row_of_cells, commands_of}
-use Rattle.ps_rules.specs.RulesShown.{tree_rows_shown, commands_shown}
+use Rattle.ps_program.specs.CommandsShown.{commands_shown}
+use Rattle.ps_rules.specs.RulesShown.{tree_rows_shown}
 use Rattle.ps_rules.specs.ShapesShown.{shape_shown}
 use Rattle.ps_laws.proofs.common.LinesInOrder.{line_at-number}
 use Rattle.ps_rules.proofs.Rows.{rows-by-cells}
