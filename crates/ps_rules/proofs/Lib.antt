@@ -12,4 +12,5 @@ pub mod LooseProperties
 pub mod RuleSteps
 pub mod FormSteps
 pub mod LineSteps
+pub mod TwoParts
 mod WholeLines

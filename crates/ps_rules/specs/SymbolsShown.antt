@@ -3,6 +3,8 @@ use Rattle.std.specs.Prelude.{ℕ, List, [], ◌∷◌, map}
 use Rattle.ps_model.specs.rules.RuleSymbols as model
 use Rattle.ps_model.specs.names.Names.{Names}
 use Rattle.ps_names.specs.Shown.{meaning_shown}
+use Rattle.ps_rules.specs.declared.key_words.KeyWord.{KeyWord}
+use Rattle.ps_rules.specs.declared.key_words.KeyWord.TheVariants as key
 use Rattle.ps_rules.specs.declared.symbols.Command.{Command}
 use Rattle.ps_rules.specs.declared.symbols.Command.TheVariants.{Cancel, Restart, Again, Checkpoint, Win, Message, Sound}
 use Rattle.ps_rules.specs.declared.symbols.Symbol.{Symbol}
@@ -20,6 +22,20 @@ command_shown Checkpoint = model.Checkpoint
 command_shown Win = model.Win
 command_shown Message = model.Message
 command_shown Sound = model.Sound
+
+abbrev pub key_word_shown : KeyWord → model.Symbol
+key_word_shown key.Open = model.Open
+key_word_shown key.Close = model.Close
+key_word_shown key.Bar = model.Bar
+key_word_shown key.Arrow = model.Arrow
+key_word_shown key.Ellipsis = model.Ellipsis
+key_word_shown key.Late = model.Late
+key_word_shown key.Without = model.Without
+key_word_shown (key.Moves word) = model.Moves word
+key_word_shown (key.Asks command) = model.Asks (command_shown command)
+key_word_shown key.StartsLoop = model.StartsLoop
+key_word_shown key.EndsLoop = model.EndsLoop
+key_word_shown key.LeftOut = model.LeftOut
 
 abbrev pub symbol_shown : Symbol → model.Symbol
 symbol_shown Open = model.Open

@@ -118,11 +118,9 @@ fn line_of_words(
         (faults_of_form (above_shown above) line (form_of (line_at source.now line) (tokens_shown tokens.now))) }
 {
     if let Some(mark) = loop_mark(tokens) {
-        let made = loop_line(mark, above, line)?;
-        return Ok(made);
+        return loop_line(mark, above, line);
     }
-    let made = rule_line(alloc, source, line, tokens, above)?;
-    Ok(made)
+    rule_line(alloc, source, line, tokens, above)
 }
 
 /// What stands above the line below this one. `Refused` where this one is a rule over the limit.

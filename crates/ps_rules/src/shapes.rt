@@ -3,7 +3,7 @@
 
 ghost use Rattle.std.specs.Prelude.{◌≡◌, IfOk, option_map, map};
 ghost use Rattle.ps_model.specs.text.OptionSteps.{all_there};
-ghost use Rattle.ps_model.specs.rules.RuleShape.{row_of, side_of, shape_of};
+ghost use Rattle.ps_model.specs.rules.RuleShape.{row_of, side_of, shape_of, shape_of_parts};
 ghost use Rattle.ps_rules.specs.Kinds.{parts_shown};
 ghost use Rattle.ps_rules.specs.ShapesShown.{row_shown, rows_shown, side_shown, shape_shown};
 ghost use Rattle.ps_rules.specs.SymbolsShown.{tokens_shown};
@@ -90,6 +90,26 @@ fn side_of<'a, 'n>(
     Ok(Some(WrittenSide { ahead, rows }))
 }
 
+/// The shape of a rule by the parts between its arrows, if these are its two sides. The parts are lent, so that none of
+/// the ways out gives them back.
+fn shape_of_parts<'a, 'n>(
+    alloc: Global,
+    parts: &[&'a [Token<'n>]],
+) -> Result<Option<RuleShape<'a, 'n>>, Memory>
+    ensures { IfOk result (λ shape. option_map shape_shown shape ≡ shape_of_parts (parts_shown parts.now)) }
+{
+    let [before, behind] = parts else {
+        return Ok(None);
+    };
+    let Some(left) = side_of(alloc, before)? else {
+        return Ok(None);
+    };
+    let Some(right) = side_of(alloc, behind)? else {
+        return Ok(None);
+    };
+    Ok(Some(RuleShape { left, right }))
+}
+
 /// The shape of a rule's words, if they have one.
 pub fn shape_of<'a, 'n>(
     alloc: Global,
@@ -98,14 +118,5 @@ pub fn shape_of<'a, 'n>(
     ensures { IfOk result (λ shape. option_map shape_shown shape ≡ shape_of (tokens_shown tokens.entry.now)) }
 {
     let parts = cut_at(alloc, Kind::Arrow, tokens)?;
-    if parts.len() != 2 {
-        return Ok(None);
-    }
-    let Some(left) = side_of(alloc, parts[0])? else {
-        return Ok(None);
-    };
-    let Some(right) = side_of(alloc, parts[1])? else {
-        return Ok(None);
-    };
-    Ok(Some(RuleShape { left, right }))
+    shape_of_parts(alloc, &parts)
 }

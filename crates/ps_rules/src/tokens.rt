@@ -93,8 +93,7 @@ pub fn tokens_of<'n>(
     ensures { IfOk result (λ tokens. tokens_shown tokens.items ≡ tokens_of names.entry.now (line_at source.now line)) }
 {
     let words = words(alloc, source, line, Cut::Rule)?;
-    let tokens = tokens_of_words(alloc, names, &words)?;
-    Ok(tokens)
+    tokens_of_words(alloc, names, &words)
 }
 
 /// The words but for those that this profile leaves out.

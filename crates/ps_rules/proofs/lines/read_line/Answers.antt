@@ -1,4 +1,4 @@
-use Rattle.std.proofs.Common.{rules, ◌≡◌, ◌∙◌, ℕ, [], Some, List, ap, sym, false}
+use Rattle.std.proofs.Common.{◌≡◌, ◌∙◌, ℕ, [], Some, List, ap, sym, false}
 use Rattle.ps_model.specs.declared.faults.Fault.{Fault as TheFault}
 use Rattle.ps_model.specs.text.Faults.{first_fault}
 use Rattle.ps_model.specs.text.LineNumbers.{line_at}
@@ -8,11 +8,13 @@ use Rattle.ps_model.specs.rules.RuleLines.{LineForm, form_of, line_of_form}
 use Rattle.ps_model.specs.rules.RuleSymbols.{Token, tokens_of, tokens_kept}
 use Rattle.ps_laws.proofs.common.FirstFaults.{first-front}
 use Rattle.ps_rules.specs.AboveShown.{above_shown}
-use Rattle.ps_rules.specs.FormsShown.{form_at}
+use Rattle.ps_rules.specs.FormsShown.{form_at, line_made}
 use Rattle.ps_rules.specs.RulesShown.{line_shown}
 use Rattle.ps_rules.specs.SymbolsShown.{tokens_shown}
 use Rattle.ps_model.specs.declared.refusal.Refusal.{Refusal}
 use Rattle.ps_model.specs.declared.refusal.Refusal.TheVariants.{Refused}
+use Rattle.ps_rules.specs.declared.lines.Read.{Read}
+use Rattle.ps_names.proofs.common.Refused.{refused-reads-as}
 use Rattle.ps_rules.proofs.FormSteps.{next-of-form, count-of-form, line-count}
 use Rattle.ps_rules.proofs.lines.read_line.Goals as goal
 
@@ -32,7 +34,9 @@ returns-in_err-made-clause-read c =
     λ f e. first-front (faults_of_form above c.args.line form) _ f
     (ap (λ (ts : List Token). first_fault (faults_of_form above c.args.line (form_of line ts))) (sym kept)
     ∙ c.in_err-made.ensures.1.1 f e) in
-    search (rules, told)
+    refused-reads-as (λ (read : Read). line_made read.line) c.from_residual-in_err-made.result fault (line_of_form form)
+    (faults_of_line above c.args.line (tokens_of c.args.names.now line) form)
+    c.from_residual-in_err-made.ensures.1 told
 
 pub returns-in_err-next-clause-read : goal.returns-in_err-next-clause-read
 returns-in_err-next-clause-read c =
@@ -57,7 +61,9 @@ returns-in_err-next-clause-read c =
     first_fault (faults_of_line above c.args.line (tokens_of c.args.names.now line) form) ≡ Some f =
     λ f e. ap first_fault (line-count above c.args.line (tokens_of c.args.names.now line) form fine whole
     ∙ sym (count-of-form above c.args.line form _ part)) ∙ c.in_err-next.ensures.1.1 f e in
-    search (rules, told)
+    refused-reads-as (λ (read : Read). line_made read.line) c.from_residual-in_err-next.result fault (line_of_form form)
+    (faults_of_line above c.args.line (tokens_of c.args.names.now line) form)
+    c.from_residual-in_err-next.ensures.1 told
 
 pub returns-clause-above : goal.returns-clause-above
 returns-clause-above c =

@@ -10,6 +10,7 @@ use Rattle.ps_rules.specs.RulesShown.{lines_shown}
 use Rattle.ps_model.specs.declared.refusal.Refusal.{Refusal}
 use Rattle.ps_model.specs.declared.refusal.Refusal.TheVariants.{Refused}
 use Rattle.ps_laws.proofs.common.LinesInOrder.{between-step}
+use Rattle.ps_names.proofs.common.Refused.{refused-reads}
 use Rattle.ps_rules.proofs.LineSteps.{refused-step}
 use Rattle.ps_rules.proofs.WholeLines.{made-whole}
 use Rattle.ps_rules.proofs.read.read_rules.Goals as goal
@@ -30,7 +31,9 @@ returns-in_err-above c =
     faults_below c.args.names.now (above_shown c.loop-line.above) (lines_with_words xs)) step
     ) ∙ refused-step text line c.args.names.now (above_shown c.loop-line.above) (lines_between text (line + 1) end) f
     (omega arith, omega arith) own in
-    search (rules, told)
+    refused-reads c.from_residual.result fault
+    (rules_read c.args.names.now (lines_between text c.args.lines.start end))
+    (rule_faults c.args.names.now (lines_between text c.args.lines.start end)) c.from_residual.ensures.1 told
 
 pub loop-line-preserved : goal.loop-line-preserved
 loop-line-preserved c =
