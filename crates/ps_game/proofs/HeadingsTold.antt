@@ -3,9 +3,9 @@ use Rattle.std.proofs.Common.{◌≡◌, ℕ, suc, ◌+◌, ◌-◌, ◌<◌, �
 use Rattle.std.proofs.Common.{length, drop, flat_map, Option, Some, None, append_assoc, refl, sym, ap, ap₂, ◌∙◌, arith}
 use Rattle.std.specs.Prelude.{⊤, nat_lt, nat_le, cond, if◌then◌else◌}
 use Rattle.std.specs.List.{list_any}
-use Rattle.std.specs.Option.{option_or}
+use Rattle.std.specs.Option.{option_or, is_some}
 use Rattle.std.proofs.lemmas.Bool.Decides.{nat_tests}
-use Rattle.std.proofs.lemmas.List.{drop_more}
+use Rattle.std.proofs.lemmas.List.{drop_more, at_drop_all}
 use Rattle.std.proofs.lemmas.List.Folds.{list_any-append}
 use Rattle.std.proofs.Math.Bool.{or-false}
 use Rattle.ps_model.specs.declared.texts.Section.{Section}
@@ -202,3 +202,20 @@ told_below text line above below one within none e =
     ap (headings_told above) (drop_more lines (line - 1) no_line (omega arith)) in
     rw (place, e) (sym (whole ∙ ap (λ (fault : Option Fault).
     option_or fault (headings_told (place_below above here) (drop (line - 1 + 1) lines))) none))
+
+-- a fault of a line is the first of those from there on
+pub told_here : (text : List ℕ) (line above : ℕ) (fault : Option Fault) → 1 ≤ line → line ≤ length (lines_of text) →
+    fault ≡ heading_fault above (line_at text line) → is_some fault ≡ true →
+    fault ≡ headings_told above (drop (line - 1) (lines_of text))
+told_here text line above None one within e some = absurd (let h = some in cc)
+told_here text line above (Some fault) one within e some =
+    let lines : List Line = lines_of text in
+    let here : Line = line_at text line in
+    sym (ap (headings_told above) (drop_more lines (line - 1) no_line (omega arith))
+    ∙ ap (λ (first : Option Fault). option_or first
+    (headings_told (place_below above here) (drop (line - 1 + 1) lines))) (sym e))
+
+-- behind the last line no fault is told
+pub told_past : (text : List ℕ) (line above : ℕ) → length (lines_of text) + 1 ≤ line →
+    headings_told above (drop (line - 1) (lines_of text)) ≡ None
+told_past text line above past = at_drop_all (headings_told above) (lines_of text) (line - 1) (omega arith)

@@ -6,3 +6,4 @@ pub mod SectionEnds
 pub mod SectionLines
 pub mod SectionsTold
 pub mod WholeGame
+pub mod Refusals
