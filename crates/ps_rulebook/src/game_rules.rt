@@ -14,7 +14,6 @@ use std::marker::Model;
 /// board. It is made once, so that a run takes no memory but for a message, and for boards that are kept: where a group
 /// makes many rounds for the first time, or a loop many passes, and where a program of many groups is run for the first
 /// time on boards of a size.
-#[derive(Drop)]
 pub struct GameRules<'p, 'r, B: Scan> {
     /// Where the message of a run takes memory from.
     alloc: Global,
@@ -23,6 +22,18 @@ pub struct GameRules<'p, 'r, B: Scan> {
     rooms: Vec<RoomFor<B>>,
     /// For rounds and passes that come back.
     kept: KeptBoards<B>,
+}
+
+/// Written out, so that who owns rules calls this on each way out, instead of dropping their parts there.
+impl<'p, 'r, B: Scan> Drop for GameRules<'p, 'r, B> {
+    fn drop(self) {
+        let GameRules {
+            alloc: _,
+            program: _program,
+            rooms: _rooms,
+            kept: _kept,
+        } = self;
+    }
 }
 
 impl<'p, 'r, B: Scan> Model for GameRules<'p, 'r, B> {

@@ -1,0 +1,34 @@
+use Rattle.std.proofs.Common.{◌∙◌, ℕ, List, Option, ap, ap₂}
+use Rattle.ps_engine.specs.RulesInRoom.{sections_meaning}
+use Rattle.ps_model.specs.board.Programs.{Section, program_run}
+use Rattle.ps_model.specs.rules.SourceRules.{Commands}
+use Rattle.ps_program.specs.declared.program.CompiledSection.{CompiledSection}
+use Rattle.ps_turn.specs.States.{state_of}
+use Rattle.ps_rulebook.proofs.game_rules.GameRulesRules.run.Goals as goal
+
+pub returns-clause-ran : goal.returns-clause-ran
+returns-clause-ran g c =
+    ap (state_of (g.B.Board.grid c.run_program.new.board)) c.in_ok-after.ensures
+    ∙ c.in_ok-run_program.ensures.run
+    ∙ ap₂ (λ (sections : List CompiledSection) (queue : Commands). program_run
+    (sections_meaning (g.B.Board.table c.args.board.now) sections) (state_of (g.B.Board.grid c.args.board.now) queue))
+    c.self.view_is c.lent-during.ensures
+
+pub returns-clause-same : goal.returns-clause-same
+returns-clause-same g c =
+    let meant : List CompiledSection → Option (List ℕ) → List Section = λ sections table. sections_meaning table sections in
+    ap meant (c.in_ok-run_program.ensures.sections ∙ c.self.view_is)
+
+pub returns-clause-width : goal.returns-clause-width
+returns-clause-width g c = ap (λ (sides : ℕ × ℕ × ℕ). sides.0) c.in_ok-run_program.ensures.sides
+
+pub returns-clause-height : goal.returns-clause-height
+returns-clause-height g c = ap (λ (sides : ℕ × ℕ × ℕ). sides.1) c.in_ok-run_program.ensures.sides
+
+pub returns-clause-layers : goal.returns-clause-layers
+returns-clause-layers g c = ap (λ (sides : ℕ × ℕ × ℕ). sides.2) c.in_ok-run_program.ensures.sides
+
+pub returns-in_err-after-clause-same : goal.returns-in_err-after-clause-same
+returns-in_err-after-clause-same g c =
+    let meant : List CompiledSection → Option (List ℕ) → List Section = λ sections table. sections_meaning table sections in
+    ap meant (c.in_ok-run_program.ensures.sections ∙ c.self.view_is)
