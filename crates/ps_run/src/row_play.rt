@@ -16,10 +16,19 @@ use std::alloc::Global;
 use std::marker::Model;
 
 /// A session on boards whose rows are kept by words of this kind, with the rules of a game on such boards.
-#[derive(Drop)]
 pub struct RowPlay<'g, V: ColumnWords> {
     session: Session<'g, RowBoard<V>, RowHistory<V>>,
     rules: TurnRules<RowBoard<V>, GameRules<'g, 'g, RowBoard<V>>>,
+}
+
+/// Written out, so that who owns a game in play calls this on each way out, instead of dropping its parts there.
+impl<'g, V: ColumnWords> Drop for RowPlay<'g, V> {
+    fn drop(self) {
+        let RowPlay {
+            session: _session,
+            rules: _rules,
+        } = self;
+    }
 }
 
 impl<'g, V: ColumnWords> Model for RowPlay<'g, V> {
@@ -76,7 +85,7 @@ impl<'g, V: ColumnWords> RowPlay<'g, V> {
         Ok(())
     }
 
-    /// Ends it. What a session and its rules own is dropped here and nowhere else: dropping it is long to prove.
+    /// Ends it: what a session and its rules own is dropped.
     pub fn end(self) {}
 
     /// How the game ended, if it has.

@@ -23,11 +23,21 @@ use std::alloc::Global;
 use std::marker::Model;
 
 /// Where a player is in a game: in a level with the boards that undo goes back to, at a message, or at the end.
-#[derive(Drop)]
 pub struct Session<'g, B: Board, H: History<B>> {
     stage: Stage<'g, B>,
     location: Location<PlayedLevel<B>>,
     history: H,
+}
+
+/// Written out, so that who owns a session calls this on each way out, instead of dropping its parts there.
+impl<'g, B: Board, H: History<B>> Drop for Session<'g, B, H> {
+    fn drop(self) {
+        let Session {
+            stage: _stage,
+            location: _location,
+            history: _history,
+        } = self;
+    }
 }
 
 impl<'g, B: Board, H: History<B>> Model for Session<'g, B, H> {

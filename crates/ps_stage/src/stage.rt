@@ -20,7 +20,6 @@ use std::marker::Model;
 
 /// A game in play, its picture, boards to be used again, and the text that a key makes. The text goes to the output
 /// when all else is done, so that a key which fails writes nothing.
-#[derive(Drop)]
 pub struct Stage<'g, B: Board> {
     pub(crate) alloc: Global,
     pub(crate) game: SessionGame<'g>,
@@ -29,6 +28,20 @@ pub struct Stage<'g, B: Board> {
     picture: Picture<'g, B>,
     pub(crate) spares: SpareBoards<B>,
     pub(crate) text: OutputText,
+}
+
+/// Written out, so that who owns a stage calls this on each way out, instead of dropping its parts there.
+impl<'g, B: Board> Drop for Stage<'g, B> {
+    fn drop(self) {
+        let Stage {
+            alloc: _,
+            game: _game,
+            sides: _,
+            picture: _picture,
+            spares: _spares,
+            text: _text,
+        } = self;
+    }
 }
 
 impl<'g, B: Board> Model for Stage<'g, B> {

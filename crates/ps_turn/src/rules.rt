@@ -29,10 +29,20 @@ pub trait Rules<B: Board> {
 }
 
 /// The rules of a game's turns: those before the movement, and those behind it.
-#[derive(Drop)]
 pub struct TurnRules<B: Board, R> {
     pub plain: R,
     pub late: R,
     /// Room for the cells of a movement in which something moves.
     pub moving: CellSet<B>,
+}
+
+/// Written out, so that who owns rules calls this on each way out, instead of dropping their parts there.
+impl<B: Board, R: Drop> Drop for TurnRules<B, R> {
+    fn drop(self) {
+        let TurnRules {
+            plain: _plain,
+            late: _late,
+            moving: _moving,
+        } = self;
+    }
 }
