@@ -175,10 +175,15 @@ const EXPLANATIONS: [(FaultKind, &str); 45] = [
     ),
 ];
 
+/// The causes with their sentences.
+fn explanations() -> &'static [(FaultKind, &'static str)] {
+    &EXPLANATIONS
+}
+
 /// What the fault of this code is, as `RU7`, in capitals or not, in a sentence; nothing, where no fault has the code.
 pub fn explanation(code: &str) -> Option<&'static str> {
-    for (kind, sentence) in EXPLANATIONS {
-        if has_code(kind, code) {
+    for (kind, sentence) in explanations() {
+        if has_code(*kind, code) {
             return Some(sentence);
         }
     }
@@ -187,8 +192,8 @@ pub fn explanation(code: &str) -> Option<&'static str> {
 
 /// What a fault is, in a sentence.
 pub fn sentence_of(kind: FaultKind) -> &'static str {
-    for (other, sentence) in EXPLANATIONS {
-        if other == kind {
+    for (other, sentence) in explanations() {
+        if *other == kind {
             return sentence;
         }
     }

@@ -43,8 +43,8 @@ pub fn is_like_arrow(word: &str) -> bool {
 
 /// Whether a word begins or ends with what is written in place of `[` and `]`.
 pub fn is_like_bracket(word: &str) -> bool {
-    for bracket in LIKE_BRACKETS {
-        if word.starts_with(bracket) || word.ends_with(bracket) {
+    for bracket in &LIKE_BRACKETS {
+        if word.starts_with(*bracket) || word.ends_with(*bracket) {
             return true;
         }
     }
