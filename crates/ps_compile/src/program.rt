@@ -22,10 +22,19 @@ use ps_text::List;
 use std::alloc::Global;
 
 /// The two programs of a game's rules: the plain one, and the late one.
-#[derive(Drop)]
 pub struct CompiledPrograms<'r> {
     pub plain: Program<'r>,
     pub late: Program<'r>,
+}
+
+/// Written out, so that who owns the programs calls this on each way out, instead of dropping their parts there.
+impl<'r> Drop for CompiledPrograms<'r> {
+    fn drop(self) {
+        let CompiledPrograms {
+            plain: _plain,
+            late: _late,
+        } = self;
+    }
 }
 
 /// Whether the rule belongs to that part of a turn.

@@ -25,7 +25,6 @@ use std::alloc::Global;
 use std::marker::Model;
 
 /// A game, as its text says it.
-#[derive(Drop)]
 pub struct Game {
     /// The text behind `title`, without the blanks at its ends; empty where the prelude has none.
     pub title: Text,
@@ -36,6 +35,20 @@ pub struct Game {
     /// The levels and messages, in the order in which they are played.
     pub entries: Vec<Entry>,
     pub wins: Vec<Win>,
+}
+
+/// Written out, so that who owns a game calls this on each way out, instead of dropping its parts there.
+impl Drop for Game {
+    fn drop(self) {
+        let Game {
+            title: _title,
+            options: _,
+            names: _names,
+            rules: _rules,
+            entries: _entries,
+            wins: _wins,
+        } = self;
+    }
 }
 
 impl Model for Game {

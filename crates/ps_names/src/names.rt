@@ -15,7 +15,6 @@ use std::marker::Model;
 
 /// The names of a game: what each stands for, the layer of each object, and the glyphs. Its objects are numbered from
 /// 0, and so are its layers.
-#[derive(Drop)]
 pub struct Names {
     pub(crate) table: Table,
     pub(crate) own_layers: Vec<LayerId>,
@@ -23,6 +22,20 @@ pub struct Names {
     pub(crate) glyphs: Vec<Glyph>,
     pub(crate) players: Vec<ObjectId>,
     pub(crate) backgrounds: Vec<ObjectId>,
+}
+
+/// Written out, so that who owns names calls this on each way out, instead of dropping their parts there.
+impl Drop for Names {
+    fn drop(self) {
+        let Names {
+            table: _table,
+            own_layers: _own_layers,
+            layer_count: _,
+            glyphs: _glyphs,
+            players: _players,
+            backgrounds: _backgrounds,
+        } = self;
+    }
 }
 
 impl Model for Names {

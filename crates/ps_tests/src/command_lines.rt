@@ -184,16 +184,16 @@ fn is_idle(outcome: &Outcome) -> bool {
 
 #[test]
 fn knows_what_is_asked_for(rt: HostRuntime) {
-    for (words, wanted) in LINES {
-        assert_eq!(rt; done_for(&obey(&rt, words)), Some(wanted));
+    for (words, wanted) in &LINES {
+        assert_eq!(rt; done_for(&obey(&rt, *words)), Some(*wanted));
     }
 }
 
 /// Nothing is done for a command line that isn't right but to tell what is wrong with it.
 #[test]
 fn refuses_bad_lines(rt: HostRuntime) {
-    for words in BAD_LINES {
-        let outcome = obey(&rt, words);
+    for words in &BAD_LINES {
+        let outcome = obey(&rt, *words);
         assert_eq!(rt; outcome.status, 2);
         assert!(rt; is_idle(&outcome));
         assert!(rt; outcome.kept.printed.is_empty());
@@ -237,12 +237,12 @@ fn expect_told(rt: &impl Abort, outcome: &Outcome, status: u8, shown: &str, comp
 /// for, and the status is 1.
 #[test]
 fn tells_the_fault_of_a_file(rt: HostRuntime) {
-    for (words, fault) in REFUSED_LINES {
-        let outcome = obey(&rt, words);
+    for (words, fault) in &REFUSED_LINES {
+        let outcome = obey(&rt, *words);
         let (shown, complained) = if words.contains(&"--check") {
-            (fault, "")
+            (*fault, "")
         } else {
-            ("", fault)
+            ("", *fault)
         };
         assert_eq!(rt; outcome.reads, 0);
         expect_told(&rt, &outcome, 1, shown, complained);
@@ -278,10 +278,10 @@ const MANY_FILES: [(&[&str], &str, &str, u8); 3] = [
 /// Several files are checked one after the other, also behind one that can't be read or holds no game.
 #[test]
 fn checks_many_files(rt: HostRuntime) {
-    for (words, shown, complained, status) in MANY_FILES {
-        let outcome = obey(&rt, words);
+    for (words, shown, complained, status) in &MANY_FILES {
+        let outcome = obey(&rt, *words);
         assert_eq!(rt; outcome.reads, 0);
-        expect_told(&rt, &outcome, status, shown, complained);
+        expect_told(&rt, &outcome, *status, *shown, *complained);
     }
 }
 
@@ -307,11 +307,11 @@ const INPUT_LINES: [(&[&str], &str, &str, usize); 4] = [
 /// Of a game that stands on standard input all of it is read before keys are: byte by byte, and once more for its end.
 #[test]
 fn reads_a_game_from_standard_input(rt: HostRuntime) {
-    for (words, shown, opened, keys) in INPUT_LINES {
-        let outcome = obey_with(&rt, words, PUSHING);
-        assert_eq!(rt; outcome.kept.opened.as_str(), opened);
-        assert_eq!(rt; outcome.reads as usize, PUSHING.len() + 1 + keys);
-        expect_told(&rt, &outcome, 0, shown, "");
+    for (words, shown, opened, keys) in &INPUT_LINES {
+        let outcome = obey_with(&rt, *words, PUSHING);
+        assert_eq!(rt; outcome.kept.opened.as_str(), *opened);
+        assert_eq!(rt; outcome.reads as usize, PUSHING.len() + 1 + *keys);
+        expect_told(&rt, &outcome, 0, *shown, "");
     }
 }
 
@@ -357,10 +357,10 @@ const SIZED_LINES: [(&[&str], &str, &str); 4] = [
 /// A view has the size that a file tells.
 #[test]
 fn follows_the_size_that_a_file_tells(rt: HostRuntime) {
-    for (words, opened, handed) in SIZED_LINES {
-        let outcome = obey(&rt, words);
-        assert!(rt; outcome.kept.opened.as_str().starts_with(opened));
-        expect_told(&rt, &outcome, 0, handed, "");
+    for (words, opened, handed) in &SIZED_LINES {
+        let outcome = obey(&rt, *words);
+        assert!(rt; outcome.kept.opened.as_str().starts_with(*opened));
+        expect_told(&rt, &outcome, 0, *handed, "");
     }
 }
 
