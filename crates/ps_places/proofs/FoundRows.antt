@@ -40,6 +40,16 @@ not_begun g table Down part own row x only low out = by (nat_le (row + length pa
       ∙ and-false (nat_lt x g.width)
 not_begun g table Right part own row x only low out = only.at row x low (λ e. absurd (cc)) out
 
+-- how many rows have room, where the height was read, and that these are few
+pub count_of : (axis : Axis) (count high height cells : ℕ) → count ≡ rows_with_room axis high cells → high ≡ height →
+    count ≡ rows_with_room axis height cells
+count_of axis count high height cells is e = is ∙ ap (λ (h : ℕ). rows_with_room axis h cells) e
+
+pub count_few : (axis : Axis) (count height cells : ℕ) → 0 < cells → count ≡ rows_with_room axis height cells →
+    count ≤ height
+count_few Right count height cells some is = omega arith
+count_few Down count height cells some is = omega arith
+
 -- rows that were looked at together ----------------------------------------------------------------------------------
 
 -- those of a set that aren't below a number are none: all are below it

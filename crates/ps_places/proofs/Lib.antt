@@ -4,6 +4,7 @@ pub mod CellByCell
 pub mod CellsInTurn
 pub mod NextWays
 pub mod PlacesOfWays
+pub mod WayEnds
 pub mod WayLevels
 pub mod SeekingPlaces
 pub mod Forgetting
@@ -29,6 +30,9 @@ pub mod KeepingMasks
 pub mod PartPlaces
 pub mod StartNumbers
 pub mod RowOfPlaces
+pub mod SmallSteps
+pub mod PartsRead
+pub mod RowsPutBack
 pub mod RowsTogether
 pub mod AlonePlaces
 pub mod FoundRows

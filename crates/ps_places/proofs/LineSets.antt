@@ -39,6 +39,13 @@ line_room count row most low =
     (let next : row + 1 ≤ most = omega arith in next) in
     omega arith
 
+-- and so does a set of it
+pub part_room : (count row number long now : ℕ) → row < SIDE_LIMIT → number < count → SIDE_LIMIT * count ≤ long →
+    now ≡ long → row * count + number < now
+part_room count row number long now low one room same =
+    let line : row * count + count ≤ SIDE_LIMIT * count = line_room count row SIDE_LIMIT low in
+    omega arith
+
 kept_by : (starts sets : List (List Bool)) (start k place : ℕ) → length sets ≡ k → start + k ≤ length starts →
     (place < start) ⊎ (start + k ≤ place) →
     slice_index_or (put_mid start k starts sets) place [] ≡ slice_index_or starts place []

@@ -1,6 +1,6 @@
 -- The first place of a row on a line, or behind a way on it, and then on the lines behind.
 use Rattle.std.proofs.Common.{◌≡◌, ◌∙◌, ℕ, ◌+◌, ◌-◌, ◌*◌, ◌<◌, ◌≤◌, Bool, Option, List, [], ◌∷◌, ◌++◌, length, map}
-use Rattle.std.proofs.Common.{take, drop, sym, ap, arith}
+use Rattle.std.proofs.Common.{Fits, w64, take, drop, refl, subst, sym, ap, arith}
 use Rattle.std.specs.Prelude.{All}
 use Rattle.std.proofs.Math.Nat.{mul-le-mul_right}
 use Rattle.std.proofs.lemmas.Grind.{common_steps}
@@ -14,6 +14,7 @@ use Rattle.ps_program.specs.declared.rows.TheConstants.{PART_LIMIT}
 use Rattle.ps_places.specs.FittingWays.{way_fits}
 use Rattle.ps_places.specs.Lines.{line_count}
 use Rattle.ps_places.specs.RowPlaces.{part_sizes, place_fits, places_on_lines, sets_on, way_cells}
+use Rattle.ps_places.specs.Spaced.{IsSpaced}
 use Rattle.ps_places.specs.Seeking.{place_on, places_after}
 use Rattle.ps_places.specs.Ways.{from_first, positions_from, ways_behind, ways_from}
 use Rattle.ps_places.proofs.FirstOf.{first-append-none, first-append-some}
@@ -47,6 +48,37 @@ sets-long : (starts : List (List Bool)) (parts : List (List CompiledCell)) (line
 sets-long starts parts line low few e =
     enough starts (line * length parts) (length parts) (sets-within line (length parts) (length starts) low few e)
     ∙ sym (length-map parts length)
+
+-- where the sets of a line stand, for a row whose number of parts is read off a list of them
+pub low_line : (line count : ℕ) → line < count → count ≤ SIDE_LIMIT → line < SIDE_LIMIT
+low_line line count low few = omega arith
+
+pub end_within : (line count n long : ℕ) → n ≡ count → line < SIDE_LIMIT → count ≤ PART_LIMIT →
+    long ≡ PART_LIMIT * SIDE_LIMIT → line * n + n ≤ long
+end_within line count n long same low few all = rw same (sets-within line count long low few all)
+
+pub start_within : (line count n long : ℕ) → n ≡ count → line < SIDE_LIMIT → count ≤ PART_LIMIT →
+    long ≡ PART_LIMIT * SIDE_LIMIT → line * n ≤ long
+start_within line count n long same low few all = omega (arith, end_within line count n long same low few all)
+
+pub start_below : (line count n long : ℕ) → n ≡ count → line < SIDE_LIMIT → 0 < count → count ≤ PART_LIMIT →
+    long ≡ PART_LIMIT * SIDE_LIMIT → line * n < long
+start_below line count n long same low some few all = omega (arith, end_within line count n long same low few all)
+
+pub start_fits : (line count n : ℕ) → n ≡ count → line < SIDE_LIMIT → count ≤ PART_LIMIT → Fits w64 (line * n)
+start_fits line count n same low few =
+    omega (arith, end_within line count n (PART_LIMIT * SIDE_LIMIT) same low few refl)
+
+pub end_fits : (line count n : ℕ) → n ≡ count → line < SIDE_LIMIT → count ≤ PART_LIMIT → Fits w64 (line * n + n)
+end_fits line count n same low few =
+    omega (arith, end_within line count n (PART_LIMIT * SIDE_LIMIT) same low few refl)
+
+pub sets_taken : {X : Type 0} (starts : List X) (line count n : ℕ) → n ≡ count → line < SIDE_LIMIT →
+    count ≤ PART_LIMIT → length starts ≡ PART_LIMIT * SIDE_LIMIT →
+    length (take (line * n + n - line * n) (drop (line * n) starts)) ≡ n
+sets_taken starts line count n same low few all =
+    let e : line * n + n - line * n ≡ n = omega arith in
+    rw e (enough starts (line * n) n (end_within line count n (length starts) same low few all))
 
 long_ways : (parts : List (List CompiledCell)) (ways : List (List ℕ)) →
     All (λ way. length way ≡ length (part_sizes parts)) ways → All (λ way. length way ≡ length parts) ways
@@ -157,3 +189,13 @@ pub found-in-front : (fits : List ℕ → Bool) (axis : Axis) (height : ℕ) (pa
 found-in-front fits axis height parts starts lines line all way rest long found =
     found ∙ ap (λ (w : List ℕ). place_on axis height parts line w ∷ places_after axis height parts starts lines line w)
     (sym (front way rest (length parts) long))
+
+-- the way of a place that is chosen stands in front of what the room keeps of others
+pub spaced-in-front : (parts : List (List CompiledCell)) (way rest : List ℕ) → length way ≡ length parts →
+    IsSpaced (part_sizes parts) 0 way → IsSpaced (part_sizes parts) 0 (take (length parts) (way ++ rest))
+spaced-in-front parts way rest long spaced =
+    subst (λ (w : List ℕ). IsSpaced (part_sizes parts) 0 w) (sym (front way rest (length parts) long)) spaced
+
+-- and has as many positions as the row has parts
+pub way_room : (n count long : ℕ) → n ≡ count → count ≤ PART_LIMIT → long ≡ 3 → n ≤ long
+way_room n count long same few all = omega arith

@@ -1,4 +1,4 @@
-use Rattle.std.proofs.Common.{◌∙◌, ℕ, ◌∷◌, ◌++◌, Bool, Option, List, length, map, sym, ap}
+use Rattle.std.proofs.Common.{◌∙◌, ◌*◌, ℕ, ◌∷◌, ◌++◌, Bool, Option, List, length, map, refl, subst, sym, ap}
 use Rattle.ps_model.specs.board.Grid.{Grid}
 use Rattle.ps_board.specs.ColumnSets.{set_columns}
 use Rattle.ps_places.specs.FittingWays.{way_fits}
@@ -7,7 +7,11 @@ use Rattle.ps_places.specs.Seeking.{place_on}
 use Rattle.ps_places.specs.Ways.{from_first, ways_behind}
 use Rattle.ps_places.proofs.Forgetting.{first-on-line}
 use Rattle.ps_places.proofs.Positions.{left-from, left-more}
-use Rattle.ps_places.proofs.SeekingPlaces.{line-found, line-none}
+use Rattle.ps_places.proofs.SeekingPlaces.{end_fits, line-found, line-none, sets_taken, start_fits, start_within}
+use Rattle.ps_places.proofs.SmallSteps.{fits_byte, fits_word, further, no_some}
+use Rattle.ps_places.proofs.WayEnds.{falls}
+use Rattle.std.specs.Prelude.{All}
+use Rattle.ps_laws.specs.WholeRows.{HasCells}
 use Rattle.ps_places.proofs.chosen.seek.Goals as goal
 
 pub loop-line-init : goal.loop-line-init
@@ -84,3 +88,74 @@ loop-line-preserved g c =
           c.loop-line.invariant.left;
       long = c.first_way.ensures.long ∙ ap length c.as_slice-parts.ensures;
     }
+
+pub overflow_mul-at : goal.overflow_mul-at
+overflow_mul-at g c =
+    start_fits c.in-Some.line (length c.args.row.now.parts) (length c.as_slice-parts.result.now)
+    (ap length c.as_slice-parts.ensures) c.in-Some.ensures.within
+    c.args.row.now.few
+
+pub overflow_add-sets : goal.overflow_add-sets
+overflow_add-sets g c =
+    end_fits c.in-Some.line (length c.args.row.now.parts) (length c.as_slice-parts.result.now)
+    (ap length c.as_slice-parts.ensures) c.in-Some.ensures.within
+    c.args.row.now.few
+
+pub offset_bounds-starts-at : goal.offset_bounds-starts-at
+offset_bounds-starts-at g c =
+    start_within c.in-Some.line (length c.args.row.now.parts) (length c.as_slice-parts.result.now)
+    (length c.args.starts.now) (ap length c.as_slice-parts.ensures)
+    c.in-Some.ensures.within c.args.row.now.few c.requires.starts
+
+pub slice_bounds-sets-count : goal.slice_bounds-sets-count
+slice_bounds-sets-count g c =
+    further (c.in-Some.line * length c.as_slice-parts.result.now) (length c.as_slice-parts.result.now)
+
+pub first_way-requires-clause-sets : goal.first_way-requires-clause-sets
+first_way-requires-clause-sets g c =
+    sets_taken c.args.starts.now c.in-Some.line (length c.args.row.now.parts) (length c.as_slice-parts.result.now)
+    (ap length c.as_slice-parts.ensures) c.in-Some.ensures.within
+    c.args.row.now.few c.requires.starts
+
+pub first_way-requires-clause-whole : goal.first_way-requires-clause-whole
+first_way-requires-clause-whole g c = subst (All HasCells) (sym c.as_slice-parts.ensures) c.args.row.now.whole
+
+pub returns-then-first_way-clause-none : goal.returns-then-first_way-clause-none
+returns-then-first_way-clause-none g c = no_some
+
+pub returns-then-first_way-clause-long : goal.returns-then-first_way-clause-long
+returns-then-first_way-clause-long g c =
+    c.first_way.ensures.long ∙ ap length c.as_slice-parts.ensures ∙ sym c.requires.way
+
+pub overflow_cast-at : goal.overflow_cast-at
+overflow_cast-at g c = fits_word c.in-Some.line c.in-Some.ensures.within
+
+pub overflow_cast-line : goal.overflow_cast-line
+overflow_cast-line g c = fits_byte c.in-Some.line c.in-Some.ensures.within
+
+pub overflow_cast-result : goal.overflow_cast-result
+overflow_cast-result g c = fits_byte c.in-Some.line c.in-Some.ensures.within
+
+pub first_way-requires-clause-way : goal.first_way-requires-clause-way
+first_way-requires-clause-way g c = c.loop-line.invariant.long ∙ sym (ap length c.as_slice-parts.ensures)
+
+pub returns-then-first_way-clause-spaced : goal.returns-then-first_way-clause-spaced
+returns-then-first_way-clause-spaced g c =
+    rw c.as_slice-parts.ensures at (c.first_way.ensures.spaced c.if-first_way.true)
+
+pub loop-line-smaller : goal.loop-line-smaller
+loop-line-smaller g c =
+    falls (set_columns c.loop-line.left) c.in-Some.line (set_columns c.take_first.new.self)
+    (length (set_columns c.loop-line.left)) c.in-Some.ensures.some refl
+
+pub returns-clause-none : goal.returns-clause-none
+returns-clause-none g c = λ nowhere.
+    let grid : Grid = g.B.Board.grid c.args.board.now in
+    let fits : List ℕ → Bool = place_fits grid (g.B.Board.table c.args.board.now) c.args.row.now.parts in
+    c.loop-line.invariant.first
+    ∙ ap (λ (ls : List ℕ). from_first fits
+    (places_on_lines c.args.row.now.axis grid.height c.args.row.now.parts c.args.starts.now ls))
+    (c.in_default.ensures.none refl)
+
+pub returns-clause-long : goal.returns-clause-long
+returns-clause-long g c = c.loop-line.auto.way

@@ -1,4 +1,4 @@
-use Rattle.std.proofs.Common.{◌≡◌, inl, inr, true, sym, subst, arith, rules}
+use Rattle.std.proofs.Common.{inl, inr, sym, subst, arith}
 use Rattle.std.proofs.lemmas.Bool.{cases_eq}
 use Rattle.ps_places.specs.LeavingAlone.{ApartLieAlone}
 use Rattle.ps_places.proofs.leaving_alone.places_lie_alone.Goals as goal
@@ -6,8 +6,7 @@ use Rattle.ps_places.proofs.leaving_alone.places_lie_alone.Goals as goal
 pub loop-distance-preserved : goal.loop-distance-preserved
 loop-distance-preserved g c = λ distance more low. elim (cases_eq distance c.loop-distance.distance) [
   | inl same ↦
-      let good : c.apart_lie_alone.result ≡ true = search rules in
       subst (ApartLieAlone c.args.axis c.args.part.now c.args.rows c.args.starts.now) (sym same)
-      (c.apart_lie_alone.ensures good)
+      (c.apart_lie_alone.ensures c.if-not-apart_lie_alone.false)
   | inr other ↦ c.loop-distance.invariant distance more (omega (arith, low, other))
 ]

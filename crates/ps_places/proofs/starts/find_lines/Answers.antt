@@ -1,6 +1,9 @@
-use Rattle.std.proofs.Common.{◌≡◌, ◌∙◌, [], ℕ, length, true, refl, rules, subst, arith}
+use Rattle.std.proofs.Common.{◌≡◌, ◌∙◌, ◌*◌, [], ℕ, length, refl, subst}
 use Rattle.std.proofs.lemmas.List.{get_or_default}
 use Rattle.ps_places.specs.FoundStarts.{AreLinesFound}
+use Rattle.ps_model.specs.declared.limits.TheConstants.{SIDE_LIMIT}
+use Rattle.ps_places.proofs.PartsRead.{read_whole}
+use Rattle.ps_places.proofs.SmallSteps.{at_least, less_left, reached}
 use Rattle.ps_places.proofs.FoundLines.{lines-init, lines-more, lines-none}
 use Rattle.ps_places.proofs.starts.find_lines.Goals as goal
 
@@ -16,10 +19,9 @@ loop-number-init g c =
 
 pub returns-then-is_empty-clause-lines : goal.returns-then-is_empty-clause-lines
 returns-then-is_empty-clause-lines g c =
-    let empty : c.is_empty.result ≡ true = search rules in
     lines-none (g.B.Board.grid c.args.board.now) (g.B.Board.table c.args.board.now) c.args.axis
     c.args.parts.now c.loop-number.starts c.loop-number.lines c.loop-number.number
-    c.recall_shape.ensures.shape (c.is_empty.ensures.none empty) c.loop-number.invariant.lines
+    c.recall_shape.ensures.shape (c.is_empty.ensures.none c.if-is_empty.true) c.loop-number.invariant.lines
 
 pub loop-number-preserved : goal.loop-number-preserved
 loop-number-preserved g c =
@@ -37,7 +39,53 @@ loop-number-preserved g c =
 pub returns-clause-lines : goal.returns-clause-lines
 returns-clause-lines g c =
     let all : c.loop-number.number ≡ length c.args.parts.now =
-    omega (arith, c.loop-number-test.false, c.loop-number.auto.number-end) in
+    reached c.loop-number.number (length c.args.parts.now) c.loop-number-test.false c.loop-number.auto.number-end in
     subst (λ (n : ℕ). AreLinesFound (g.B.Board.grid c.args.board.now)
     (g.B.Board.table c.args.board.now) c.args.axis c.args.parts.now c.loop-number.starts c.loop-number.lines n)
     all c.loop-number.invariant.lines
+
+pub returns-then-is_empty-clause-long : goal.returns-then-is_empty-clause-long
+returns-then-is_empty-clause-long g c = c.loop-number.invariant.long
+
+pub bounds-parts-number : goal.bounds-parts-number
+bounds-parts-number g c = c.loop-number-test.true
+
+pub find_rows-rows-requires-clause-whole : goal.find_rows-rows-requires-clause-whole
+find_rows-rows-requires-clause-whole g c =
+    read_whole c.args.parts.now c.args.parts.now c.index-parts-number.result c.as_slice-part.result.now
+    c.loop-number.number refl c.index-parts-number.is c.as_slice-part.ensures c.loop-number-test.true c.requires.whole
+
+pub find_rows-rows-requires-clause-room : goal.find_rows-rows-requires-clause-room
+find_rows-rows-requires-clause-room g c =
+    at_least SIDE_LIMIT (length c.loop-number.columns) (length c.args.columns.now) c.loop-number.auto.columns
+    c.requires.columns
+
+pub find_rows-rows-requires-clause-scanned : goal.find_rows-rows-requires-clause-scanned
+find_rows-rows-requires-clause-scanned g c =
+    at_least SIDE_LIMIT (length c.loop-number.scanned) (length c.args.scanned.now) c.loop-number.auto.scanned
+    c.requires.scanned
+
+pub take_part-lines-requires-clause-whole : goal.take_part-lines-requires-clause-whole
+take_part-lines-requires-clause-whole g c =
+    read_whole c.args.parts.now c.args.parts.now c.index-parts-number.result c.as_slice-part.result.now
+    c.loop-number.number refl c.index-parts-number.is c.as_slice-part.ensures c.loop-number-test.true c.requires.whole
+
+pub take_part-lines-requires-clause-begun : goal.take_part-lines-requires-clause-begun
+take_part-lines-requires-clause-begun g c = c.find_rows-rows.ensures.starts
+
+pub take_part-lines-requires-clause-one : goal.take_part-lines-requires-clause-one
+take_part-lines-requires-clause-one g c = c.loop-number-test.true
+
+pub take_part-lines-requires-clause-room : goal.take_part-lines-requires-clause-room
+take_part-lines-requires-clause-room g c =
+    at_least (SIDE_LIMIT * length c.args.parts.now) (length c.loop-number.starts) (length c.args.starts.now)
+    c.loop-number.invariant.long c.requires.room
+
+pub take_part-lines-requires-clause-inside : goal.take_part-lines-requires-clause-inside
+take_part-lines-requires-clause-inside g c = c.loop-number.invariant.lines.below
+
+pub loop-number-smaller : goal.loop-number-smaller
+loop-number-smaller g c = less_left (length c.args.parts.now) c.loop-number.number c.loop-number-test.true
+
+pub returns-clause-long : goal.returns-clause-long
+returns-clause-long g c = c.loop-number.invariant.long

@@ -1,8 +1,10 @@
-use Rattle.std.proofs.Common.{◌∙◌, ◌<◌, ◌≤◌, ◌+◌, ◌*◌, ℕ, length, refl, arith, rules}
+use Rattle.std.proofs.Common.{◌∙◌, ◌<◌, ◌+◌, ◌*◌, ℕ, length, refl, arith, rules}
 use Rattle.std.proofs.lemmas.List.{length-set}
-use Rattle.ps_model.specs.declared.limits.TheConstants.{SIDE_LIMIT}
 use Rattle.ps_places.proofs.FoundAcross.{taken-all, taken-init, taken-more}
-use Rattle.ps_places.proofs.LineSets.{line_room}
+use Rattle.ps_places.proofs.SmallSteps.{fits_word}
+use Rattle.ps_places.proofs.WayEnds.{falls}
+use Rattle.ps_board.specs.ColumnSets.{set_columns}
+use Rattle.ps_places.proofs.LineSets.{part_room}
 use Rattle.ps_places.proofs.starts.take_rows.Goals as goal
 
 pub loop-row-init : goal.loop-row-init
@@ -18,9 +20,9 @@ pub loop-row-preserved : goal.loop-row-preserved
 loop-row-preserved g c =
     let row : ℕ = c.in-Some.row in
     let count : ℕ = c.args.count in
-    let line : row * count + count ≤ SIDE_LIMIT * count = line_room count row SIDE_LIMIT c.in-Some.ensures.within in
     let room : row * count + c.args.number < length c.loop-row.starts =
-    omega (arith, line, c.requires.one, c.requires.room, c.loop-row.invariant.long) in
+    part_room c.args.count c.in-Some.row c.args.number (length c.args.starts.now) (length c.loop-row.starts)
+    c.in-Some.ensures.within c.requires.one c.requires.room c.loop-row.invariant.long in
     record {
       taken =
           taken-more c.args.begun.now.rows c.args.begun.now.columns.now c.args.lines count c.args.number
@@ -40,7 +42,37 @@ pub offset_bounds-starts-row : goal.offset_bounds-starts-row
 offset_bounds-starts-row g c =
     let row : ℕ = c.in-Some.row in
     let count : ℕ = c.args.count in
-    let line : row * count + count ≤ SIDE_LIMIT * count = line_room count row SIDE_LIMIT c.in-Some.ensures.within in
     let room : row * count + c.args.number < length c.loop-row.starts =
-    omega (arith, line, c.requires.one, c.requires.room, c.loop-row.invariant.long) in
+    part_room c.args.count c.in-Some.row c.args.number (length c.args.starts.now) (length c.loop-row.starts)
+    c.in-Some.ensures.within c.requires.one c.requires.room c.loop-row.invariant.long in
     search rules
+
+pub overflow_mul-row : goal.overflow_mul-row
+overflow_mul-row g c =
+    let room : c.in-Some.row * c.args.count + c.args.number < length c.loop-row.starts =
+    part_room c.args.count c.in-Some.row c.args.number (length c.args.starts.now) (length c.loop-row.starts)
+    c.in-Some.ensures.within c.requires.one c.requires.room c.loop-row.invariant.long in
+    omega arith
+
+pub overflow_add-row : goal.overflow_add-row
+overflow_add-row g c =
+    let room : c.in-Some.row * c.args.count + c.args.number < length c.loop-row.starts =
+    part_room c.args.count c.in-Some.row c.args.number (length c.args.starts.now) (length c.loop-row.starts)
+    c.in-Some.ensures.within c.requires.one c.requires.room c.loop-row.invariant.long in
+    omega arith
+
+pub overflow_cast-row : goal.overflow_cast-row
+overflow_cast-row g c = fits_word c.in-Some.row c.in-Some.ensures.within
+
+pub bounds-starts-row : goal.bounds-starts-row
+bounds-starts-row g c =
+    part_room c.args.count c.in-Some.row c.args.number (length c.args.starts.now) (length c.loop-row.starts)
+    c.in-Some.ensures.within c.requires.one c.requires.room c.loop-row.invariant.long
+
+pub loop-row-smaller : goal.loop-row-smaller
+loop-row-smaller g c =
+    falls (set_columns c.loop-row.left) c.in-Some.row (set_columns c.take_first.new.self)
+    (length (set_columns c.loop-row.left)) c.in-Some.ensures.some refl
+
+pub returns-clause-long : goal.returns-clause-long
+returns-clause-long g c = c.loop-row.invariant.long

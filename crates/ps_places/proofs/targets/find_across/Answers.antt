@@ -5,6 +5,9 @@ use Rattle.ps_program.specs.declared.rows.Axis.TheVariants.{Right}
 use Rattle.ps_board.specs.ColumnSets.{columns_below}
 use Rattle.ps_board.proofs.Taken.{below-init, below-more, passed-all, passed-changed, passed-init, taken_below}
 use Rattle.ps_places.specs.PartTargets.{IsRowOfTargets}
+use Rattle.ps_board.specs.ColumnSets.{set_columns}
+use Rattle.ps_places.proofs.SmallSteps.{at_least, fits_half}
+use Rattle.ps_places.proofs.WayEnds.{falls}
 use Rattle.ps_places.proofs.TargetRows.{across-init, across-targets, kept-none, row-here, row-other}
 use Rattle.ps_places.proofs.FoundRows.{kept_where}
 use Rattle.ps_places.proofs.targets.find_across.Goals as goal
@@ -82,3 +85,30 @@ returns-clause-targets g c =
           (c.in_default.ensures.none refl) c.loop-row.invariant.done low;
       kept = c.loop-row.invariant.kept;
     }
+
+pub keep_row-rows-requires-clause-room : goal.keep_row-rows-requires-clause-room
+keep_row-rows-requires-clause-room g c =
+    at_least SIDE_LIMIT (length c.loop-row.starts) (length c.args.starts.now) c.loop-row.invariant.long c.requires.room
+
+pub returns-clause-long : goal.returns-clause-long
+returns-clause-long g c = c.loop-row.invariant.long
+
+pub overflow_cast-size : goal.overflow_cast-size
+overflow_cast-size g c = fits_half (length c.args.first.now) c.requires.short
+
+pub below-requires : goal.below-requires
+below-requires g c = c.size-width.ensures.low
+
+pub paired-columns-requires : goal.paired-columns-requires
+paired-columns-requires g c = c.requires.short
+
+pub keep_row-rows-requires-clause-within : goal.keep_row-rows-requires-clause-within
+keep_row-rows-requires-clause-within g c = c.in-Some.ensures.within
+
+pub keep_row-rows-requires-clause-row : goal.keep_row-rows-requires-clause-row
+keep_row-rows-requires-clause-row g c = c.in-Some.ensures.room
+
+pub loop-row-smaller : goal.loop-row-smaller
+loop-row-smaller g c =
+    falls (set_columns c.loop-row.left) c.in-Some.row (set_columns c.take_first.new.self)
+    (length (set_columns c.loop-row.left)) c.in-Some.ensures.some refl

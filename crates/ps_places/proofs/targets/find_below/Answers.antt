@@ -1,6 +1,7 @@
 use Rattle.std.proofs.Common.{◌∙◌, ◌<◌, ◌≤◌, ℕ, Option, List, length, refl, arith}
 use Rattle.ps_model.specs.declared.limits.TheConstants.{SIDE_LIMIT}
 use Rattle.ps_model.specs.board.Grid.{Grid}
+use Rattle.ps_places.proofs.SmallSteps.{at_least, at_most, below_all, fits_half, less_left}
 use Rattle.ps_places.proofs.TargetRows.{above-init, above-more, below-init, below-more, below-targets, kept-none}
 use Rattle.ps_places.proofs.targets.find_below.Goals as goal
 
@@ -52,3 +53,33 @@ returns-clause-targets g c =
       each = λ row low. (c.loop-row.invariant.done).at row (omega arith) (omega (arith, low, last)) low;
       kept = c.loop-row.invariant.kept;
     }
+
+pub keep_row-rows-requires-clause-room : goal.keep_row-rows-requires-clause-room
+keep_row-rows-requires-clause-room g c =
+    at_least SIDE_LIMIT (length c.loop-row.starts) (length c.args.starts.now) c.loop-row.invariant.long c.requires.room
+
+pub returns-clause-long : goal.returns-clause-long
+returns-clause-long g c = c.loop-row.invariant.long
+
+pub overflow_cast-size : goal.overflow_cast-size
+overflow_cast-size g c = fits_half (length c.args.first.now) c.requires.short
+
+pub columns_begun-requires-clause-part : goal.columns_begun-requires-clause-part
+columns_begun-requires-clause-part g c = c.requires.first
+
+pub columns_begun-requires-clause-starts : goal.columns_begun-requires-clause-starts
+columns_begun-requires-clause-starts g c = c.requires.fronts
+
+pub keep_row-rows-requires-clause-within : goal.keep_row-rows-requires-clause-within
+keep_row-rows-requires-clause-within g c =
+    below_all c.loop-row.row c.size-width.result.1 SIDE_LIMIT c.loop-row-test.true
+    (at_most c.size-width.result.1 (g.B.Board.grid c.args.board.now).height SIDE_LIMIT c.size-width.ensures.height
+    c.size-width.ensures.shape.rows)
+
+pub keep_row-rows-requires-clause-row : goal.keep_row-rows-requires-clause-row
+keep_row-rows-requires-clause-row g c =
+    below_all c.loop-row.row c.size-width.result.1 g.B.Words.ColumnWords.limit c.loop-row-test.true
+    c.size-width.ensures.low
+
+pub loop-row-smaller : goal.loop-row-smaller
+loop-row-smaller g c = less_left c.size-width.result.1 c.loop-row.row c.loop-row-test.true

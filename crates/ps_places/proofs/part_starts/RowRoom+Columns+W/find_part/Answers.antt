@@ -1,3 +1,7 @@
+use Rattle.std.proofs.Common.{◌∙◌, Bool, List, length, subst, sym}
+use Rattle.std.proofs.lemmas.List.{with_items_is}
+use Rattle.ps_places.specs.PartStarts.{AreStarts}
+use Rattle.ps_places.proofs.SmallSteps.{has_room, has_rooms}
 use Rattle.ps_places.proofs.StartNumbers.{no_places, place_somewhere}
 use Rattle.ps_places.proofs.part_starts.RowRoom+Columns+W.find_part.Goals as goal
 
@@ -12,3 +16,32 @@ returns-clause-some g c =
     place_somewhere (g.B.Board.grid c.args.board.now) (g.B.Board.table c.args.board.now) c.args.axis c.args.part.now
     c.find_rows.result c.find_rows.new.starts
     c.recall_shape.ensures.shape c.requires c.find_rows.ensures.starts
+
+pub find_rows-requires-clause-whole : goal.find_rows-requires-clause-whole
+find_rows-requires-clause-whole g c = c.requires
+
+pub find_rows-requires-clause-room : goal.find_rows-requires-clause-room
+find_rows-requires-clause-room g c =
+    has_rooms (length c.as_mut_slice.result.now) (c.as_mut_slice.ensures.len ∙ c.args.self.now.long)
+
+pub find_rows-requires-clause-scanned : goal.find_rows-requires-clause-scanned
+find_rows-requires-clause-scanned g c =
+    has_room (length c.as_mut_slice-2.result.now) (c.as_mut_slice-2.ensures.len ∙ c.args.self.now.scanned_long)
+
+pub invariant_of-self : goal.invariant_of-self
+invariant_of-self g c =
+    let self = c.args.self.now in
+    record {
+      long = self.long;
+      fronts_long = self.fronts_long;
+      backs_long = self.backs_long;
+      scanned_long = self.scanned_long;
+    }
+
+pub returns-clause-starts : goal.returns-clause-starts
+returns-clause-starts g c =
+    subst (λ (sets : List (List Bool)). AreStarts (g.B.Board.grid c.args.board.now)
+    (g.B.Board.table c.args.board.now) c.args.axis c.args.part.now c.find_rows.result sets)
+    (sym (with_items_is c.args.self.now.starts c.find_rows.new.starts
+    (c.find_rows.ensures.long ∙ c.as_mut_slice.ensures.len)))
+    c.find_rows.ensures.starts
