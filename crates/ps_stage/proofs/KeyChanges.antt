@@ -6,10 +6,12 @@ use Rattle.ps_model.specs.board.Grid.{Grid}
 use Rattle.ps_model.specs.board.Programs.{Section}
 use Rattle.ps_model.specs.board.Turns.{Script, Outcome, Finished, turn}
 use Rattle.ps_model.specs.session.Sessions.{Play, Step, after, with_turn}
-use Rattle.ps_model.specs.session.KeySteps.{all_key_turns, input_taken, with_board_in_history_if, turn_taken}
+use Rattle.ps_model.specs.session.KeySteps.{all_key_turns, input_taken, key_turns, turn_taken}
+use Rattle.ps_model.specs.session.KeySteps.{with_board_in_history_if}
 use Rattle.ps_turn.specs.States.{done_shown}
 use Rattle.ps_turn.specs.declared.outcomes.DoneTurn.{DoneTurn}
-use Rattle.ps_stage.specs.KeysShown.{key_shown}
+use Rattle.ps_stage.specs.KeysShown.{key_end_step, key_shown}
+use Rattle.ps_stage.specs.declared.locations.KeyEnd.{KeyEnd}
 use Rattle.ps_stage.specs.Locations.{history_behind, history_change_if}
 use Rattle.ps_stage.specs.Standings.{StageValue, Standing, play_of, script_for, with_done}
 use Rattle.ps_stage.specs.StepsShown.{IsStopped}
@@ -36,31 +38,33 @@ done_taken script level next history done e =
     next_play level history done next.board done.changed ∙ sym (ap (play_of behind) e) in
     ap (λ (p : Play). key_shown script p (done_shown done next.board) AGAIN_LIMIT (all_key_turns script)) same
 
--- a turn with an input that is done, seen from a stage whose parts are lent
-pub tried_done :
-    (table_for : List ℕ → Option (List ℕ)) (own lent : StageValue) (plain late those others : Option (List ℕ) →
-    List Section) (level next : Standing) (history : List Grid) (done : DoneTurn) (input : Input) → lent ≡ own →
-    turn (script_for table_for lent.game plain late) (Some input) level.board ≡ Finished (done_shown done next.board) →
-    next ≡ with_done level done next.board → those ≡ plain → others ≡ late →
-    after own.text (input_taken (script_for table_for own.game plain late) (play_of history level) input)
-    ≡ after lent.text (key_shown (script_for table_for lent.game those others)
-    (play_of (history_behind (history_change_if done.changed) history level.board) next)
-    (done_shown done next.board) AGAIN_LIMIT
-    (all_key_turns (script_for table_for lent.game those others)))
-tried_done table_for own lent plain late those others level next history done input view turned is p l =
-    let here : Script = script_for table_for own.game plain late in
-    let behind : Play = play_of (history_behind (history_change_if done.changed) history level.board) next in
-    let own_turn : turn here (Some input) level.board ≡ Finished (done_shown done next.board) =
-    sym (ap (λ (stage : StageValue). turn (script_for table_for stage.game plain late) (Some input) level.board) view)
-    ∙ turned in
-    ap (λ (outcome : Outcome). after own.text (turn_taken here (play_of history level) outcome)) own_turn
-    ∙ ap (after own.text) (done_taken here level next history done is)
-    ∙ ap (λ (s : Script). after own.text (key_shown s behind (done_shown done next.board) AGAIN_LIMIT
-    (all_key_turns s)))
-    (sym (same_script table_for own.game own.game plain late those others refl p l))
-    ∙ ap (λ (stage : StageValue). after stage.text
-    (key_shown (script_for table_for stage.game those others) behind (done_shown done next.board) AGAIN_LIMIT
-    (all_key_turns (script_for table_for stage.game those others)))) (sym view)
+-- a turn with an input by its outcome, seen from the stage and the level that it came to
+pub taken_of : (table_for : List ℕ → Option (List ℕ)) (stage then : StageValue)
+    (plain late those others : Option (List ℕ) → List Section) (level next : Standing) (history : List Grid)
+    (input : Input) (outcome : Outcome) → then ≡ stage → those ≡ plain → others ≡ late → next ≡ level →
+    outcome ≡ turn (script_for table_for stage.game plain late) (Some input) level.board →
+    after stage.text (input_taken (script_for table_for stage.game plain late) (play_of history level) input)
+    ≡ after then.text (turn_taken (script_for table_for then.game those others) (play_of history next) outcome)
+taken_of table_for stage then plain late those others level next history input outcome same p l stays ran =
+    rw (same, p, l, stays, ran) refl
+
+-- the again turns of a key that are left, seen from the stage and the level that they came to
+pub key_gone_on : (table_for : List ℕ → Option (List ℕ)) (stage lent then : StageValue)
+    (plain late those others : Option (List ℕ) → List Section) (level copy next : Standing) (history : List Grid)
+    (left : ℕ) (end : KeyEnd) → lent ≡ stage → copy ≡ level → then.game ≡ lent.game → those ≡ plain → others ≡ late →
+    after lent.text (key_turns (script_for table_for lent.game plain late) left (play_of history copy))
+    ≡ key_end_step (script_for table_for lent.game plain late) end (play_of history next) then.text →
+    after stage.text (key_turns (script_for table_for stage.game plain late) left (play_of history level))
+    ≡ key_end_step (script_for table_for then.game those others) end (play_of history next) then.text
+key_gone_on table_for stage lent then plain late those others level copy next history left end same copied game p l
+    comes =
+    ap (λ (standing : Standing). after stage.text
+    (key_turns (script_for table_for stage.game plain late) left (play_of history standing))) (sym copied)
+    ∙ ap (λ (s : StageValue). after s.text
+    (key_turns (script_for table_for s.game plain late) left (play_of history copy))) (sym same)
+    ∙ comes
+    ∙ ap (λ (script : Script). key_end_step script end (play_of history next) then.text)
+    (sym (same_script table_for lent.game then.game plain late those others game p l))
 
 -- a step that stopped by a script, and the same step by the same script
 pub stopped_as : (first second : Script) (stop : Stop) (x y : Step) (text : List ℕ) → second ≡ first → x ≡ y →

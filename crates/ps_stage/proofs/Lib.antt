@@ -1,7 +1,10 @@
 mod AgainTurns
+mod Entered
 pub mod EntriesFound
 mod KeyChanges
+mod KeyTurns
 mod OwnRooms
 mod PartLoaded
+mod Results
 pub mod Scripts
 mod ShownLevels

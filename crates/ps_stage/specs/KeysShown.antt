@@ -1,13 +1,16 @@
 -- What turns of a key tell, as steps and outcomes of the definitions.
-use Rattle.std.specs.Prelude.{ℕ, List, ◌≡◌, ⊤}
+use Rattle.std.specs.Prelude.{ℕ, List, ◌≡◌, ⊤, true, false}
 use Rattle.ps_model.specs.board.Turns as model
 use Rattle.ps_model.specs.board.Turns.{Script}
-use Rattle.ps_model.specs.session.Sessions.{Play, Step, after, seen, shown}
+use Rattle.ps_model.specs.session.Sessions.{Play, Step, Playing, after, quietly, seen, shown}
 use Rattle.ps_model.specs.session.StartSteps.{level_done, restarted}
 use Rattle.ps_model.specs.session.KeySteps.{key_told}
 use Rattle.ps_turn.specs.States.{done_shown}
+use Rattle.ps_turn.specs.declared.outcomes.Turned.{Turned}
+use Rattle.ps_turn.specs.declared.outcomes.Turned.TheVariants as outcomes
+use Rattle.ps_stage.specs.declared.levels.Counting.TheVariants.{IfChangedOrWon}
 use Rattle.ps_stage.specs.Standings.{Standing, with_done}
-use Rattle.ps_stage.specs.StepsShown.{came, stands}
+use Rattle.ps_stage.specs.StepsShown.{came, counts, stands}
 use Rattle.ps_stage.specs.declared.locations.KeyEnd.{KeyEnd}
 use Rattle.ps_stage.specs.declared.locations.KeyEnd.TheVariants.{Stops, Won, Restarts}
 use Rattle.ps_stage.specs.declared.locations.KeyTold.{KeyTold}
@@ -19,6 +22,15 @@ use Rattle.ps_stage.specs.declared.levels.Tried.TheVariants.{Blocked, Restarted,
 abbrev pub key_shown : Script → Play → model.Done → ℕ → (Play → Step) → Step
 key_shown script play done left again_turns =
     let next : Play = seen script play in after (shown script next) (key_told script next done left again_turns)
+
+-- an again turn of a key, of which this level came: one that doesn't count is as if not run
+abbrev pub key_outcome_shown : Script → Play → Turned → ℕ → (Play → Step) → Step
+key_outcome_shown script play (outcomes.Blocked message) left again_turns = quietly (Playing play)
+key_outcome_shown script play (outcomes.Restarted message) left again_turns = restarted script play message
+key_outcome_shown script play (outcomes.Done done) left again_turns = elim (counts IfChangedOrWon done) [
+  | true ↦ key_shown script play (done_shown done play.board) left again_turns
+  | false ↦ quietly (Playing play)
+]
 
 -- how the turns of a key end: the level stands, is done, or restarts
 abbrev pub key_end_step : Script → KeyEnd → Play → List ℕ → Step

@@ -30,6 +30,12 @@ taken counting (Blocked message) level g = level
 taken counting (Restarted message) level g = level
 taken counting (Done done) level g = elim (counts counting done) [ true ↦ with_done level done g | false ↦ level ]
 
+-- the board behind that turn
+abbrev pub board_taken : Counting → Turned → Grid → Grid → Grid
+board_taken counting (Blocked message) board g = board
+board_taken counting (Restarted message) board g = board
+board_taken counting (Done done) board g = elim (counts counting done) [ true ↦ g | false ↦ board ]
+
 -- a session that was come to, and the text on the way
 abbrev pub came : model.Session → List ℕ → Step
 came session text = record { session = session; text = text }
@@ -59,6 +65,24 @@ start_shown script play done left again_turns = elim done.changed [
   | true ↦ let next : Play = seen script play in
       after (shown script next) (start_told next done.message done.again left again_turns)
 ]
+
+-- the start behind an again turn, of which this level came: one that isn't done is as if not run
+abbrev pub start_outcome_shown : Script → Play → Turned → ℕ → (Play → Step) → Step
+start_outcome_shown script play (Blocked message) left again_turns = quietly (model.Playing play)
+start_outcome_shown script play (Restarted message) left again_turns = quietly (model.Playing play)
+start_outcome_shown script play (Done done) left again_turns = start_shown script play done left again_turns
+
+-- the message of a turn
+abbrev pub message_of : Turned → Option (List ℕ)
+message_of (Blocked message) = message
+message_of (Restarted message) = message
+message_of (Done done) = done.message
+
+-- the turn is done, and to come again
+abbrev pub is_again : Turned → Bool
+is_again (Blocked message) = false
+is_again (Restarted message) = false
+is_again (Done done) = done.again
 
 -- a step that stopped with a text: where memory was wanting nothing is said; else what is left of it is that an entry
 -- begins

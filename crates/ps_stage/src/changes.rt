@@ -1,13 +1,15 @@
 //! What comes of a key in a level: a turn with an input, and going on behind a message.
 
-ghost use Rattle.std.specs.Prelude.{◌≡◌, IfErr, IfOk, List};
+ghost use Rattle.std.specs.Prelude.{◌≡◌, IfErr, IfOk, List, Some};
 ghost use Rattle.ps_model.specs.board.Grid.{Grid};
 ghost use Rattle.ps_model.specs.declared.limits.TheConstants.{AGAIN_LIMIT};
 ghost use Rattle.ps_model.specs.session.Rooms.{frame_in};
 ghost use Rattle.ps_model.specs.session.Sessions.{Play, after};
-ghost use Rattle.ps_model.specs.session.KeySteps.{blocked, all_key_turns, gone_on, input_taken};
+ghost use Rattle.ps_model.specs.board.Turns.{turn};
+ghost use Rattle.ps_model.specs.session.KeySteps.{blocked, all_key_turns, gone_on, input_taken, key_turns, turn_taken};
+ghost use Rattle.ps_model.specs.session.StartSteps.{level_done, start_turns};
 ghost use Rattle.ps_turn.specs.States.{done_shown};
-ghost use Rattle.ps_stage.specs.KeysShown.{key_end_step, key_shown};
+ghost use Rattle.ps_stage.specs.KeysShown.{IsNext, key_end_step, key_shown, tried_outcome};
 ghost use Rattle.ps_stage.specs.Locations.{change_shown, history_behind, history_change_if, GoesOnTable};
 ghost use Rattle.ps_stage.specs.Standings.{Standing, script_for, play_of};
 ghost use Rattle.ps_stage.specs.StepsShown.{IsStopped, came, stands, pending_shown};
@@ -56,6 +58,31 @@ impl<'g, B: Board> Stage<'g, B> {
         Ok(Some(Pending::Nothing))
     }
 
+    /// A level is done: the next entry begins, and the history is empty.
+    fn end_level<R: Rules<B>>(
+        &mut self,
+        rules: &mut TurnRules<B, R>,
+        level: &PlayedLevel<B>,
+    ) -> Result<Change<PlayedLevel<B>>, Stop>
+        ensures game { self.new.game ≡ self.old.game }
+        ensures plain { R.meant rules.new.plain ≡ R.meant rules.old.plain }
+        ensures late { R.meant rules.new.late ≡ R.meant rules.old.late }
+        ensures table { IfOk result (λ change. GoesOnTable (B.table_for self.old.game.names.layers) change) }
+        ensures came { IfOk result (λ change. (history before : List Grid) (first : Standing) → after self.old.text
+            (level_done (script_for B.table_for self.old.game (R.meant rules.old.plain) (R.meant rules.old.late))
+            (play_of history level.now))
+            ≡ came (change_shown before first change) self.new.text) }
+        ensures stopped { IfErr result (λ stop. (history : List Grid)
+            → IsStopped (script_for B.table_for self.old.game (R.meant rules.old.plain) (R.meant rules.old.late)) stop
+            (after self.old.text
+            (level_done (script_for B.table_for self.old.game (R.meant rules.old.plain) (R.meant rules.old.late))
+            (play_of history level.now)))
+            self.new.text) }
+    {
+        let location = self.level_done(rules, level)?;
+        Ok(Change::Goes(location, HistoryChange::Clears))
+    }
+
     /// Goes where the turns of a key have ended, with the history as it is then.
     fn finish_key<R: Rules<B>>(
         &mut self,
@@ -81,12 +108,9 @@ impl<'g, B: Board> Stage<'g, B> {
         match end {
             KeyEnd::Stops(pending) => Ok(Change::Goes(located(level, pending), history_change)),
             KeyEnd::Won => {
-                let location = self.level_done(rules, &level);
+                let change = self.end_level(rules, &level);
                 self.keep_level(level);
-                match location {
-                    Ok(location) => Ok(Change::Goes(location, HistoryChange::Clears)),
-                    Err(stop) => Err(stop),
-                }
+                change
             }
             KeyEnd::Restarts(message) => {
                 let location = self.restart(rules, &level, message);
@@ -120,10 +144,7 @@ impl<'g, B: Board> Stage<'g, B> {
         let most = again_limit();
         match self.tell_key_turn(level, done, most)? {
             KeyTold::Ends(end) => Ok(end),
-            KeyTold::GoesOn => {
-                let end = self.all_key_turns(rules, level)?;
-                Ok(end)
-            }
+            KeyTold::GoesOn => self.all_key_turns(rules, level),
         }
     }
 
@@ -158,13 +179,72 @@ impl<'g, B: Board> Stage<'g, B> {
     {
         let history_change = history_change_if(done.changed);
         match self.end_key(rules, &mut level, done) {
-            Ok(end) => {
-                let change = self.finish_key(rules, level, end, history_change)?;
-                Ok(change)
-            }
+            Ok(end) => self.finish_key(rules, level, end, history_change),
             Err(Memory) => {
                 self.keep_level(level);
                 Err(Stop::Memory)
+            }
+        }
+    }
+
+    /// Tries a turn of a level with an input. The level stays as it is.
+    fn try_turn<R: Rules<B>>(
+        &mut self,
+        rules: &mut TurnRules<B, R>,
+        level: &mut PlayedLevel<B>,
+        input: Input,
+    ) -> Result<Tried<PlayedLevel<B>>, Memory>
+        requires { level.old.table ≡ B.table_for self.old.game.names.layers }
+        ensures stage { self.new ≡ self.old }
+        ensures level { level.new ≡ level.old }
+        ensures plain { R.meant rules.new.plain ≡ R.meant rules.old.plain }
+        ensures late { R.meant rules.new.late ≡ R.meant rules.old.late }
+        ensures outcome { IfOk result (λ tried. tried_outcome tried
+            ≡ turn (script_for B.table_for self.old.game (R.meant rules.old.plain) (R.meant rules.old.late))
+            (Some input) level.old.board) }
+        ensures next { IfOk result (λ tried. IsNext level.old tried) }
+    {
+        level.try_turn(self.alloc, &mut self.spares, &self.game, rules, input)
+    }
+
+    /// What follows a turn that was tried on a level.
+    fn follow_tried<R: Rules<B>>(
+        &mut self,
+        rules: &mut TurnRules<B, R>,
+        level: &PlayedLevel<B>,
+        tried: Tried<PlayedLevel<B>>,
+    ) -> Result<Change<PlayedLevel<B>>, Stop>
+        requires table { level.now.table ≡ B.table_for self.old.game.names.layers }
+        requires next { IsNext level.now tried }
+        ensures game { self.new.game ≡ self.old.game }
+        ensures plain { R.meant rules.new.plain ≡ R.meant rules.old.plain }
+        ensures late { R.meant rules.new.late ≡ R.meant rules.old.late }
+        ensures table { IfOk result (λ change. GoesOnTable (B.table_for self.old.game.names.layers) change) }
+        ensures came { IfOk result (λ change. (history : List Grid) → after self.old.text
+            (turn_taken (script_for B.table_for self.old.game (R.meant rules.old.plain) (R.meant rules.old.late))
+            (play_of history level.now) (tried_outcome tried))
+            ≡ came (change_shown history level.now change) self.new.text) }
+        ensures stopped { IfErr result (λ stop. (history : List Grid)
+            → IsStopped (script_for B.table_for self.old.game (R.meant rules.old.plain) (R.meant rules.old.late)) stop
+            (after self.old.text
+            (turn_taken (script_for B.table_for self.old.game (R.meant rules.old.plain) (R.meant rules.old.late))
+            (play_of history level.now) (tried_outcome tried)))
+            self.new.text) }
+    {
+        match tried {
+            Tried::Blocked(message) => {
+                let pending = self.tell_blocked(level, &message);
+                drop(message);
+                Ok(Change::Stays(pending?))
+            }
+            Tried::Restarted(message) => {
+                let location = self.restart(rules, level, message)?;
+                Ok(Change::Goes(location, HistoryChange::Adds))
+            }
+            Tried::Done(next, done) => {
+                let change = self.follow_key(rules, next, &done);
+                drop(done);
+                change
             }
         }
     }
@@ -199,22 +279,72 @@ impl<'g, B: Board> Stage<'g, B> {
             (play_of history level.old) input))
             self.new.text) }
     {
-        match level.try_turn(self.alloc, &mut self.spares, &self.game, rules, input)? {
-            Tried::Blocked(message) => {
-                let pending = self.tell_blocked(level, &message)?;
-                Ok(Change::Stays(pending))
-            }
-            Tried::Restarted(message) => {
-                let location = self.restart(rules, level, message)?;
-                Ok(Change::Goes(location, HistoryChange::Adds))
-            }
-            Tried::Done(next, done) => {
-                match self.follow_key(rules, next, &done) {
-                    Ok(change) => Ok(change),
-                    Err(stop) => Err(stop),
-                }
-            }
-        }
+        let tried = self.try_turn(rules, level, input)?;
+        self.follow_tried(rules, level, tried)
+    }
+
+    /// The same level once more.
+    fn copied(&mut self, level: &PlayedLevel<B>) -> Result<PlayedLevel<B>, Memory>
+        ensures stage { self.new ≡ self.old }
+        ensures copy { IfOk result (λ copy. copy ≡ level.now) }
+    {
+        level.try_copy(self.alloc, &mut self.spares)
+    }
+
+    /// The again turns of a key that are left come behind a message.
+    fn go_on_with_key<R: Rules<B>>(
+        &mut self,
+        rules: &mut TurnRules<B, R>,
+        level: &PlayedLevel<B>,
+        left: u32,
+    ) -> Result<Change<PlayedLevel<B>>, Stop>
+        requires { level.now.table ≡ B.table_for self.old.game.names.layers }
+        ensures game { self.new.game ≡ self.old.game }
+        ensures plain { R.meant rules.new.plain ≡ R.meant rules.old.plain }
+        ensures late { R.meant rules.new.late ≡ R.meant rules.old.late }
+        ensures table { IfOk result (λ change. GoesOnTable (B.table_for self.old.game.names.layers) change) }
+        ensures came { IfOk result (λ change. (history : List Grid) (first : Standing) → after self.old.text
+            (key_turns (script_for B.table_for self.old.game (R.meant rules.old.plain) (R.meant rules.old.late)) left
+            (play_of history level.now))
+            ≡ came (change_shown history first change) self.new.text) }
+        ensures stopped { IfErr result (λ stop. (history : List Grid)
+            → IsStopped (script_for B.table_for self.old.game (R.meant rules.old.plain) (R.meant rules.old.late)) stop
+            (after self.old.text
+            (key_turns (script_for B.table_for self.old.game (R.meant rules.old.plain) (R.meant rules.old.late)) left
+            (play_of history level.now)))
+            self.new.text) }
+    {
+        let mut next = self.copied(level)?;
+        let end = self.key_turns(rules, &mut next, left)?;
+        self.finish_key(rules, next, end, HistoryChange::Keeps)
+    }
+
+    /// The again turns of a start that are left come behind a message.
+    fn go_on_with_start<R: Rules<B>>(
+        &mut self,
+        rules: &mut TurnRules<B, R>,
+        level: &PlayedLevel<B>,
+        left: u32,
+    ) -> Result<Change<PlayedLevel<B>>, Stop>
+        requires { level.now.table ≡ B.table_for self.old.game.names.layers }
+        ensures game { self.new.game ≡ self.old.game }
+        ensures plain { R.meant rules.new.plain ≡ R.meant rules.old.plain }
+        ensures late { R.meant rules.new.late ≡ R.meant rules.old.late }
+        ensures table { IfOk result (λ change. GoesOnTable (B.table_for self.old.game.names.layers) change) }
+        ensures came { IfOk result (λ change. (history : List Grid) (first : Standing) → after self.old.text
+            (start_turns (script_for B.table_for self.old.game (R.meant rules.old.plain) (R.meant rules.old.late)) left
+            (play_of history level.now))
+            ≡ came (change_shown history first change) self.new.text) }
+        ensures stopped { IfErr result (λ stop. (history : List Grid)
+            → IsStopped (script_for B.table_for self.old.game (R.meant rules.old.plain) (R.meant rules.old.late)) stop
+            (after self.old.text
+            (start_turns (script_for B.table_for self.old.game (R.meant rules.old.plain) (R.meant rules.old.late)) left
+            (play_of history level.now)))
+            self.new.text) }
+    {
+        let mut next = self.copied(level)?;
+        let pending = self.start_turns(rules, &mut next, left)?;
+        Ok(Change::Goes(located(next, pending), HistoryChange::Keeps))
     }
 
     /// Goes on behind a message of a level that was dismissed. The level stays as it is. Where nothing is to come, no
@@ -248,25 +378,9 @@ impl<'g, B: Board> Stage<'g, B> {
     {
         match pending {
             Pending::Nothing => Ok(Change::Stays(None)),
-            Pending::LevelDone => {
-                match self.level_done(rules, level) {
-                    Ok(location) => Ok(Change::Goes(location, HistoryChange::Clears)),
-                    Err(stop) => Err(stop),
-                }
-            }
-            Pending::KeyAgain(left) => {
-                let mut next = level.try_copy(self.alloc, &mut self.spares)?;
-                let end = self.key_turns(rules, &mut next, left)?;
-                match self.finish_key(rules, next, end, HistoryChange::Keeps) {
-                    Ok(change) => Ok(change),
-                    Err(stop) => Err(stop),
-                }
-            }
-            Pending::StartAgain(left) => {
-                let mut next = level.try_copy(self.alloc, &mut self.spares)?;
-                let pending = self.start_turns(rules, &mut next, left)?;
-                Ok(Change::Goes(located(next, pending), HistoryChange::Keeps))
-            }
+            Pending::LevelDone => self.end_level(rules, level),
+            Pending::KeyAgain(left) => self.go_on_with_key(rules, level, left),
+            Pending::StartAgain(left) => self.go_on_with_start(rules, level, left),
         }
     }
 }

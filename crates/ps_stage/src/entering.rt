@@ -138,8 +138,7 @@ impl<'g, B: Board> Stage<'g, B> {
             }
             Entry::Level(level) => {
                 let count = level_number(entries, &number);
-                let location = self.enter_level(rules, count, number, level)?;
-                Ok(location)
+                self.enter_level(rules, count, number, level)
             }
         }
     }
@@ -201,8 +200,7 @@ impl<'g, B: Board> Stage<'g, B> {
         let entry = level.entry();
         let number = level_number(self.entries(), &entry);
         self.text.add_level_done(self.alloc, number)?;
-        let location = self.enter(rules, entry.next())?;
-        Ok(location)
+        self.enter(rules, entry.next())
     }
 
     /// A level restarts: it begins at the board that a restart goes back to, with a message from before or without one.
@@ -227,7 +225,13 @@ impl<'g, B: Board> Stage<'g, B> {
             (play_of history level.now) message)
             ≡ came (location_shown history location) self.new.text) }
     {
-        let mut again = level.restarted(self.alloc, &mut self.spares)?;
+        let mut again = match level.restarted(self.alloc, &mut self.spares) {
+            Ok(again) => again,
+            Err(Memory) => {
+                drop(message);
+                return Err(Memory);
+            }
+        };
         match self.start_step(rules, &mut again, message) {
             Ok(pending) => Ok(located(again, pending)),
             Err(Memory) => {

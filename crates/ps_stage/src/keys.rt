@@ -7,7 +7,7 @@ ghost use Rattle.ps_model.specs.board.Turns.{Script};
 ghost use Rattle.ps_model.specs.session.Sessions.{Play, Step, after};
 ghost use Rattle.ps_model.specs.session.KeySteps.{key_pending, key_told, key_turns, all_key_turns};
 ghost use Rattle.ps_turn.specs.States.{done_shown};
-ghost use Rattle.ps_stage.specs.KeysShown.{key_end_step, key_shown, key_told_step};
+ghost use Rattle.ps_stage.specs.KeysShown.{key_end_step, key_outcome_shown, key_shown, key_told_step};
 ghost use Rattle.ps_stage.specs.Standings.{script_for, script_of, play_of};
 ghost use Rattle.ps_stage.specs.StepsShown.{pending_shown};
 
@@ -70,8 +70,40 @@ impl<'g, B: Board> Stage<'g, B> {
             turns) }
     {
         self.show_level(level)?;
-        let told = self.tell_key(done, left)?;
-        Ok(told)
+        self.tell_key(done, left)
+    }
+
+    /// Tells of an again turn of a key, of which this level came, if it counts.
+    fn tell_key_outcome(
+        &mut self,
+        level: &mut PlayedLevel<B>,
+        turned: Turned,
+        left: u32,
+    ) -> Result<KeyTold, Memory>
+        ensures game { self.new.game ≡ self.old.game }
+        ensures table { level.new.table ≡ level.old.table }
+        ensures told { IfOk result (λ told. (history : List Grid) (plain late : List Section) (turns : Play → Step)
+            → after self.old.text
+            (key_outcome_shown (script_of self.old.game plain late) (play_of history level.old) turned left turns)
+            ≡ key_told_step (script_of self.old.game plain late) told (play_of history level.new) self.new.text
+            turns) }
+    {
+        match turned {
+            Turned::Blocked(message) => {
+                drop(message);
+                Ok(KeyTold::Ends(KeyEnd::Stops(None)))
+            }
+            Turned::Restarted(message) => Ok(KeyTold::Ends(KeyEnd::Restarts(message))),
+            Turned::Done(done) => {
+                if !Counting::IfChangedOrWon.counts(&done) {
+                    drop(done);
+                    return Ok(KeyTold::Ends(KeyEnd::Stops(None)));
+                }
+                let told = self.tell_key_turn(level, &done, left);
+                drop(done);
+                told
+            }
+        }
     }
 
     /// One again turn of a key: one that is blocked, or neither changed the board nor won, is as if not run, and ends
@@ -95,24 +127,8 @@ impl<'g, B: Board> Stage<'g, B> {
             (key_turns (script_for B.table_for self.old.game (R.meant rules.old.plain) (R.meant rules.old.late))
             left)) }
     {
-        let turned = level.take_turn(
-            self.alloc,
-            &mut self.spares,
-            &self.game,
-            rules,
-            None,
-            Counting::IfChangedOrWon,
-        )?;
-        match turned {
-            Turned::Blocked(_) => Ok(KeyTold::Ends(KeyEnd::Stops(None))),
-            Turned::Restarted(message) => Ok(KeyTold::Ends(KeyEnd::Restarts(message))),
-            Turned::Done(done) => {
-                if !Counting::IfChangedOrWon.counts(&done) {
-                    return Ok(KeyTold::Ends(KeyEnd::Stops(None)));
-                }
-                self.tell_key_turn(level, &done, left)
-            }
-        }
+        let turned = self.take_turn(rules, level, Counting::IfChangedOrWon)?;
+        self.tell_key_outcome(level, turned, left)
     }
 
     /// The again turns of a key, so many at most.
@@ -162,7 +178,6 @@ impl<'g, B: Board> Stage<'g, B> {
             (play_of history level.new) self.new.text) }
     {
         let most = again_limit();
-        let end = self.key_turns(rules, level, most)?;
-        Ok(end)
+        self.key_turns(rules, level, most)
     }
 }

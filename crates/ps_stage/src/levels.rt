@@ -1,6 +1,6 @@
 //! A level that is played.
 
-ghost use Rattle.std.specs.Prelude.{◌≡◌, IfOk, IfSome, OnErr, Some, false, if◌then◌else◌};
+ghost use Rattle.std.specs.Prelude.{◌≡◌, IfOk, IfSome, OnErr, OnOk, Some, false, if◌then◌else◌};
 ghost use Rattle.ps_model.specs.board.Grid.{Grid};
 ghost use Rattle.ps_model.specs.board.Levels.{loaded};
 ghost use Rattle.ps_model.specs.board.Turns.{turn};
@@ -9,7 +9,7 @@ ghost use Rattle.ps_turn.specs.States.{HaveSameSides, outcome_shown, is_done};
 ghost use Rattle.ps_stage.specs.KeysShown.{IsNext, tried_outcome};
 ghost use Rattle.ps_stage.specs.Playable.{IsPlayable, LevelFits};
 ghost use Rattle.ps_stage.specs.Standings.{script_for, seen_level, with_done};
-ghost use Rattle.ps_stage.specs.StepsShown.{counts, taken};
+ghost use Rattle.ps_stage.specs.StepsShown.{board_taken, counts, taken};
 
 use crate::entries::EntryNumber;
 use crate::game::SessionGame;
@@ -131,6 +131,48 @@ fn run_turn<B: Board, R: Rules<B>>(
     Ok(turned)
 }
 
+/// A turn of a game on a board, and on a second one that is equal to it before and behind the turn. The board has what
+/// a turn that is done and counts came to; else it is as before.
+///
+/// # Errors
+///
+/// `Memory`, and the board is as before.
+fn counted_turn<B: Board, R: Rules<B>>(
+    game: &SessionGame<'_>,
+    rules: &mut TurnRules<B, R>,
+    input: Option<Input>,
+    counting: Counting,
+    board: &mut Box<B>,
+    spare: &mut Box<B>,
+) -> Result<Turned, Memory>
+    requires equal { B.grid spare.old.value ≡ B.grid board.old.value }
+    requires table { B.table spare.old.value ≡ B.table board.old.value }
+    requires own { B.table board.old.value ≡ B.table_for game.now.names.layers }
+    ensures turned { IfOk result (λ turned. (g : Grid)
+        × (outcome_shown turned g
+        ≡ turn (script_for B.table_for game.now (R.meant rules.old.plain) (R.meant rules.old.late)) input
+        (B.grid board.old.value))
+        × (B.grid board.new.value ≡ board_taken counting turned (B.grid board.old.value) g)) }
+    ensures kept { OnErr result (B.grid board.new.value ≡ B.grid board.old.value) }
+    ensures equal { B.grid spare.new.value ≡ B.grid board.new.value }
+    ensures table { B.table board.new.value ≡ B.table board.old.value }
+    ensures spare_table { B.table spare.new.value ≡ B.table board.old.value }
+    ensures plain { R.meant rules.new.plain ≡ R.meant rules.old.plain }
+    ensures late { R.meant rules.new.late ≡ R.meant rules.old.late }
+{
+    let turned = run_turn(game, rules, input, &**board, &mut **spare)?;
+    let Turned::Done(done) = &turned else {
+        return Ok(turned);
+    };
+    if !counting.counts(done) {
+        board.copy_into(&mut **spare);
+        return Ok(turned);
+    }
+    mem::swap(board, spare);
+    board.copy_into(&mut **spare);
+    Ok(turned)
+}
+
 /// A board that shows what another one does: the level's own spare one, or else a copy.
 ///
 /// # Errors
@@ -151,6 +193,13 @@ fn lent<B: Board>(
         return spares.copy_of(alloc, board);
     };
     Ok(spare)
+}
+
+/// A board that was lent goes back to its place.
+fn put_back<B: Board>(place: &mut Option<Box<B>>, board: Box<B>)
+    ensures { place.new ≡ Some board }
+{
+    *place = Some(board);
 }
 
 /// A board that shows what another one does, for turns, and a share of a third.
@@ -434,25 +483,31 @@ impl<B: Board> PlayedLevel<B> {
         ensures late { R.meant rules.new.late ≡ R.meant rules.old.late }
     {
         let mut spare = lent(alloc, spares, &*self.board, self.spare.take())?;
-        let turned = match run_turn(game, rules, input, &*self.board, &mut *spare) {
-            Ok(turned) => turned,
-            Err(Memory) => {
-                self.spare = Some(spare);
-                return Err(Memory);
-            }
-        };
-        let Turned::Done(done) = &turned else {
-            self.spare = Some(spare);
-            return Ok(turned);
+        let turned = counted_turn(game, rules, input, counting, &mut self.board, &mut spare);
+        put_back(&mut self.spare, spare);
+        let turned = turned?;
+        self.keep_checkpoint(alloc, spares, counting, &turned)
+            .and(Ok(turned))
+    }
+
+    /// Behind a turn that came to its board, the level goes back to that board at a restart, where the turn counts and
+    /// set a checkpoint.
+    fn keep_checkpoint(
+        &mut self,
+        alloc: Global,
+        spares: &mut SpareBoards<B>,
+        counting: Counting,
+        turned: &Turned,
+    ) -> Result<(), Memory>
+        ensures kept { OnOk result (self.new ≡ taken counting turned.now self.old self.old.board) }
+        ensures table { self.new.table ≡ self.old.table }
+    {
+        let Turned::Done(done) = turned else {
+            return Ok(());
         };
         if !counting.counts(done) {
-            self.board.copy_into(&mut *spare);
-            self.spare = Some(spare);
-            return Ok(turned);
+            return Ok(());
         }
-        mem::swap(&mut self.board, &mut spare);
-        self.board.copy_into(&mut *spare);
-        self.spare = Some(spare);
         self.restart_board = restart_board_behind(
             alloc,
             spares,
@@ -460,7 +515,7 @@ impl<B: Board> PlayedLevel<B> {
             &self.restart_board,
             done,
         )?;
-        Ok(turned)
+        Ok(())
     }
 
     /// Tries a turn with an input. The level stays as it is; where the turn is done, the level behind it has the board
@@ -491,15 +546,15 @@ impl<B: Board> PlayedLevel<B> {
         let done = match run_turn(game, rules, Some(input), &*self.board, &mut *spare) {
             Ok(Turned::Done(done)) => done,
             Ok(Turned::Blocked(message)) => {
-                self.spare = Some(spare);
+                put_back(&mut self.spare, spare);
                 return Ok(Tried::Blocked(message));
             }
             Ok(Turned::Restarted(message)) => {
-                self.spare = Some(spare);
+                put_back(&mut self.spare, spare);
                 return Ok(Tried::Restarted(message));
             }
             Err(Memory) => {
-                self.spare = Some(spare);
+                put_back(&mut self.spare, spare);
                 return Err(Memory);
             }
         };
@@ -515,8 +570,9 @@ impl<B: Board> PlayedLevel<B> {
                 Ok(Tried::Done(next, done))
             }
             Err(Memory) => {
+                drop(done);
                 self.board.copy_into(&mut *spare);
-                self.spare = Some(spare);
+                put_back(&mut self.spare, spare);
                 Err(Memory)
             }
         }

@@ -5,11 +5,14 @@ ghost use Rattle.std.specs.Option.{option_or};
 ghost use Rattle.ps_model.specs.declared.limits.TheConstants.{AGAIN_LIMIT};
 ghost use Rattle.ps_model.specs.board.Grid.{Grid};
 ghost use Rattle.ps_model.specs.board.Programs.{Section};
+ghost use Rattle.ps_model.specs.board.Turns.{turn};
 ghost use Rattle.ps_model.specs.session.Sessions.{Play, Step, after, shown};
 ghost use Rattle.ps_model.specs.session.StartSteps.{start_pending, start_told, start_turns, all_start_turns};
 ghost use Rattle.ps_model.specs.session.StartSteps.{started, start_step};
 ghost use Rattle.ps_stage.specs.Standings.{script_for, script_of, seen_level, play_of};
-ghost use Rattle.ps_stage.specs.StepsShown.{told_step, start_shown, came, stands, pending_shown};
+ghost use Rattle.ps_stage.specs.StepsShown.{told_step, start_shown, start_outcome_shown, message_of, is_again};
+ghost use Rattle.ps_stage.specs.StepsShown.{came, stands, pending_shown, taken};
+ghost use Rattle.ps_turn.specs.States.{outcome_shown};
 
 use crate::levels::{Counting, PlayedLevel};
 use crate::locations::{Pending, StartTold};
@@ -31,12 +34,33 @@ fn start_pending(again: bool, left: u32) -> Pending
 }
 
 /// The first of two messages that is there.
-fn first_message(own: Option<Text>, other: Option<Text>) -> Option<Text>
-    ensures { result ≡ option_or own other }
+fn first_message<'a>(own: &'a Option<Text>, other: &'a Option<Text>) -> &'a Option<Text>
+    ensures { result.now ≡ option_or own.entry.now other.entry.now }
 {
     match own {
-        Some(message) => Some(message),
+        Some(_) => own,
         None => other,
+    }
+}
+
+/// The message of a turn.
+fn message_of<'a>(turned: &'a Turned) -> &'a Option<Text>
+    ensures { result.now ≡ message_of turned.entry.now }
+{
+    match turned {
+        Turned::Blocked(message) => message,
+        Turned::Restarted(message) => message,
+        Turned::Done(done) => &done.message,
+    }
+}
+
+/// Whether a turn is done, and to come again.
+fn is_again(turned: &Turned) -> bool
+    ensures { result ≡ is_again turned.now }
+{
+    match turned {
+        Turned::Done(done) => done.again,
+        _ => false,
     }
 }
 
@@ -100,8 +124,55 @@ impl<'g, B: Board> Stage<'g, B> {
             return Ok(StartTold::Stops(None));
         }
         self.show_level(level)?;
-        let told = self.tell_start(&done.message, done.again, left)?;
-        Ok(told)
+        self.tell_start(&done.message, done.again, left)
+    }
+
+    /// A turn of a level without an input. Where it is done and counts, the level has its board.
+    pub(crate) fn take_turn<R: Rules<B>>(
+        &mut self,
+        rules: &mut TurnRules<B, R>,
+        level: &mut PlayedLevel<B>,
+        counting: Counting,
+    ) -> Result<Turned, Memory>
+        requires { level.old.table ≡ B.table_for self.old.game.names.layers }
+        ensures stage { self.new ≡ self.old }
+        ensures plain { R.meant rules.new.plain ≡ R.meant rules.old.plain }
+        ensures late { R.meant rules.new.late ≡ R.meant rules.old.late }
+        ensures table { level.new.table ≡ level.old.table }
+        ensures turned { IfOk result (λ turned. (g : Grid)
+            × (outcome_shown turned g
+            ≡ turn (script_for B.table_for self.old.game (R.meant rules.old.plain) (R.meant rules.old.late)) None
+            level.old.board)
+            × (level.new ≡ taken counting turned level.old g)) }
+    {
+        level.take_turn(
+            self.alloc,
+            &mut self.spares,
+            &self.game,
+            rules,
+            None,
+            counting,
+        )
+    }
+
+    /// Tells of an again turn of a start, of which this level came, if it is done.
+    fn tell_start_outcome(
+        &mut self,
+        level: &mut PlayedLevel<B>,
+        turned: &Turned,
+        left: u32,
+    ) -> Result<StartTold, Memory>
+        ensures game { self.new.game ≡ self.old.game }
+        ensures table { level.new.table ≡ level.old.table }
+        ensures told { IfOk result (λ told. (history : List Grid) (plain late : List Section) (turns : Play → Step)
+            → after self.old.text
+            (start_outcome_shown (script_of self.old.game plain late) (play_of history level.old) turned.now left turns)
+            ≡ told_step told (play_of history level.new) self.new.text turns) }
+    {
+        let Turned::Done(done) = turned else {
+            return Ok(StartTold::Stops(None));
+        };
+        self.tell_start_turn(level, done, left)
     }
 
     /// One again turn of a start: one that leaves the board as it was is as if not run, and ends them.
@@ -123,22 +194,10 @@ impl<'g, B: Board> Stage<'g, B> {
             ≡ told_step told (play_of history level.new) self.new.text (start_turns
             (script_for B.table_for self.old.game (R.meant rules.old.plain) (R.meant rules.old.late)) left)) }
     {
-        let turned = level.take_turn(
-            self.alloc,
-            &mut self.spares,
-            &self.game,
-            rules,
-            None,
-            Counting::IfChanged,
-        )?;
-        match turned {
-            Turned::Blocked(_) => Ok(StartTold::Stops(None)),
-            Turned::Restarted(_) => Ok(StartTold::Stops(None)),
-            Turned::Done(done) => {
-                let told = self.tell_start_turn(level, &done, left)?;
-                Ok(told)
-            }
-        }
+        let turned = self.take_turn(rules, level, Counting::IfChanged)?;
+        let told = self.tell_start_outcome(level, &turned, left);
+        drop(turned);
+        told
     }
 
     /// The again turns of a start, so many at most.
@@ -188,8 +247,7 @@ impl<'g, B: Board> Stage<'g, B> {
             ≡ came (stands pending (play_of history level.new)) self.new.text) }
     {
         let most = again_limit();
-        let pending = self.start_turns(rules, level, most)?;
-        Ok(pending)
+        self.start_turns(rules, level, most)
     }
 
     /// A level from its first frame on, with a message or without one, and with again turns or without.
@@ -214,15 +272,40 @@ impl<'g, B: Board> Stage<'g, B> {
         self.show_level(level)?;
         match self.tell_start(message, again, AGAIN_LIMIT)? {
             StartTold::Stops(pending) => Ok(pending),
-            StartTold::GoesOn => {
-                let pending = self.all_start_turns(rules, level)?;
-                Ok(pending)
-            }
+            StartTold::GoesOn => self.all_start_turns(rules, level),
         }
     }
 
-    /// The start of a level, with a message from before or without one. Where an option asks for it a turn without
-    /// input comes first; its message comes before one from before.
+    /// The start of a level, with a message from before that is lent. Where an option asks for it a turn without input
+    /// comes first; its message comes before one from before.
+    fn start_with<R: Rules<B>>(
+        &mut self,
+        rules: &mut TurnRules<B, R>,
+        level: &mut PlayedLevel<B>,
+        message: &Option<Text>,
+    ) -> Result<Option<Pending>, Memory>
+        requires { level.old.table ≡ B.table_for self.old.game.names.layers }
+        ensures game { self.new.game ≡ self.old.game }
+        ensures plain { R.meant rules.new.plain ≡ R.meant rules.old.plain }
+        ensures late { R.meant rules.new.late ≡ R.meant rules.old.late }
+        ensures table { level.new.table ≡ level.old.table }
+        ensures came { IfOk result (λ pending. (history : List Grid)
+            → after self.old.text (start_step
+            (script_for B.table_for self.old.game (R.meant rules.old.plain) (R.meant rules.old.late))
+            (play_of history level.old) message.now)
+            ≡ came (stands pending (play_of history level.new)) self.new.text) }
+    {
+        if !self.game.options().run_rules_on_level_start {
+            return self.started(rules, level, message, false);
+        }
+        let turned = self.take_turn(rules, level, Counting::Always)?;
+        let message = first_message(message_of(&turned), message);
+        let pending = self.started(rules, level, message, is_again(&turned));
+        drop(turned);
+        pending
+    }
+
+    /// The start of a level, with a message from before or without one.
     pub(crate) fn start_step<R: Rules<B>>(
         &mut self,
         rules: &mut TurnRules<B, R>,
@@ -240,29 +323,8 @@ impl<'g, B: Board> Stage<'g, B> {
             (play_of history level.old) message)
             ≡ came (stands pending (play_of history level.new)) self.new.text) }
     {
-        if !self.game.options().run_rules_on_level_start {
-            return self.started(rules, level, &message, false);
-        }
-        let turned = level.take_turn(
-            self.alloc,
-            &mut self.spares,
-            &self.game,
-            rules,
-            None,
-            Counting::Always,
-        )?;
-        match turned {
-            Turned::Blocked(own) => {
-                self.started(rules, level, &first_message(own, message), false)
-            }
-            Turned::Restarted(own) => {
-                self.started(rules, level, &first_message(own, message), false)
-            }
-            Turned::Done(done) => {
-                let again = done.again;
-                let message = first_message(done.message, message);
-                self.started(rules, level, &message, again)
-            }
-        }
+        let pending = self.start_with(rules, level, &message);
+        drop(message);
+        pending
     }
 }

@@ -1,13 +1,14 @@
-use Rattle.std.proofs.Common.{◌∙◌, ◌<◌, ℕ, Some, length, refl, sym, ap, arith}
-use Rattle.std.specs.Prelude.{Option}
+use Rattle.std.proofs.Common.{◌∙◌, ◌<◌, ℕ, suc, List, Some, length, take, refl, sym, ap, arith}
+use Rattle.std.specs.Prelude.{Option, filter}
 use Rattle.ps_model.specs.board.Turns.{Script}
 use Rattle.ps_model.specs.session.LevelLines.{Entry as Meant, LevelEntry}
-use Rattle.ps_model.specs.session.Sessions.{after}
+use Rattle.ps_model.specs.session.Sessions.{after, is_level}
 use Rattle.ps_model.specs.session.StartSteps.{entered}
 use Rattle.ps_levels.specs.declared.levels.Entry.{Entry}
 use Rattle.ps_levels.specs.EntriesShown.{entry_shown}
 use Rattle.ps_stage.specs.Standings.{script_for}
 use Rattle.ps_stage.proofs.EntriesFound.{entry_found, fits_at, playable_at}
+use Rattle.ps_stage.proofs.Results.{if_ok}
 use Rattle.ps_stage.proofs.stage.Stage.begin.Goals as goal
 
 pub enter_level-requires-clause-playable : goal.enter_level-requires-clause-playable
@@ -36,8 +37,9 @@ returns-in_ok-tell-in-Message-clause-came g c =
     c.in-Message.is
     ∙ rw (c.in_ok-tell-in-Message.ensures.told, c.as_str.ensures, c.new-number.ensures) refl
 
-pub returns-in_ok-location-in-Level-clause-came : goal.returns-in_ok-location-in-Level-clause-came
-returns-in_ok-location-in-Level-clause-came g c =
+pub returns-in-Level-clause-came : goal.returns-in-Level-clause-came
+returns-in-Level-clause-came g c =
+    if_ok c.enter_level.result c.enter_level.ensures.came (λ location comes.
     let script : Script =
     script_for g.B.Board.table_for c.args.self.now.game (g.R.Rules.meant c.args.rules.now.plain)
     (g.R.Rules.meant c.args.rules.now.late) in
@@ -48,4 +50,10 @@ returns-in_ok-location-in-Level-clause-came g c =
     ∙ ap (λ (x : Entry). after c.args.self.now.text (entered script c.args.entry (Some (entry_shown x)))) c.in-Level.is
     ∙ ap (λ (n : ℕ). after c.args.self.now.text (entered script n (Some (LevelEntry c.in-Level.level))))
     (sym c.new-number.ensures)
-    ∙ c.in_ok-location-in-Level.ensures.came
+    ∙ comes)
+
+pub enter_level-requires-clause-number : goal.enter_level-requires-clause-number
+enter_level-requires-clause-number g c =
+    c.level_number-count.ensures
+    ∙ ap (λ (entries : List Meant). length (filter is_level (take (suc c.new-number.result) entries)))
+    c.entries-entries.ensures.entries

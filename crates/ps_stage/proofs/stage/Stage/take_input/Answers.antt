@@ -1,29 +1,49 @@
-use Rattle.std.proofs.Common.{◌≡◌, ◌∙◌, subst, sym, ap}
+use Rattle.std.proofs.Common.{◌∙◌, sym, subst, ap}
 use Rattle.ps_stage.specs.KeysShown.{IsNext, tried_outcome}
-use Rattle.ps_stage.specs.Standings.{StageValue, with_done}
-use Rattle.ps_stage.proofs.KeyChanges.{stopped_as, tried_done}
+use Rattle.ps_stage.specs.Locations.{change_shown}
+use Rattle.ps_stage.specs.Standings.{StageValue, Standing}
+use Rattle.ps_stage.specs.StepsShown.{came}
+use Rattle.ps_stage.proofs.KeyChanges.{stopped_as, taken_of}
+use Rattle.ps_stage.proofs.Results.{if_err, if_ok}
 use Rattle.ps_stage.proofs.Scripts.{same_script}
 use Rattle.ps_stage.proofs.stage.Stage.take_input.Goals as goal
 
-pub returns-in-Ok-clause-came : goal.returns-in-Ok-clause-came
-returns-in-Ok-clause-came g c history =
-    let turned = sym c.in_ok-message.ensures.outcome ∙ ap tried_outcome c.in-Done.is in
-    let next : c.in-Done.next ≡ with_done c.args.level.now c.in-Done.done c.in-Done.next.board =
-    subst (IsNext c.args.level.now) c.in-Done.is c.in_ok-message.ensures.next in
-    tried_done g.B.Board.table_for _ _ _ _ _ _ c.args.level.now c.in-Done.next history c.in-Done.done c.args.input
-    c.self.view_is turned next
-    c.in_ok-message.ensures.plain c.in_ok-message.ensures.late
-    ∙ c.in-Ok.ensures.came history c.args.level.now
+pub returns-clause-came : goal.returns-clause-came
+returns-clause-came g c =
+    let plain = g.R.Rules.meant c.args.rules.now.plain in
+    let late = g.R.Rules.meant c.args.rules.now.late in
+    if_ok c.follow_tried.result c.follow_tried.ensures.came (λ change comes history.
+    taken_of g.B.Board.table_for c.args.self.now c.try_turn.new.self plain late
+    (g.R.Rules.meant c.try_turn.new.rules.plain) (g.R.Rules.meant c.try_turn.new.rules.late) c.args.level.now
+    c.try_turn.new.level history c.args.input (tried_outcome c.in_ok-tried.tried) c.in_ok-tried.ensures.stage
+    c.in_ok-tried.ensures.plain c.in_ok-tried.ensures.late c.in_ok-tried.ensures.level c.in_ok-tried.ensures.outcome
+    ∙ comes history
+    ∙ ap (λ (level : Standing). came (change_shown history level change) c.follow_tried.new.self.text)
+    c.in_ok-tried.ensures.level)
 
 pub returns-clause-stopped : goal.returns-clause-stopped
-returns-clause-stopped g c = λ history.
-    let turned = sym c.in_ok-message.ensures.outcome ∙ ap tried_outcome c.in-Done.is in
-    let next : c.in-Done.next ≡ with_done c.args.level.now c.in-Done.done c.in-Done.next.board =
-    subst (IsNext c.args.level.now) c.in-Done.is c.in_ok-message.ensures.next in
-    stopped_as _ _ c.in-Err.stop _ _ c.follow_key.new.self.text
-    (same_script g.B.Board.table_for _ _ _ _ _ _ (ap (λ (stage : StageValue). stage.game) c.self.view_is)
-    c.in_ok-message.ensures.plain c.in_ok-message.ensures.late)
-    (tried_done g.B.Board.table_for _ _ _ _ _ _ c.args.level.now c.in-Done.next history c.in-Done.done c.args.input
-    c.self.view_is turned next
-    c.in_ok-message.ensures.plain c.in_ok-message.ensures.late)
-    (c.in-Err.ensures.stopped history c.args.level.now)
+returns-clause-stopped g c =
+    let plain = g.R.Rules.meant c.args.rules.now.plain in
+    let late = g.R.Rules.meant c.args.rules.now.late in
+    if_err c.follow_tried.result c.follow_tried.ensures.stopped (λ stop stops history.
+    stopped_as _ _ stop _ _ c.follow_tried.new.self.text
+    (same_script g.B.Board.table_for c.args.self.now.game c.try_turn.new.self.game plain late
+    (g.R.Rules.meant c.try_turn.new.rules.plain) (g.R.Rules.meant c.try_turn.new.rules.late)
+    (ap (λ (stage : StageValue). stage.game) c.in_ok-tried.ensures.stage)
+    c.in_ok-tried.ensures.plain c.in_ok-tried.ensures.late)
+    (taken_of g.B.Board.table_for c.args.self.now c.try_turn.new.self plain late
+    (g.R.Rules.meant c.try_turn.new.rules.plain) (g.R.Rules.meant c.try_turn.new.rules.late) c.args.level.now
+    c.try_turn.new.level history c.args.input (tried_outcome c.in_ok-tried.tried) c.in_ok-tried.ensures.stage
+    c.in_ok-tried.ensures.plain c.in_ok-tried.ensures.late c.in_ok-tried.ensures.level c.in_ok-tried.ensures.outcome)
+    (stops history))
+
+pub follow_tried-requires-clause-table : goal.follow_tried-requires-clause-table
+follow_tried-requires-clause-table g c =
+    ap (λ (level : Standing). level.table) c.in_ok-tried.ensures.level
+    ∙ c.requires
+    ∙ sym (ap (λ (stage : StageValue). g.B.Board.table_for stage.game.names.layers) c.in_ok-tried.ensures.stage)
+
+pub follow_tried-requires-clause-next : goal.follow_tried-requires-clause-next
+follow_tried-requires-clause-next g c =
+    subst (λ (level : Standing). IsNext level c.in_ok-tried.tried) (sym c.in_ok-tried.ensures.level)
+    c.in_ok-tried.ensures.next

@@ -1,0 +1,4 @@
+use Rattle.ps_stage.proofs.stage.Stage.end_level.Goals as goal
+
+pub returns-clause-came : goal.returns-clause-came
+returns-clause-came g c history before first = c.in_ok-location.ensures.came history

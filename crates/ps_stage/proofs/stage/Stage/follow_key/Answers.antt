@@ -1,0 +1,56 @@
+use Rattle.std.proofs.Common.{◌≡◌, ◌∙◌, sym, ap}
+use Rattle.ps_model.specs.board.Turns.{Script}
+use Rattle.ps_stage.specs.declared.locations.HistoryChange.{HistoryChange}
+use Rattle.ps_stage.specs.KeysShown.{key_end_step}
+use Rattle.ps_stage.specs.Locations.{history_behind, history_change_if}
+use Rattle.ps_stage.specs.Standings.{SessionParts, script_for, play_of}
+use Rattle.ps_stage.proofs.KeyChanges.{stopped_as}
+use Rattle.ps_stage.proofs.Results.{if_err, if_ok}
+use Rattle.ps_stage.proofs.Scripts.{same_script}
+use Rattle.ps_stage.proofs.stage.Stage.follow_key.Goals as goal
+
+pub returns-in-Ok-clause-came : goal.returns-in-Ok-clause-came
+returns-in-Ok-clause-came g c =
+    let plain = g.R.Rules.meant c.args.rules.now.plain in
+    let late = g.R.Rules.meant c.args.rules.now.late in
+    let script : Script = script_for g.B.Board.table_for c.args.self.now.game plain late in
+    let then : Script = script_for g.B.Board.table_for c.end_key.new.self.game
+    (g.R.Rules.meant c.end_key.new.rules.plain) (g.R.Rules.meant c.end_key.new.rules.late) in
+    let same : then ≡ script = same_script g.B.Board.table_for c.args.self.now.game c.end_key.new.self.game plain late
+    (g.R.Rules.meant c.end_key.new.rules.plain) (g.R.Rules.meant c.end_key.new.rules.late)
+    c.in-Ok.ensures.game c.in-Ok.ensures.plain c.in-Ok.ensures.late in
+    if_ok c.finish_key.result c.finish_key.ensures.came (λ change comes history first.
+    c.in-Ok.ensures.came (history_behind (history_change_if c.args.done.now.changed) history first.board)
+    ∙ ap (λ (s : Script). key_end_step s c.in-Ok.end
+    (play_of (history_behind (history_change_if c.args.done.now.changed) history first.board) c.end_key.new.level)
+    c.end_key.new.self.text) (sym same)
+    ∙ ap (λ (change : HistoryChange). key_end_step then c.in-Ok.end
+    (play_of (history_behind change history first.board) c.end_key.new.level) c.end_key.new.self.text)
+    (sym c.history_change_if-history_change.ensures)
+    ∙ comes history first)
+
+pub returns-in-Ok-clause-stopped : goal.returns-in-Ok-clause-stopped
+returns-in-Ok-clause-stopped g c =
+    let plain = g.R.Rules.meant c.args.rules.now.plain in
+    let late = g.R.Rules.meant c.args.rules.now.late in
+    let script : Script = script_for g.B.Board.table_for c.args.self.now.game plain late in
+    let then : Script = script_for g.B.Board.table_for c.end_key.new.self.game
+    (g.R.Rules.meant c.end_key.new.rules.plain) (g.R.Rules.meant c.end_key.new.rules.late) in
+    let same : then ≡ script = same_script g.B.Board.table_for c.args.self.now.game c.end_key.new.self.game plain late
+    (g.R.Rules.meant c.end_key.new.rules.plain) (g.R.Rules.meant c.end_key.new.rules.late)
+    c.in-Ok.ensures.game c.in-Ok.ensures.plain c.in-Ok.ensures.late in
+    if_err c.finish_key.result c.finish_key.ensures.stopped (λ stop stops history first.
+    stopped_as script then stop _ _ c.finish_key.new.self.text same
+    (c.in-Ok.ensures.came (history_behind (history_change_if c.args.done.now.changed) history first.board)
+    ∙ ap (λ (s : Script). key_end_step s c.in-Ok.end
+    (play_of (history_behind (history_change_if c.args.done.now.changed) history first.board) c.end_key.new.level)
+    c.end_key.new.self.text) (sym same)
+    ∙ ap (λ (change : HistoryChange). key_end_step then c.in-Ok.end
+    (play_of (history_behind change history first.board) c.end_key.new.level) c.end_key.new.self.text)
+    (sym c.history_change_if-history_change.ensures))
+    (stops history first))
+
+pub finish_key-requires : goal.finish_key-requires
+finish_key-requires g c =
+    c.in-Ok.ensures.table ∙ c.requires
+    ∙ sym (ap (λ (parts : SessionParts). g.B.Board.table_for parts.names.layers) c.in-Ok.ensures.game)

@@ -1,0 +1,45 @@
+use Rattle.std.proofs.Common.{◌∙◌, sym, ap}
+use Rattle.ps_stage.specs.Standings.{SessionParts, StageValue, Standing, script_for}
+use Rattle.ps_stage.proofs.KeyChanges.{key_gone_on, stopped_as}
+use Rattle.ps_stage.proofs.Results.{if_err, if_ok}
+use Rattle.ps_stage.proofs.Scripts.{same_script}
+use Rattle.ps_stage.proofs.stage.Stage.go_on_with_key.Goals as goal
+
+pub finish_key-requires : goal.finish_key-requires
+finish_key-requires g c =
+    c.in_ok-end.ensures.table
+    ∙ ap (λ (level : Standing). level.table) c.in_ok-next.ensures.copy
+    ∙ c.requires
+    ∙ sym (ap (λ (parts : SessionParts). g.B.Board.table_for parts.names.layers) c.in_ok-end.ensures.game
+    ∙ ap (λ (stage : StageValue). g.B.Board.table_for stage.game.names.layers) c.in_ok-next.ensures.stage)
+
+pub returns-clause-came : goal.returns-clause-came
+returns-clause-came g c =
+    let plain = g.R.Rules.meant c.args.rules.now.plain in
+    let late = g.R.Rules.meant c.args.rules.now.late in
+    if_ok c.finish_key.result c.finish_key.ensures.came (λ change comes history first.
+    key_gone_on g.B.Board.table_for c.args.self.now c.copied.new.self c.key_turns.new.self plain late
+    (g.R.Rules.meant c.key_turns.new.rules.plain) (g.R.Rules.meant c.key_turns.new.rules.late) c.args.level.now
+    c.in_ok-next.next c.key_turns.new.level history c.args.left c.in_ok-end.end c.in_ok-next.ensures.stage
+    c.in_ok-next.ensures.copy c.in_ok-end.ensures.game c.in_ok-end.ensures.plain c.in_ok-end.ensures.late
+    (c.in_ok-end.ensures.came history)
+    ∙ comes history first)
+
+pub returns-clause-stopped : goal.returns-clause-stopped
+returns-clause-stopped g c =
+    let plain = g.R.Rules.meant c.args.rules.now.plain in
+    let late = g.R.Rules.meant c.args.rules.now.late in
+    if_err c.finish_key.result c.finish_key.ensures.stopped (λ stop stops history.
+    stopped_as (script_for g.B.Board.table_for c.args.self.now.game plain late)
+    (script_for g.B.Board.table_for c.key_turns.new.self.game (g.R.Rules.meant c.key_turns.new.rules.plain)
+    (g.R.Rules.meant c.key_turns.new.rules.late)) stop _ _ c.finish_key.new.self.text
+    (same_script g.B.Board.table_for c.args.self.now.game c.key_turns.new.self.game plain late
+    (g.R.Rules.meant c.key_turns.new.rules.plain) (g.R.Rules.meant c.key_turns.new.rules.late)
+    (c.in_ok-end.ensures.game ∙ ap (λ (stage : StageValue). stage.game) c.in_ok-next.ensures.stage)
+    c.in_ok-end.ensures.plain c.in_ok-end.ensures.late)
+    (key_gone_on g.B.Board.table_for c.args.self.now c.copied.new.self c.key_turns.new.self plain late
+    (g.R.Rules.meant c.key_turns.new.rules.plain) (g.R.Rules.meant c.key_turns.new.rules.late) c.args.level.now
+    c.in_ok-next.next c.key_turns.new.level history c.args.left c.in_ok-end.end c.in_ok-next.ensures.stage
+    c.in_ok-next.ensures.copy c.in_ok-end.ensures.game c.in_ok-end.ensures.plain c.in_ok-end.ensures.late
+    (c.in_ok-end.ensures.came history))
+    (stops history c.args.level.now))
