@@ -18,5 +18,6 @@ pub mod BoardPlaces
 pub mod Chains
 pub mod StraightPlaces
 pub mod Lists
+pub mod Orders
 pub mod Truths
 pub mod SameThings

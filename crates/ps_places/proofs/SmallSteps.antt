@@ -11,12 +11,6 @@ at_most n m a e low = omega arith
 pub at_least : (a n m : ℕ) → n ≡ m → a ≤ m → a ≤ n
 at_least a n m e far = omega arith
 
-pub below_all : (a b c : ℕ) → a < b → b ≤ c → a < c
-below_all a b c low far = omega arith
-
-pub most_of : (a b c : ℕ) → a ≤ b → b ≤ c → a ≤ c
-most_of a b c low far = omega arith
-
 pub not_behind : (a b : ℕ) → a < b → a ≤ b
 not_behind a b low = omega arith
 
@@ -48,9 +42,6 @@ fits_both n m low few = omega arith
 
 pub no_yes : {X : Type 0} → true ≡ false → X
 no_yes clash = absurd (cc)
-
-pub no_no : {X : Type 0} → false ≡ true → X
-no_no clash = absurd (cc)
 
 pub no_some : {X Y : Type 0} {x : X} → Some x ≡ None → Y
 no_some clash = absurd (cc)

@@ -25,6 +25,7 @@ use Rattle.ps_devices.proofs.Pieces.{grows_twice}
 use Rattle.ps_run.specs.declared.faults.PieceFault.{PieceFault}
 use Rattle.ps_run.specs.declared.faults.PieceFault.TheVariants.{Memory, Write}
 use Rattle.ps_run.specs.Played.{HasCounted, HavePlayed, HasTaken, HasTakenAndFailed, IsCutOffAt, StopsAs, StopsAtText}
+use Rattle.ps_laws.proofs.common.Orders.{less_up, two_up}
 use Rattle.std.proofs.lemmas.Bool.{cases_lt}
 
 -- of two texts one has a byte, where both together have one
@@ -42,9 +43,6 @@ few_of_both : (calls shorts mid_calls mid_shorts new_calls new_shorts count more
     mid_calls + shorts ≤ calls + (count + mid_shorts) → new_calls + mid_shorts ≤ mid_calls + (more + new_shorts) →
     new_calls + shorts ≤ calls + ((count + more) + new_shorts)
 few_of_both calls shorts mid_calls mid_shorts new_calls new_shorts count more first second = omega arith
-
-two_up : (a b c : ℕ) → a ≤ b → b ≤ c → a ≤ c
-two_up a b c first second = omega arith
 
 -- texts counted one after the other
 pub counted_twice :
@@ -282,9 +280,6 @@ keys_to read piece i within =
     ap (λ bytes. length (keys_of bytes)) (append_assoc read (take (i + 1) piece) (drop (i + 1) piece)
     ∙ ap (λ bytes. read ++ bytes) (take-append-drop (i + 1) piece)) in
     omega (arith, upto, all, whole)
-
-less_up : (a b c : ℕ) → a < b → b ≤ c → a < c
-less_up a b c first second = omega arith
 
 one_up : (a b : ℕ) → a ≤ b → a + 1 ≤ b + 1
 one_up a b up = omega arith

@@ -12,13 +12,11 @@ use Rattle.std.proofs.lemmas.List.Sums.{sum_by-cons}
 use Rattle.std.proofs.Math.Bool.{or-true}
 use Rattle.ps_model.specs.names.Meanings.{LegendName, Mention, OfObject, OfLine, same_mention, mentions_of}
 use Rattle.ps_model.specs.names.Meanings.{mentions_of_name, with_mentioned, all_mentioned, mention_count}
+use Rattle.ps_laws.proofs.common.Truths.{impossible}
 
 -- the legend line of the place is on the list
 abbrev pub has : List Mention → ℕ → Bool
 has listed place = list_any (same_mention (OfLine place)) listed
-
-pub impossible : {A : Type 0} → false ≡ true → A
-impossible e = absurd (let h = e in cc)
 
 in-front : (front back : List Mention) (place : ℕ) → has front place ≡ true → has (front ++ back) place ≡ true
 in-front front back place e = list_any-append (same_mention (OfLine place)) front back

@@ -11,7 +11,8 @@ use Rattle.std.proofs.lemmas.Map.Keys.{IsDistinct-from_apart}
 use Rattle.std.proofs.lemmas.Map.Steps.{length-le_from_distinct_below}
 use Rattle.ps_laws.proofs.common.Everywhere.{All-always}
 use Rattle.ps_model.specs.names.Meanings.{LegendName, Mention, OfObject, OfLine, mentions_of, all_mentioned}
-use Rattle.ps_laws.proofs.texts.AllMentioned.{has, impossible, Lists, all_mentioned-lists}
+use Rattle.ps_laws.proofs.texts.AllMentioned.{has, Lists, all_mentioned-lists}
+use Rattle.ps_laws.proofs.common.Truths.{impossible}
 
 -- the legend line that is mentioned first
 abbrev pub first_line : List Mention → ℕ

@@ -3,7 +3,8 @@ use Rattle.std.proofs.lemmas.List.{length-set}
 use Rattle.ps_program.specs.declared.rows.Axis.TheVariants.{Down, Right}
 use Rattle.ps_places.proofs.RowsPutBack.{begun_between, begun_one, part_long, put_long, room_across}
 use Rattle.ps_places.proofs.RowsPutBack.{room_down, room_kept, room_within}
-use Rattle.ps_places.proofs.SmallSteps.{below_all, not_behind}
+use Rattle.ps_places.proofs.SmallSteps.{not_behind}
+use Rattle.ps_laws.proofs.common.Orders.{less_up}
 use Rattle.ps_places.proofs.part_starts.find_between.Goals as goal
 
 -- one row -------------------------------------------------------------------------------------------------------------
@@ -11,7 +12,7 @@ use Rattle.ps_places.proofs.part_starts.find_between.Goals as goal
 pub starts_on_row-requires-clause-row : goal.starts_on_row-requires-clause-row
 starts_on_row-requires-clause-row g c =
     let height : ℕ = (g.B.Board.grid c.args.board.now).height in
-    below_all c.args.first c.args.end height c.requires.some
+    less_up c.args.first c.args.end height c.requires.some
     (room_within c.args.axis height (length c.args.part.now) c.args.end c.requires.whole c.requires.rows)
 
 pub starts_on_row-requires-clause-whole : goal.starts_on_row-requires-clause-whole
@@ -19,7 +20,7 @@ starts_on_row-requires-clause-whole g c = c.requires.whole
 
 pub bounds-starts-first : goal.bounds-starts-first
 bounds-starts-first g c =
-    below_all c.args.first c.args.end (length c.args.starts.now) c.requires.some
+    less_up c.args.first c.args.end (length c.args.starts.now) c.requires.some
     (room_kept c.args.axis (g.B.Board.grid c.args.board.now).height (length c.args.part.now) c.args.end
     (length c.args.starts.now) c.requires.whole c.requires.rows c.recall_shape.ensures.shape.rows c.requires.room)
 
@@ -27,7 +28,7 @@ pub returns-then-end-first-clause-begun : goal.returns-then-end-first-clause-beg
 returns-then-end-first-clause-begun g c =
     begun_one (g.B.Board.grid c.args.board.now) (g.B.Board.table c.args.board.now) c.args.axis c.args.part.now
     c.args.first c.args.end c.args.starts.now c.starts_on_row.result
-    (below_all c.args.first c.args.end (length c.args.starts.now) c.requires.some
+    (less_up c.args.first c.args.end (length c.args.starts.now) c.requires.some
     (room_kept c.args.axis (g.B.Board.grid c.args.board.now).height (length c.args.part.now) c.args.end
     (length c.args.starts.now) c.requires.whole c.requires.rows c.recall_shape.ensures.shape.rows c.requires.room))
     c.if-end-first.true c.starts_on_row.ensures

@@ -3,7 +3,8 @@ use Rattle.std.proofs.lemmas.List.{get_or-set_same, length-set}
 use Rattle.std.specs.Prelude.{slice_set}
 use Rattle.ps_board.specs.ColumnSets.{column_at, set_columns}
 use Rattle.ps_places.specs.PartStarts.{columns_on}
-use Rattle.ps_places.proofs.SmallSteps.{no_no, no_yes}
+use Rattle.ps_places.proofs.SmallSteps.{no_yes}
+use Rattle.ps_laws.proofs.common.Truths.{impossible}
 use Rattle.ps_places.proofs.LineSets.{none_has}
 use Rattle.ps_model.specs.declared.limits.TheConstants.{SIDE_LIMIT}
 use Rattle.ps_places.proofs.RowsPutBack.{begun_one}
@@ -25,8 +26,8 @@ returns-then-is_empty-clause-rows g c =
     let off : (row : ℕ) → column_at c.none.result row ≡ false =
     λ row. none_has c.none.result row c.none.ensures in
     record {
-      inside = λ row on. no_no (sym (off row) ∙ on);
-      some = λ row on. no_no (sym (off row) ∙ on);
+      inside = λ row on. impossible (sym (off row) ∙ on);
+      some = λ row on. impossible (sym (off row) ∙ on);
       none = λ row low on out.
           let same : row ≡ first = c.requires.only row on in
           ap (λ (at : ℕ). set_columns (columns_on (slice_set starts first columns) at)) same

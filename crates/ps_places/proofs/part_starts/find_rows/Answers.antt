@@ -5,7 +5,8 @@ use Rattle.ps_board.proofs.ColumnLaws.{first_in}
 use Rattle.ps_board.specs.ColumnSets.{set_columns}
 use Rattle.ps_places.specs.RowsFound.{rows_with_room}
 use Rattle.ps_model.specs.declared.limits.TheConstants.{SIDE_LIMIT}
-use Rattle.ps_places.proofs.SmallSteps.{at_least, at_most, below_all, most_of}
+use Rattle.ps_places.proofs.SmallSteps.{at_least, at_most}
+use Rattle.ps_laws.proofs.common.Orders.{less_up, two_up}
 use Rattle.ps_places.proofs.FoundRows.{count_few, count_of, no_starts, only_on, rows_below, starts_between}
 use Rattle.ps_places.proofs.part_starts.find_rows.Goals as goal
 
@@ -66,7 +67,7 @@ find_on_row-requires-clause-row g c =
     c.both-rows.result c.rows_with_room-count.result c.size-width.ensures.shape.rows many c.below.ensures
     c.both-rows.ensures c.rows_of_part.ensures c.requires.whole c.in-Some.first
     (first_in c.both-rows.result c.in-Some.first (set_columns c.take_first.new.self) c.in-Some.ensures.some).0 in
-    below_all c.in-Some.first c.rows_with_room-count.result grid.height under
+    less_up c.in-Some.first c.rows_with_room-count.result grid.height under
     (count_few c.args.axis c.rows_with_room-count.result grid.height (length c.args.part.now) c.requires.whole many)
 
 pub find_on_row-requires-clause-only : goal.find_on_row-requires-clause-only
@@ -98,7 +99,7 @@ rows_with_room-count-requires g c =
 
 pub below-requires : goal.below-requires
 below-requires g c =
-    most_of c.rows_with_room-count.result c.size-width.result.1 g.B.Words.ColumnWords.limit
+    two_up c.rows_with_room-count.result c.size-width.result.1 g.B.Words.ColumnWords.limit
     (count_few c.args.axis c.rows_with_room-count.result c.size-width.result.1 (length c.args.part.now)
     c.requires.whole c.rows_with_room-count.ensures)
     c.size-width.ensures.low
@@ -121,7 +122,7 @@ end_of-end-requires-clause-few g c =
     let many : c.rows_with_room-count.result ≡ rows_with_room c.args.axis grid.height (length c.args.part.now) =
     count_of c.args.axis c.rows_with_room-count.result c.size-width.result.1 grid.height (length c.args.part.now)
     c.rows_with_room-count.ensures c.size-width.ensures.height in
-    most_of c.rows_with_room-count.result grid.height SIDE_LIMIT
+    two_up c.rows_with_room-count.result grid.height SIDE_LIMIT
     (count_few c.args.axis c.rows_with_room-count.result grid.height (length c.args.part.now) c.requires.whole many)
     c.size-width.ensures.shape.rows
 

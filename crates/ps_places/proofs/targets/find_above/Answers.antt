@@ -2,7 +2,8 @@ use Rattle.std.proofs.Common.{◌≡◌, ◌∙◌, ◌<◌, ◌≤◌, ◌+◌,
 use Rattle.std.proofs.Common.{refl, subst, sym, arith}
 use Rattle.ps_model.specs.board.Grid.{Grid}
 use Rattle.ps_model.specs.declared.limits.TheConstants.{SIDE_LIMIT}
-use Rattle.ps_places.proofs.SmallSteps.{at_least, at_most, below_all, fits_half}
+use Rattle.ps_places.proofs.SmallSteps.{at_least, at_most, fits_half}
+use Rattle.ps_laws.proofs.common.Orders.{less_up}
 use Rattle.ps_places.proofs.TargetRows.{AreRowsFound, AreSeenBelow, above-found, above-none, above-targets, kept-none}
 use Rattle.ps_places.proofs.TargetRows.{seen-init, seen-more}
 use Rattle.ps_places.proofs.targets.find_above.Goals as goal
@@ -94,13 +95,13 @@ columns_begun-requires-clause-starts g c = c.requires.backs
 
 pub keep_row-rows-requires-clause-within : goal.keep_row-rows-requires-clause-within
 keep_row-rows-requires-clause-within g c =
-    below_all (c.loop-row.row - 1) (g.B.Board.grid c.args.board.now).height SIDE_LIMIT
+    less_up (c.loop-row.row - 1) (g.B.Board.grid c.args.board.now).height SIDE_LIMIT
     (row_above c.loop-row.row (g.B.Board.grid c.args.board.now).height c.loop-row-test.true c.loop-row.invariant.within)
     c.size-width.ensures.shape.rows
 
 pub keep_row-rows-requires-clause-row : goal.keep_row-rows-requires-clause-row
 keep_row-rows-requires-clause-row g c =
-    below_all (c.loop-row.row - 1) (g.B.Board.grid c.args.board.now).height g.B.Words.ColumnWords.limit
+    less_up (c.loop-row.row - 1) (g.B.Board.grid c.args.board.now).height g.B.Words.ColumnWords.limit
     (row_above c.loop-row.row (g.B.Board.grid c.args.board.now).height c.loop-row-test.true c.loop-row.invariant.within)
     (at_most (g.B.Board.grid c.args.board.now).height c.size-width.result.1 g.B.Words.ColumnWords.limit
     (sym c.size-width.ensures.height) c.size-width.ensures.low)

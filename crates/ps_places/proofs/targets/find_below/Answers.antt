@@ -1,7 +1,8 @@
 use Rattle.std.proofs.Common.{◌∙◌, ◌<◌, ◌≤◌, ℕ, Option, List, length, refl, arith}
 use Rattle.ps_model.specs.declared.limits.TheConstants.{SIDE_LIMIT}
 use Rattle.ps_model.specs.board.Grid.{Grid}
-use Rattle.ps_places.proofs.SmallSteps.{at_least, at_most, below_all, fits_half, less_left}
+use Rattle.ps_places.proofs.SmallSteps.{at_least, at_most, fits_half, less_left}
+use Rattle.ps_laws.proofs.common.Orders.{less_up}
 use Rattle.ps_places.proofs.TargetRows.{above-init, above-more, below-init, below-more, below-targets, kept-none}
 use Rattle.ps_places.proofs.targets.find_below.Goals as goal
 
@@ -72,13 +73,13 @@ columns_begun-requires-clause-starts g c = c.requires.fronts
 
 pub keep_row-rows-requires-clause-within : goal.keep_row-rows-requires-clause-within
 keep_row-rows-requires-clause-within g c =
-    below_all c.loop-row.row c.size-width.result.1 SIDE_LIMIT c.loop-row-test.true
+    less_up c.loop-row.row c.size-width.result.1 SIDE_LIMIT c.loop-row-test.true
     (at_most c.size-width.result.1 (g.B.Board.grid c.args.board.now).height SIDE_LIMIT c.size-width.ensures.height
     c.size-width.ensures.shape.rows)
 
 pub keep_row-rows-requires-clause-row : goal.keep_row-rows-requires-clause-row
 keep_row-rows-requires-clause-row g c =
-    below_all c.loop-row.row c.size-width.result.1 g.B.Words.ColumnWords.limit c.loop-row-test.true
+    less_up c.loop-row.row c.size-width.result.1 g.B.Words.ColumnWords.limit c.loop-row-test.true
     c.size-width.ensures.low
 
 pub loop-row-smaller : goal.loop-row-smaller

@@ -2,7 +2,8 @@ use Rattle.std.proofs.Common.{◌≡◌, ◌<◌, ◌≤◌, ◌∷◌, length}
 use Rattle.std.specs.Prelude.{All}
 use Rattle.std.proofs.lemmas.List.Elements.{All-rest}
 use Rattle.ps_laws.specs.WholeRows.{HasCells}
-use Rattle.ps_places.proofs.SmallSteps.{no_no, no_yes}
+use Rattle.ps_places.proofs.SmallSteps.{no_yes}
+use Rattle.ps_laws.proofs.common.Truths.{impossible}
 use Rattle.ps_places.proofs.WayEnds.{falls, first_whole, no_parts-found, no_parts-spaced, one_less, one_more, some_sets}
 use Rattle.ps_places.proofs.WayLevels.{level-found, level-no_position, level-none}
 use Rattle.ps_places.specs.Lines.{part_fits}
@@ -87,7 +88,7 @@ returns-in_default-clause-spaced g t c = λ yes.
 -- a part that is left -------------------------------------------------------------------------------------------------
 
 pub returns-in_default-split_first-clause-found : goal.returns-in_default-split_first-clause-found
-returns-in_default-split_first-clause-found g t c = no_no
+returns-in_default-split_first-clause-found g t c = impossible
 
 pub returns-in_default-split_first-clause-none : goal.returns-in_default-split_first-clause-none
 returns-in_default-split_first-clause-none g t c = λ out.

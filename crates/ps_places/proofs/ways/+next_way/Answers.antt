@@ -7,7 +7,8 @@ use Rattle.ps_laws.specs.WholeRows.{HasCells}
 use Rattle.ps_places.specs.FittingWays.{way_fits}
 use Rattle.ps_places.specs.RowPlaces.{part_sizes}
 use Rattle.ps_places.specs.Ways.{from_first, ways_behind, ways_from}
-use Rattle.ps_places.proofs.SmallSteps.{no_no, no_yes}
+use Rattle.ps_places.proofs.SmallSteps.{no_yes}
+use Rattle.ps_laws.proofs.common.Truths.{impossible}
 use Rattle.ps_places.proofs.WayEnds.{falls, no_parts-behind, one_less, one_more, some_sets}
 use Rattle.ps_places.proofs.WayLevels.{level-done, level-last, level-others, level-unfit}
 use Rattle.ps_places.proofs.SpacedWays.{spaced-later, spaced-others}
@@ -104,7 +105,7 @@ returns g t c =
 -- no part is left -----------------------------------------------------------------------------------------------------
 
 pub returns-in_default-clause-found : goal.returns-in_default-clause-found
-returns-in_default-clause-found g t c = no_no
+returns-in_default-clause-found g t c = impossible
 
 pub returns-in_default-clause-none : goal.returns-in_default-clause-none
 returns-in_default-clause-none g t c = λ out.
@@ -115,12 +116,12 @@ pub returns-in_default-clause-long : goal.returns-in_default-clause-long
 returns-in_default-clause-long g t c = c.requires.way
 
 pub returns-in_default-clause-spaced : goal.returns-in_default-clause-spaced
-returns-in_default-clause-spaced g t c = no_no
+returns-in_default-clause-spaced g t c = impossible
 
 -- a part that is left -------------------------------------------------------------------------------------------------
 
 pub returns-in_default-split_first-clause-found : goal.returns-in_default-split_first-clause-found
-returns-in_default-split_first-clause-found g t c = no_no
+returns-in_default-split_first-clause-found g t c = impossible
 
 pub returns-in_default-split_first-clause-none : goal.returns-in_default-split_first-clause-none
 returns-in_default-split_first-clause-none g t c = λ out.

@@ -3,7 +3,8 @@ use Rattle.std.proofs.lemmas.List.{length-take-le}
 use Rattle.ps_model.specs.board.Grid.{Grid}
 use Rattle.ps_places.specs.RowPlaces.{all_places, place_fits, places_on_lines}
 use Rattle.ps_places.specs.Ways.{from_first}
-use Rattle.ps_places.proofs.SmallSteps.{no_no, no_yes}
+use Rattle.ps_places.proofs.SmallSteps.{no_yes}
+use Rattle.ps_laws.proofs.common.Truths.{impossible}
 use Rattle.ps_places.proofs.Positions.{positions-all}
 use Rattle.ps_places.proofs.Forgetting.{among-in-front}
 use Rattle.ps_places.proofs.SeekingPlaces.{found-in-front, spaced-in-front, way_room}
@@ -61,19 +62,19 @@ invariant_of-self g c =
     }
 
 pub returns-in-None-clause-found : goal.returns-in-None-clause-found
-returns-in-None-clause-found g c = no_no
+returns-in-None-clause-found g c = impossible
 
 pub returns-in-None-clause-line : goal.returns-in-None-clause-line
-returns-in-None-clause-line g c = no_no
+returns-in-None-clause-line g c = impossible
 
 pub returns-in-None-clause-spaced : goal.returns-in-None-clause-spaced
-returns-in-None-clause-spaced g c = no_no
+returns-in-None-clause-spaced g c = impossible
 
 pub returns-in-None-clause-same : goal.returns-in-None-clause-same
 returns-in-None-clause-same g c = record { lines = refl; starts = refl }
 
 pub returns-in-None-clause-among : goal.returns-in-None-clause-among
-returns-in-None-clause-among g c = no_no
+returns-in-None-clause-among g c = impossible
 
 pub returns-in-Some : goal.returns-in-Some
 returns-in-Some g c =

@@ -2,7 +2,8 @@ use Rattle.std.proofs.Common.{◌≡◌, ◌∙◌, ℕ, ◌≤◌, Bool, List, 
 use Rattle.std.proofs.lemmas.List.{length-take-le}
 use Rattle.ps_model.specs.board.Grid.{Grid}
 use Rattle.ps_places.specs.RowPlaces.{place_fits, places_behind}
-use Rattle.ps_places.proofs.SmallSteps.{no_no, no_yes}
+use Rattle.ps_places.proofs.SmallSteps.{no_yes}
+use Rattle.ps_laws.proofs.common.Truths.{impossible}
 use Rattle.ps_places.proofs.SeekingPlaces.{found-in-front, spaced-in-front, way_room}
 use Rattle.ps_places.proofs.chosen.RowRoom+Columns+W.next_place.Goals as goal
 
@@ -50,13 +51,13 @@ invariant_of-self g c =
     }
 
 pub returns-in-None-clause-found : goal.returns-in-None-clause-found
-returns-in-None-clause-found g c = no_no
+returns-in-None-clause-found g c = impossible
 
 pub returns-in-None-clause-line : goal.returns-in-None-clause-line
-returns-in-None-clause-line g c = no_no
+returns-in-None-clause-line g c = impossible
 
 pub returns-in-None-clause-spaced : goal.returns-in-None-clause-spaced
-returns-in-None-clause-spaced g c = no_no
+returns-in-None-clause-spaced g c = impossible
 
 pub returns-in-None-clause-same : goal.returns-in-None-clause-same
 returns-in-None-clause-same g c = record { lines = refl; starts = refl }

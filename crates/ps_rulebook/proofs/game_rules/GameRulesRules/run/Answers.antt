@@ -16,7 +16,8 @@ returns-clause-ran g c =
 
 pub returns-clause-same : goal.returns-clause-same
 returns-clause-same g c =
-    let meant : List CompiledSection → Option (List ℕ) → List Section = λ sections table. sections_meaning table sections in
+    let meant : List CompiledSection → Option (List ℕ) → List Section =
+    λ sections table. sections_meaning table sections in
     ap meant (c.in_ok-run_program.ensures.sections ∙ c.self.view_is)
 
 pub returns-clause-width : goal.returns-clause-width
@@ -30,5 +31,6 @@ returns-clause-layers g c = ap (λ (sides : ℕ × ℕ × ℕ). sides.2) c.in_ok
 
 pub returns-in_err-after-clause-same : goal.returns-in_err-after-clause-same
 returns-in_err-after-clause-same g c =
-    let meant : List CompiledSection → Option (List ℕ) → List Section = λ sections table. sections_meaning table sections in
+    let meant : List CompiledSection → Option (List ℕ) → List Section =
+    λ sections table. sections_meaning table sections in
     ap meant (c.in_ok-run_program.ensures.sections ∙ c.self.view_is)

@@ -14,7 +14,8 @@ returns-clause-came g c =
     (g.R.Rules.meant c.args.rules.now.late) (g.R.Rules.meant c.take_turn.new.rules.plain)
     (g.R.Rules.meant c.take_turn.new.rules.late) c.args.level.now c.take_turn.new.level history c.in_ok-turned.turned
     c.in_ok-turned.ensures.turned.0 c.args.message.now _ _ runs c.in_ok-turned.ensures.stage
-    c.in_ok-turned.ensures.plain c.in_ok-turned.ensures.late c.in_ok-turned.ensures.turned.1 c.in_ok-turned.ensures.turned.2
+    c.in_ok-turned.ensures.plain c.in_ok-turned.ensures.late c.in_ok-turned.ensures.turned.1
+    c.in_ok-turned.ensures.turned.2
     (c.first_message-message.ensures
     ∙ ap (λ (own : Option (List ℕ)). option_or own c.args.message.now) c.message_of.ensures)
     c.is_again.ensures
