@@ -1,10 +1,10 @@
 -- The next combination in which each row of a rule fits.
 use Rattle.std.proofs.Common.{◌≡◌, ◌∙◌, ℕ, suc, zero, ◌<◌, ◌≤◌, ◌&&◌, inl, inr, Bool, true, false, Option, Some, List}
-use Rattle.std.proofs.Common.{[], ◌∷◌, ◌++◌, length, map, refl, sym, ap, ap₂, arith}
+use Rattle.std.proofs.Common.{[], ◌∷◌, ◌++◌, length, map, refl, sym, ap, ap₂, arith, true≢false}
 use Rattle.std.specs.Prelude.{slice_get}
 use Rattle.std.proofs.lemmas.Bool.{cases_eq}
 use Rattle.std.proofs.Math.Bool.{and-false}
-use Rattle.std.proofs.lemmas.Option.{same_Some}
+use Rattle.std.proofs.lemmas.Option.{none-some, same_Some}
 use Rattle.ps_model.specs.board.Grid.{Grid}
 use Rattle.ps_model.specs.board.Places.{cells_in, fits_along}
 use Rattle.ps_model.specs.board.Attempts.{all_fit}
@@ -42,7 +42,7 @@ same_elements [] (y ∷ ys) long same = absurd (omega arith)
 same_elements (x ∷ xs) [] long same = absurd (omega arith)
 same_elements (x ∷ xs) (y ∷ ys) long same =
     let e : Some x ≡ Some y = same 0 in
-    let first : x ≡ y = cc in
+    let first : x ≡ y = same_Some x y e in
     ap₂ (λ (z : _) (zs : List _). z ∷ zs) first (same_elements xs ys (omega arith) (λ k. same (suc k)))
 
 -- what is in two equal ones
@@ -82,11 +82,11 @@ module _ (g : Grid) (table : Option (List ℕ)) where
   chosen_off : (n : ℕ) (rows : List CompiledRow) (rooms : List Room) (row : CompiledRow) (room : Room) →
       slice_get rows n ≡ Some row → slice_get rooms n ≡ Some room →
       row_fits row (place_at g.height row room) ≡ false → fits rows (chosen (choices rows rooms)) ≡ false
-  chosen_off n [] rooms row room is there off = absurd (cc)
-  chosen_off n (r ∷ rows) [] row room is there off = absurd (cc)
+  chosen_off n [] rooms row room is there off = absurd (none-some row is)
+  chosen_off n (r ∷ rows) [] row room is there off = absurd (none-some room there)
   chosen_off zero (r ∷ rows) (m ∷ rooms) row room is there off =
-      let e : r ≡ row = cc in
-      let d : m ≡ room = cc in
+      let e : r ≡ row = same_Some r row is in
+      let d : m ≡ room = same_Some m room there in
       first_and_others r rows (place_at g.height r m) (chosen (choices rows rooms))
       ∙ ap (λ (b : Bool). b && fits rows (chosen (choices rows rooms)))
       (ap₂ (λ (x : CompiledRow) (y : Room). row_fits x (place_at g.height x y)) e d ∙ off)
@@ -102,7 +102,7 @@ module _ (g : Grid) (table : Option (List ℕ)) where
   first_by rows rooms row room true e is there fit = e
   first_by rows rooms row room false e is there fit =
       let off : fits rows (chosen (choices rows rooms)) ≡ false = chosen_off 0 rows rooms row room is there e in
-      let clash : false ≡ true = sym off ∙ fit in absurd (cc clash)
+      absurd (true≢false (sym fit ∙ off))
 
   pub first_of_fitting : (rows : List CompiledRow) (rooms : List Room) (row : CompiledRow) (room : Room) →
       slice_get rows 0 ≡ Some row → slice_get rooms 0 ≡ Some room → fits rows (chosen (choices rows rooms)) ≡ true →
@@ -139,8 +139,8 @@ module _ (g : Grid) (table : Option (List ℕ)) where
   spent_passed zero (r ∷ rows) [] row room is there none = refl
   spent_passed (suc n) (r ∷ rows) [] row room is there none = refl
   spent_passed zero (r ∷ rows) (m ∷ rooms) row room is there none =
-      let e : r ≡ row = cc in
-      let d : m ≡ room = cc in
+      let e : r ≡ row = same_Some r row is in
+      let d : m ≡ room = same_Some m room there in
       let c : Choice = choice_of g.height r m in
       let others : List Choice = choices rows rooms in
       let here : from_first (row_fits r) c.later ≡ [] =
@@ -186,8 +186,8 @@ module _ (g : Grid) (table : Option (List ℕ)) where
         at k (suc n) [] rooms row room low is there none = refl
         at k (suc n) (r ∷ rows) [] row room low is there none = refl
         at zero (suc n) (r ∷ rows) (m ∷ rooms) row room low is there none =
-            let e : r ≡ row = cc in
-            let d : m ≡ room = cc in
+            let e : r ≡ row = same_Some r row is in
+            let d : m ≡ room = same_Some m room there in
             spread_none (row_fits r) (fits rows) (fits (r ∷ rows)) (first_and_others r rows) (all_places g.height r m)
             (behind_from n (choices rows rooms))
             (ap₂ (λ (x : CompiledRow) (y : Room). from_first (row_fits x) (all_places g.height x y)) e d ∙ none)
@@ -213,14 +213,14 @@ module _ (g : Grid) (table : Option (List ℕ)) where
       AreStarted g table rows new n → AreLeft old new (suc n) → HaveStartsOf old new →
       FitFrom g table rows old (suc n) →
       from_first (fits rows) (behind_from n (choices rows old)) ≡ chosen (choices rows new) ∷ behind (choices rows new)
-  goes_on n [] old new row before after long even is was now next started left same slower = absurd (cc)
+  goes_on n [] old new row before after long even is was now next started left same slower = absurd (none-some row is)
   goes_on n (r ∷ rows) [] new row before after long even is was now next started left same slower = absurd (omega arith)
   goes_on n (r ∷ rows) (m ∷ old) [] row before after long even is was now next started left same slower =
       absurd (omega arith)
   goes_on zero (r ∷ rows) (m ∷ old) (o ∷ new) row before after long even is was now next started left same slower =
-      let e : r ≡ row = cc in
-      let d : m ≡ before = cc in
-      let f : o ≡ after = cc in
+      let e : r ≡ row = same_Some r row is in
+      let d : m ≡ before = same_Some m before was in
+      let f : o ≡ after = same_Some o after now in
       let rest : new ≡ old = same_elements new old (omega arith) (λ k. left (suc k) (omega arith)) in
       let others : List Choice = choices rows old in
       let c : Choice = choice_of g.height r m in

@@ -3,6 +3,7 @@ use Rattle.std.proofs.Common.{◌≡◌, ◌∙◌, ℕ, suc, zero, ◌<◌, ◌
 use Rattle.std.proofs.Common.{drop, fold, refl, sym, ap, ap₂, arith}
 use Rattle.std.specs.Prelude.{slice_get}
 use Rattle.std.proofs.lemmas.List.{drop_all}
+use Rattle.std.proofs.lemmas.Option.{none-some, same_Some}
 use Rattle.ps_match.specs.InRoom.{sides_of}
 use Rattle.ps_model.specs.board.Grid.{Grid}
 use Rattle.ps_model.specs.board.Attempts.{Rewritten, all_fit, applied, rewritten_along, rewritten_rows}
@@ -26,11 +27,11 @@ pub rewritten_more : (table : Option (List ℕ)) (height n m : ℕ) (rows : List
     slice_get rows n ≡ Some row → slice_get rooms n ≡ Some room → m ≡ suc n →
     rewritten_from table height rows rooms n r ≡ rewritten_from table height rows rooms m
     (rewritten_along r (cells_meaning table row.parts) (place_at height row room))
-rewritten_more table height n m [] rooms row room r is there next = absurd (cc)
-rewritten_more table height n m (x ∷ rows) [] row room r is there next = absurd (cc)
+rewritten_more table height n m [] rooms row room r is there next = absurd (none-some row is)
+rewritten_more table height n m (x ∷ rows) [] row room r is there next = absurd (none-some room there)
 rewritten_more table height zero m (x ∷ rows) (y ∷ rooms) row room r is there next =
-    let e : x ≡ row = cc in
-    let d : y ≡ room = cc in
+    let e : x ≡ row = same_Some x row is in
+    let d : y ≡ room = same_Some y room there in
     ap (λ (ms : List CellMeaning). rewritten_from table height rows rooms 0
     (rewritten_along r ms (place_at height x y))) (cells_in-meant table x.parts)
     ∙ ap₂ (λ (a : CompiledRow) (b : Room). rewritten_from table height rows rooms 0
