@@ -26,3 +26,4 @@ pub mod Idle
 pub mod Stirred
 pub mod TopicsKept
 pub mod Waking
+pub mod Within

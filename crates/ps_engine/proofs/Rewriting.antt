@@ -1,7 +1,8 @@
 -- The rows of a rule rewritten at the places that are chosen, row by row.
 use Rattle.std.proofs.Common.{◌≡◌, ◌∙◌, ℕ, suc, zero, ◌<◌, ◌≤◌, Bool, true, false, Option, Some, List, [], ◌∷◌, length}
 use Rattle.std.proofs.Common.{drop, fold, refl, sym, ap, ap₂, arith}
-use Rattle.std.specs.Prelude.{slice_get}
+use Rattle.std.specs.Prelude.{◌==◌, slice_get}
+use Rattle.std.proofs.lemmas.Bool.Decides.{nat_tests}
 use Rattle.std.proofs.lemmas.List.{drop_all}
 use Rattle.std.proofs.lemmas.Option.{none-some, same_Some}
 use Rattle.ps_match.specs.InRoom.{sides_of}
@@ -48,6 +49,13 @@ pub rewritten_end : (table : Option (List ℕ)) (height n : ℕ) (rows : List Co
 rewritten_end table height n rows rooms r h =
     ap (λ (rs : List CompiledRow). rewritten_rows r (rows_meaning table rs)
     (chosen (choices_of height rs (drop n rooms)))) (drop_all n rows h)
+
+-- a list that is empty or isn't, by the test of its length
+pub none_there : {X : Type 0} (xs : List X) → (length xs == 0) ≡ true → length xs ≤ 0
+none_there xs e = grind (arith, nat_tests)
+
+pub some_there : {X : Type 0} (xs : List X) → (length xs == 0) ≡ false → 0 < length xs
+some_there xs e = grind (arith, nat_tests)
 
 pub same_height : (now start : Grid) → sides_of now ≡ sides_of start → now.height ≡ start.height
 same_height now start same = ap (λ (s : ℕ × ℕ × ℕ). s.1) same

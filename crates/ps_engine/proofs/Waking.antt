@@ -2,7 +2,7 @@
 use Rattle.std.proofs.Common.{◌≡◌, ◌≢◌, ◌∙◌, ℕ, zero, suc, ◌+◌, ◌*◌, ◌<◌, ◌≤◌, ◌++◌, inl, inr, Bool, true}
 use Rattle.std.proofs.Common.{Option, Some, None, List, []}
 use Rattle.std.proofs.Common.{◌∷◌, length, get_or, refl, sym, ap, ap₂, subst, arith}
-use Rattle.std.specs.Prelude.{option_map, slice_get, slice_set}
+use Rattle.std.specs.Prelude.{All, option_map, slice_get, slice_set}
 use Rattle.std.specs.Option.{is_some}
 use Rattle.std.proofs.lemmas.Bool.{cases_eq, cases_lt, false≢true}
 use Rattle.std.proofs.lemmas.List.{get_or-set_other, get_or-set_same, get_or_append_left, get_or_default}
@@ -235,6 +235,12 @@ pub section_there : (sections others : List CompiledSection) (n : ℕ) (section 
     n < length others → section ≡ get_or sections n section → slice_get sections n ≡ Some section
 section_there sections others n section same low is =
     slice_get-get_or sections n section (omega (arith, low, ap length same)) ∙ ap Some (sym is)
+
+-- what holds of each element of a list holds of the one that stands at a place
+pub each_there : {X : Type 0} (P : X → Type 0) (xs others : List X) (n : ℕ) (x : X) → xs ≡ others → n < length others →
+    x ≡ get_or xs n x → All P others → P x
+each_there P xs others n x same low is all =
+    subst P (sym (is ∙ ap (λ (ys : List _). get_or ys n x) same)) (all n x low)
 
 pub found_at : {X : Type 0} (xs : List X) (n : ℕ) → n < length xs → (x : X) × (slice_get xs n ≡ Some x)
 found_at [] n low = absurd (omega (arith, low))

@@ -1,8 +1,11 @@
-use Rattle.std.proofs.Common.{◌≡◌, ◌∙◌, ℕ, ◌+◌, ◌<◌, ◌≤◌, List, false, get_or, length, refl, true, ap, arith, rules}
+use Rattle.std.proofs.Common.{◌≡◌, ◌∙◌, ℕ, ◌+◌, ◌<◌, ◌≤◌, List, false, get_or, length, refl, true, ap, arith}
+use Rattle.std.proofs.Common.{true≢false, sym, subst}
 use Rattle.std.proofs.lemmas.Option.{slice_get_read}
+use Rattle.std.proofs.lemmas.List.{length-set}
 use Rattle.ps_program.specs.declared.rows.CompiledRow.{CompiledRow}
 use Rattle.ps_engine.proofs.AskedRows.{more_places, some_combination}
 use Rattle.ps_engine.proofs.Combinations.{none_of_row}
+use Rattle.ps_engine.proofs.Within.{room_there}
 use Rattle.ps_engine.proofs.asking.rows_have_places.Goals as goal
 
 pub returns-then-not-row_has_place-clause-none : goal.returns-then-not-row_has_place-clause-none
@@ -12,7 +15,7 @@ returns-then-not-row_has_place-clause-none g c = λ e.
     let n : ℕ = c.loop-number.number in
     let rule = c.args.rule.now in
     let row : CompiledRow = c.index-rows-number.result in
-    let no : c.row_has_place.result ≡ false = search rules in
+    let no : c.row_has_place.result ≡ false = c.if-not-row_has_place.true in
     let low : n < length rule.rows = omega (arith, c.loop-number-test.true, ap length c.as_slice-rows.ensures) in
     let is : row ≡ get_or rule.rows n row = c.index-rows-number.is
     ∙ ap (λ (rs : List CompiledRow). get_or rs n row) c.as_slice-rows.ensures in
@@ -25,7 +28,7 @@ loop-number-preserved g c =
     let n : ℕ = c.loop-number.number in
     let rule = c.args.rule.now in
     let row : CompiledRow = c.index-rows-number.result in
-    let yes : c.row_has_place.result ≡ true = search rules in
+    let yes : c.row_has_place.result ≡ true = c.if-not-row_has_place.false in
     let low : n < length rule.rows = omega (arith, c.loop-number-test.true, ap length c.as_slice-rows.ensures) in
     let is : row ≡ get_or rule.rows n row = c.index-rows-number.is
     ∙ ap (λ (rs : List CompiledRow). get_or rs n row) c.as_slice-rows.ensures in
@@ -39,3 +42,28 @@ returns-clause-some g c = λ e.
     omega (arith, c.loop-number-test.false, ap length c.as_slice-rows.ensures) in
     some_combination (g.B.Board.grid c.args.board.now) (g.B.Board.table c.args.board.now) rule.axis rule.rows rule.along
     (λ k r low is. c.loop-number.invariant k r (omega (arith, low, passed)) is)
+
+pub loop-number-init : goal.loop-number-init
+loop-number-init g c = λ k row low is. absurd (omega (arith, low))
+
+pub returns-then-not-row_has_place-clause-some : goal.returns-then-not-row_has_place-clause-some
+returns-then-not-row_has_place-clause-some g c = λ e. absurd (true≢false (sym e))
+
+pub returns-then-not-row_has_place-clause-long : goal.returns-then-not-row_has_place-clause-long
+returns-then-not-row_has_place-clause-long g c =
+    length-set c.loop-number.rooms c.loop-number.number c.row_has_place.new.room ∙ c.loop-number.auto.rooms
+
+pub returns-clause-none : goal.returns-clause-none
+returns-clause-none g c = λ e. absurd (true≢false e)
+
+pub returns-clause-long : goal.returns-clause-long
+returns-clause-long g c = c.loop-number.auto.rooms
+
+pub bounds-rows-number : goal.bounds-rows-number
+bounds-rows-number g c = c.loop-number-test.true
+
+pub bounds-rooms-number : goal.bounds-rooms-number
+bounds-rooms-number g c =
+    room_there c.loop-number.number (length c.args.rule.now.rows) (length c.args.rooms.now) (length c.loop-number.rooms)
+    (subst (λ (rows : List CompiledRow). c.loop-number.number < length rows) c.as_slice-rows.ensures
+    c.loop-number-test.true) c.requires c.loop-number.auto.rooms

@@ -1,10 +1,11 @@
-use Rattle.std.proofs.Common.{◌≡◌, ◌∙◌, ℕ, true, false, Option, List, ◌∷◌, fold, sym, subst, ap, rules}
+use Rattle.std.proofs.Common.{◌≡◌, ◌∙◌, ℕ, true, false, Option, List, ◌∷◌, fold, sym, subst, ap, refl, length, arith}
 use Rattle.ps_model.specs.board.Grid.{Grid}
-use Rattle.ps_model.specs.board.Attempts.{Result, Rewritten, applied, combinations_on}
+use Rattle.ps_model.specs.board.Attempts.{Result, Rewritten, applied, combinations_on, all_fit}
 use Rattle.ps_model.specs.rules.SourceRules.{Commands}
 use Rattle.ps_program.specs.CommandsShown.{commands_shown}
 use Rattle.ps_program.specs.declared.rows.CompiledRow.{CompiledRow}
 use Rattle.ps_program.specs.Axes.{direction_of}
+use Rattle.ps_program.specs.Sleeping.{rows_sleep}
 use Rattle.ps_engine.specs.Choices.{Choice, behind, choices_of, chosen}
 use Rattle.ps_engine.specs.Choosing.{ArePlaced, HaveLinesOf, rows_meaning}
 use Rattle.ps_engine.specs.RulesInRoom.{rule_meaning}
@@ -16,20 +17,20 @@ returns-then-not-choose_first-clause-attempt g c =
     let grid : Grid = g.B.Board.grid c.args.board.now in
     let table : Option (List ℕ) = g.B.Board.table c.args.board.now in
     let rule = c.args.rule.now in
-    let no : c.choose_first.result ≡ false = search rules in
+    let no : c.choose_first.result ≡ false = c.if-not-choose_first.true in
     attempt_none (direction_of rule.axis) (rows_meaning table rule.rows) rule.rewrites
     (commands_shown rule.commands.now) grid c.args.queue.now
     (combinations_on grid (rule_meaning table rule)) (c.choose_first.ensures.none no)
 
 pub walk-requires-clause-lines : goal.walk-requires-clause-lines
 walk-requires-clause-lines g c =
-    let yes : c.choose_first.result ≡ true = search rules in
+    let yes : c.choose_first.result ≡ true = c.if-not-choose_first.false in
     subst (λ (rows : List CompiledRow). HaveLinesOf (g.B.Board.grid c.args.board.now) rows c.choose_first.new.rooms)
     (sym c.as_slice-rows.ensures) (c.choose_first.ensures.lines yes)
 
 pub walk-requires-clause-places : goal.walk-requires-clause-places
 walk-requires-clause-places g c =
-    let yes : c.choose_first.result ≡ true = search rules in
+    let yes : c.choose_first.result ≡ true = c.if-not-choose_first.false in
     subst (λ (rows : List CompiledRow). ArePlaced (g.B.Board.grid c.args.board.now) rows c.choose_first.new.rooms)
     (sym c.as_slice-rows.ensures) (c.choose_first.ensures.places yes)
 
@@ -38,7 +39,7 @@ returns-clause-attempt g c =
     let grid : Grid = g.B.Board.grid c.args.board.now in
     let table : Option (List ℕ) = g.B.Board.table c.args.board.now in
     let rule = c.args.rule.now in
-    let yes : c.choose_first.result ≡ true = search rules in
+    let yes : c.choose_first.result ≡ true = c.if-not-choose_first.false in
     let does : rule.rewrites ≡ true = c.requires.rewrites in
     let choices : List Choice = choices_of grid.height rule.rows c.choose_first.new.rooms in
     let all : combinations_on grid (rule_meaning table rule) ≡ chosen choices ∷ behind choices =
@@ -58,3 +59,40 @@ returns-clause-attempt g c =
     ∙ attempt_walked (direction_of rule.axis) (rows_meaning table rule.rows) rule.rewrites
     (commands_shown rule.commands.now) grid c.args.queue.now
     (combinations_on grid (rule_meaning table rule)) (chosen choices) (behind choices) after all does made
+
+pub choose_first-requires : goal.choose_first-requires
+choose_first-requires g c = c.requires.long
+
+pub returns-then-not-choose_first-clause-table : goal.returns-then-not-choose_first-clause-table
+returns-then-not-choose_first-clause-table g c = refl
+
+pub returns-then-not-choose_first-clause-sides : goal.returns-then-not-choose_first-clause-sides
+returns-then-not-choose_first-clause-sides g c = refl
+
+pub returns-then-not-choose_first-clause-rooms : goal.returns-then-not-choose_first-clause-rooms
+returns-then-not-choose_first-clause-rooms g c = c.choose_first.ensures.long
+
+pub walk-requires-clause-asleep : goal.walk-requires-clause-asleep
+walk-requires-clause-asleep g c = λ sleeps.
+    subst (λ (rows : List CompiledRow). rows_sleep rows ≡ true) (sym c.as_slice-rows.ensures)
+    (c.args.rule.now.asleep sleeps)
+
+pub walk-requires-clause-long : goal.walk-requires-clause-long
+walk-requires-clause-long g c =
+    omega (arith, c.requires.long, c.choose_first.ensures.long, ap length c.as_slice-rows.ensures)
+
+pub walk-requires-clause-fit : goal.walk-requires-clause-fit
+walk-requires-clause-fit g c =
+    let grid : Grid = g.B.Board.grid c.args.board.now in
+    subst (λ (rows : List CompiledRow). all_fit grid (rows_meaning (g.B.Board.table c.args.board.now) rows)
+    (chosen (choices_of grid.height rows c.choose_first.new.rooms)) ≡ true) (sym c.as_slice-rows.ensures)
+    (c.choose_first.ensures.fit c.if-not-choose_first.false)
+
+pub returns-clause-table : goal.returns-clause-table
+returns-clause-table g c = c.walk.ensures.table
+
+pub returns-clause-sides : goal.returns-clause-sides
+returns-clause-sides g c = c.walk.ensures.sides
+
+pub returns-clause-rooms : goal.returns-clause-rooms
+returns-clause-rooms g c = c.walk.ensures.long ∙ c.choose_first.ensures.long

@@ -1,10 +1,12 @@
 use Rattle.std.proofs.Common.{◌≡◌, ◌∙◌, ℕ, ◌+◌, ◌<◌, ◌≤◌, Option, List, false, true, get_or, length, refl, ap, arith}
-use Rattle.std.proofs.Common.{rules}
+use Rattle.std.proofs.Common.{true≢false, sym, subst}
 use Rattle.std.proofs.lemmas.Option.{slice_get_read, slice_get_within}
+use Rattle.std.proofs.lemmas.List.{length-set}
 use Rattle.ps_model.specs.board.Grid.{Grid}
 use Rattle.ps_program.specs.declared.rows.CompiledRow.{CompiledRow}
 use Rattle.ps_places.specs.Room.{Room}
 use Rattle.ps_engine.proofs.Combinations.{HasFirst, all_combinations, first_fits, first_more, is_first, none_first}
+use Rattle.ps_engine.proofs.Within.{room_there}
 use Rattle.ps_engine.proofs.attempts.choose_first.Goals as goal
 
 pub returns-then-not-first_place-clause-none : goal.returns-then-not-first_place-clause-none
@@ -15,7 +17,7 @@ returns-then-not-first_place-clause-none g c = λ e.
     let rule = c.args.rule.now in
     let row : CompiledRow = c.index-rows-number.result in
     let found : Room = c.find_starts.new.room in
-    let no : c.first_place.result ≡ false = search rules in
+    let no : c.first_place.result ≡ false = c.if-not-first_place.true in
     let low : n < length rule.rows = omega (arith, c.loop-number-test.true, ap length c.as_slice-rows.ensures) in
     let inside : n < length c.loop-number.rooms = omega (arith, low, c.requires, c.loop-number.auto.rooms) in
     let is : row ≡ get_or rule.rows n row =
@@ -31,7 +33,7 @@ loop-number-preserved g c =
     let rule = c.args.rule.now in
     let row : CompiledRow = c.index-rows-number.result in
     let found : Room = c.find_starts.new.room in
-    let yes : c.first_place.result ≡ true = search rules in
+    let yes : c.first_place.result ≡ true = c.if-not-first_place.false in
     let low : n < length rule.rows = omega (arith, c.loop-number-test.true, ap length c.as_slice-rows.ensures) in
     let inside : n < length c.loop-number.rooms = omega (arith, low, c.requires, c.loop-number.auto.rooms) in
     let is : row ≡ get_or rule.rows n row =
@@ -83,3 +85,40 @@ returns-clause-places g c = λ e k r o low is there.
     let passed : length rule.rows ≤ c.loop-number.number =
     omega (arith, c.loop-number-test.false, ap length c.as_slice-rows.ensures) in
     (c.loop-number.invariant k r o (omega (arith, passed, slice_get_within rule.rows k r is)) is there).place
+
+pub loop-number-init : goal.loop-number-init
+loop-number-init g c = λ k row room low is there. absurd (omega (arith, low))
+
+pub returns-then-not-first_place-clause-found : goal.returns-then-not-first_place-clause-found
+returns-then-not-first_place-clause-found g c = λ e. absurd (true≢false (sym e))
+
+pub returns-then-not-first_place-clause-fit : goal.returns-then-not-first_place-clause-fit
+returns-then-not-first_place-clause-fit g c = λ e. absurd (true≢false (sym e))
+
+pub returns-then-not-first_place-clause-lines : goal.returns-then-not-first_place-clause-lines
+returns-then-not-first_place-clause-lines g c = λ e. absurd (true≢false (sym e))
+
+pub returns-then-not-first_place-clause-places : goal.returns-then-not-first_place-clause-places
+returns-then-not-first_place-clause-places g c = λ e. absurd (true≢false (sym e))
+
+pub returns-then-not-first_place-clause-long : goal.returns-then-not-first_place-clause-long
+returns-then-not-first_place-clause-long g c =
+    length-set c.loop-number.rooms c.loop-number.number c.first_place.new.self ∙ c.loop-number.auto.rooms
+
+pub returns-clause-none : goal.returns-clause-none
+returns-clause-none g c = λ e. absurd (true≢false e)
+
+pub returns-clause-long : goal.returns-clause-long
+returns-clause-long g c = c.loop-number.auto.rooms
+
+pub bounds-rows-number : goal.bounds-rows-number
+bounds-rows-number g c = c.loop-number-test.true
+
+pub first_place-requires : goal.first_place-requires
+first_place-requires g c = c.find_starts.ensures.lines
+
+pub bounds-rooms-number : goal.bounds-rooms-number
+bounds-rooms-number g c =
+    room_there c.loop-number.number (length c.args.rule.now.rows) (length c.args.rooms.now) (length c.loop-number.rooms)
+    (subst (λ (rows : List CompiledRow). c.loop-number.number < length rows) c.as_slice-rows.ensures
+    c.loop-number-test.true) c.requires c.loop-number.auto.rooms

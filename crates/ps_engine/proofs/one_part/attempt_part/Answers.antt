@@ -1,4 +1,6 @@
-use Rattle.std.proofs.Common.{◌≡◌, ◌∙◌, ℕ, true, false, Option, List, [], ◌∷◌, map, fold, sym, ap, rules}
+use Rattle.std.proofs.Common.{◌≡◌, ◌∙◌, ℕ, true, false, Option, List, [], ◌∷◌, map, fold, sym, ap, refl, length, arith}
+use Rattle.std.proofs.Common.{subst}
+use Rattle.std.proofs.lemmas.List.{length-set}
 use Rattle.ps_model.specs.declared.pieces.Direction.{Direction}
 use Rattle.ps_model.specs.board.Grid.{Grid}
 use Rattle.ps_model.specs.board.Places.{places}
@@ -9,9 +11,10 @@ use Rattle.ps_program.specs.CommandsShown.{commands_shown}
 use Rattle.ps_program.specs.Axes.{direction_of}
 use Rattle.ps_program.specs.declared.rows.Axis.{Axis}
 use Rattle.ps_places.specs.Lines.{part_meaning}
+use Rattle.ps_places.specs.PartStarts.{AreStarts}
 use Rattle.ps_engine.specs.Choosing.{rows_meaning}
-use Rattle.ps_engine.proofs.Attempting.{attempt_none, attempt_part-written, none_alone, only_part_meant}
-use Rattle.ps_engine.proofs.Attempting.{unchanged}
+use Rattle.ps_engine.proofs.Attempting.{attempt_none, attempt_part-written, none_alone, only_part_meant, unchanged}
+use Rattle.ps_engine.proofs.Within.{part_room}
 use Rattle.ps_engine.proofs.one_part.attempt_part.Goals as goal
 
 pub returns-then-is_empty-clause-attempt : goal.returns-then-is_empty-clause-attempt
@@ -23,7 +26,7 @@ returns-then-is_empty-clause-attempt g c =
     let meant : List (List (List CellMeaning)) = rows_meaning table rule.rows in
     let m : List CellMeaning = part_meaning table c.args.part.now in
     let only : meant ≡ (m ∷ []) ∷ [] = only_part_meant table rule.rows c.args.part.now c.requires.only in
-    let empty : c.is_empty.result ≡ true = search rules in
+    let empty : c.is_empty.result ≡ true = c.if-is_empty.true in
     let none : places grid direction (m ∷ []) ≡ [] = c.find_part-starts.ensures.none (c.is_empty.ensures.none empty) in
     attempt_none direction meant rule.rewrites (commands_shown rule.commands.now) grid c.args.queue.now
     (combinations (map (places grid direction) meant))
@@ -36,7 +39,7 @@ returns-then-lie_alone-clause-attempt g c =
     let table : Option (List ℕ) = g.B.Board.table c.args.board.now in
     let rule = c.args.rule.now in
     let direction : Direction = direction_of rule.axis in
-    let filled : c.is_empty.result ≡ false = search rules in
+    let filled : c.is_empty.result ≡ false = c.if-is_empty.false in
     let board : Grid = g.B.Board.grid c.rewrite_places.new.board in
     let after : Rewritten = record { grid = board; changed = c.rewrite_places.result } in
     ap (λ (q : Commands). let r : Result = record {
@@ -55,7 +58,7 @@ returns-in-Down-clause-attempt g c =
     let rule = c.args.rule.now in
     let direction : Direction = direction_of rule.axis in
     let m : List CellMeaning = part_meaning table c.args.part.now in
-    let filled : c.is_empty.result ≡ false = search rules in
+    let filled : c.is_empty.result ≡ false = c.if-is_empty.false in
     let board : Grid = g.B.Board.grid c.rewrite_in_turn.new.board in
     let after : Rewritten = record { grid = board; changed = c.rewrite_in_turn.result } in
     ap (λ (q : Commands). let r : Result = record {
@@ -69,3 +72,72 @@ returns-in-Down-clause-attempt g c =
     (c.rewrite_in_turn.ensures.rewritten
     ∙ ap (λ (axis : Axis). fold (applied ((m ∷ []) ∷ [])) (unchanged grid)
     (combinations (places grid (direction_of axis) (m ∷ []) ∷ []))) (sym c.in-Down.is))
+
+pub returns-then-is_empty-clause-table : goal.returns-then-is_empty-clause-table
+returns-then-is_empty-clause-table g c = refl
+
+pub returns-then-is_empty-clause-sides : goal.returns-then-is_empty-clause-sides
+returns-then-is_empty-clause-sides g c = refl
+
+pub returns-then-is_empty-clause-rooms : goal.returns-then-is_empty-clause-rooms
+returns-then-is_empty-clause-rooms g c = length-set c.args.rooms.now 0 c.find_part-starts.new.self
+
+pub returns-then-lie_alone-clause-table : goal.returns-then-lie_alone-clause-table
+returns-then-lie_alone-clause-table g c = c.rewrite_places.ensures.table
+
+pub returns-in-Down-clause-table : goal.returns-in-Down-clause-table
+returns-in-Down-clause-table g c = c.rewrite_in_turn.ensures.table
+
+pub returns-then-lie_alone-clause-sides : goal.returns-then-lie_alone-clause-sides
+returns-then-lie_alone-clause-sides g c = c.rewrite_places.ensures.sides
+
+pub returns-in-Down-clause-sides : goal.returns-in-Down-clause-sides
+returns-in-Down-clause-sides g c = c.rewrite_in_turn.ensures.sides
+
+pub rewrite_places-requires-clause-whole : goal.rewrite_places-requires-clause-whole
+rewrite_places-requires-clause-whole g c = c.requires.whole
+
+pub rewrite_places-requires-clause-starts : goal.rewrite_places-requires-clause-starts
+rewrite_places-requires-clause-starts g c = c.find_part-starts.ensures.starts
+
+pub rewrite_places-requires-clause-alone : goal.rewrite_places-requires-clause-alone
+rewrite_places-requires-clause-alone g c = c.lie_alone.ensures c.if-lie_alone.true
+
+pub returns-then-lie_alone-clause-rooms : goal.returns-then-lie_alone-clause-rooms
+returns-then-lie_alone-clause-rooms g c = length-set c.args.rooms.now 0 c.find_part-starts.new.self
+
+pub rewrite_in_turn-requires-clause-whole : goal.rewrite_in_turn-requires-clause-whole
+rewrite_in_turn-requires-clause-whole g c = c.requires.whole
+
+pub rewrite_in_turn-requires-clause-starts : goal.rewrite_in_turn-requires-clause-starts
+rewrite_in_turn-requires-clause-starts g c =
+    subst (λ (axis : Axis). AreStarts (g.B.Board.grid c.args.board.now) (g.B.Board.table c.args.board.now) axis
+    c.args.part.now c.find_part-starts.result c.find_part-starts.new.self.starts.items) c.in-Down.is
+    c.find_part-starts.ensures.starts
+
+pub attempt_rows-requires-clause-long : goal.attempt_rows-requires-clause-long
+attempt_rows-requires-clause-long g c =
+    omega (arith, c.requires.rooms, length-set c.args.rooms.now 0 c.find_part-starts.new.self)
+
+pub attempt_rows-requires-clause-rewrites : goal.attempt_rows-requires-clause-rewrites
+attempt_rows-requires-clause-rewrites g c = c.requires.rewrites
+
+pub returns-in-Down-clause-rooms : goal.returns-in-Down-clause-rooms
+returns-in-Down-clause-rooms g c = length-set c.args.rooms.now 0 c.find_part-starts.new.self
+
+pub returns-in-Right-clause-rooms : goal.returns-in-Right-clause-rooms
+returns-in-Right-clause-rooms g c =
+    c.attempt_rows.ensures.rooms ∙ length-set c.args.rooms.now 0 c.find_part-starts.new.self
+
+pub returns-in-Right-clause-attempt : goal.returns-in-Right-clause-attempt
+returns-in-Right-clause-attempt g c = c.attempt_rows.ensures.attempt
+
+pub returns-in-Right-clause-table : goal.returns-in-Right-clause-table
+returns-in-Right-clause-table g c = c.attempt_rows.ensures.table
+
+pub returns-in-Right-clause-sides : goal.returns-in-Right-clause-sides
+returns-in-Right-clause-sides g c = c.attempt_rows.ensures.sides
+
+pub bounds-rooms-0 : goal.bounds-rooms-0
+bounds-rooms-0 g c =
+    part_room c.args.rule.now.rows c.args.part.now (length c.args.rooms.now) c.requires.only c.requires.rooms

@@ -1,4 +1,5 @@
-use Rattle.std.proofs.Common.{◌∙◌, Option, List, ℕ, [], ◌∷◌, map, ap}
+use Rattle.std.proofs.Common.{◌∙◌, Option, List, ℕ, [], ◌∷◌, map, ap, refl, length}
+use Rattle.std.proofs.lemmas.List.{length-set}
 use Rattle.ps_model.specs.declared.pieces.Direction.{Direction}
 use Rattle.ps_model.specs.board.Grid.{Grid}
 use Rattle.ps_model.specs.board.Places.{places}
@@ -7,6 +8,7 @@ use Rattle.ps_model.specs.meaning.RuleMeanings.{CellMeaning}
 use Rattle.ps_program.specs.Axes.{direction_of}
 use Rattle.ps_places.specs.Lines.{part_meaning}
 use Rattle.ps_engine.proofs.Attempting.{none_alone, only_part_meant}
+use Rattle.ps_engine.proofs.Within.{part_room}
 use Rattle.ps_engine.proofs.one_part.is_idle_part.Goals as goal
 
 pub returns-then-begins_nowhere-clause-idle : goal.returns-then-begins_nowhere-clause-idle
@@ -30,3 +32,13 @@ returns-clause-idle g c = λ empty.
     ap (λ (rows : List (List (List CellMeaning))). combinations (map (places grid direction) rows))
     (only_part_meant table rule.rows c.args.part.now c.requires.only)
     ∙ none_alone (places grid direction (m ∷ [])) (c.find_part.ensures.none (c.is_empty.ensures.none empty))
+
+pub returns-then-begins_nowhere-clause-long : goal.returns-then-begins_nowhere-clause-long
+returns-then-begins_nowhere-clause-long g c = refl
+
+pub returns-clause-long : goal.returns-clause-long
+returns-clause-long g c = length-set c.args.rooms.now 0 c.find_part.new.self
+
+pub bounds-rooms-0 : goal.bounds-rooms-0
+bounds-rooms-0 g c =
+    part_room c.args.rule.now.rows c.args.part.now (length c.args.rooms.now) c.requires.only c.requires.rooms

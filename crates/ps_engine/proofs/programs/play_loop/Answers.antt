@@ -1,11 +1,13 @@
-use Rattle.std.proofs.Common.{◌≡◌, ◌∙◌, ℕ, ◌-◌, suc, Bool, true, false, List, Option, sym, ap, refl, arith, rules}
+use Rattle.std.proofs.Common.{◌≡◌, ◌∙◌, ℕ, ◌-◌, suc, Bool, true, false, List, Option, sym, ap, refl, arith, subst}
 use Rattle.std.proofs.lemmas.Bool.{false≢true}
+use Rattle.std.proofs.lemmas.Result.{IfOk-from_err}
 use Rattle.ps_model.specs.board.Attempts.{State, Result}
 use Rattle.ps_model.specs.board.Programs.{Progress, looped, pass}
 use Rattle.ps_model.specs.meaning.RuleMeanings.{RuleMeaning}
 use Rattle.ps_engine.specs.RulesInRoom.{groups_meaning}
+use Rattle.ps_engine.specs.Rooms.{GroupsHaveRooms}
 use Rattle.ps_engine.proofs.ComingBack.{IsStep, keeps_on, rest_is}
-use Rattle.ps_engine.proofs.Sequences.{looped_off, looped_on}
+use Rattle.ps_engine.proofs.Sequences.{looped_off, looped_on, looped_stop}
 use Rattle.ps_engine.proofs.programs.play_loop.Goals as goal
 
 pub loop-again-init : goal.loop-again-init
@@ -23,9 +25,8 @@ returns-then-not-again-clause-looped g c =
     let meant : List (List RuleMeaning) = groups_meaning table c.args.groups.now in
     let now : State = record { grid = g.B.Board.grid c.loop-again.board; queue = c.loop-again.queue } in
     let next : State = record { grid = g.B.Board.grid c.pass.new.board; queue = c.pass.new.queue } in
-    let off : c.in_ok-again.again ≡ false = search rules in
     let made : (let r : Result = record { state = next; changed = false } in r) ≡ pass meant now =
-    ap (λ (b : Bool). let r : Result = record { state = next; changed = b } in r) (sym off)
+    ap (λ (b : Bool). let r : Result = record { state = next; changed = b } in r) (sym c.if-not-again.true)
     ∙ c.in_ok-again.ensures.pass
     ∙ ap (λ (t : Option (List ℕ)). pass (groups_meaning t c.args.groups.now) now) c.loop-again.invariant.table in
     looped_off meant c.loop-again.left now next made ∙ c.loop-again.invariant.looped
@@ -37,9 +38,8 @@ loop-again-preserved g c =
     let now : State = record { grid = g.B.Board.grid c.loop-again.board; queue = c.loop-again.queue } in
     let next : State = record { grid = g.B.Board.grid c.pass.new.board; queue = c.pass.new.queue } in
     let run : ℕ → State → Progress = looped meant in
-    let on : c.in_ok-again.again ≡ true = search rules in
     let made : (let r : Result = record { state = next; changed = true } in r) ≡ pass meant now =
-    ap (λ (b : Bool). let r : Result = record { state = next; changed = b } in r) (sym on)
+    ap (λ (b : Bool). let r : Result = record { state = next; changed = b } in r) (sym c.if-not-again.false)
     ∙ c.in_ok-again.ensures.pass
     ∙ ap (λ (t : Option (List ℕ)). pass (groups_meaning t c.args.groups.now) now) c.loop-again.invariant.table in
     let step : IsStep run now next = λ n. sym (looped_on meant (suc n) now next n (omega arith) made) in
@@ -55,3 +55,77 @@ loop-again-preserved g c =
       keeps = keeps_on run watch c.step.new.self kept c.step.new.kept now next step c.loop-again.invariant.keeps
           c.in_ok-left.ensures.goes;
     }
+
+pub returns-in_err-again-clause-looped : goal.returns-in_err-again-clause-looped
+returns-in_err-again-clause-looped g c = IfOk-from_err c.from_residual.result _ c.from_residual.ensures.0
+
+pub returns-in_err-left-clause-looped : goal.returns-in_err-left-clause-looped
+returns-in_err-left-clause-looped g c =
+    IfOk-from_err c.from_residual-in_err-left.result _ c.from_residual-in_err-left.ensures.0
+
+pub returns-in_err-again-clause-changed : goal.returns-in_err-again-clause-changed
+returns-in_err-again-clause-changed g c =
+    IfOk-from_err c.from_residual.result (λ left. left.changed ≡ true) c.from_residual.ensures.0
+
+pub returns-in_err-left-clause-changed : goal.returns-in_err-left-clause-changed
+returns-in_err-left-clause-changed g c =
+    IfOk-from_err c.from_residual-in_err-left.result (λ left. left.changed ≡ true)
+    c.from_residual-in_err-left.ensures.0
+
+pub returns-then-not-again-clause-changed : goal.returns-then-not-again-clause-changed
+returns-then-not-again-clause-changed g c = refl
+
+pub returns-then-left-eq0-clause-changed : goal.returns-then-left-eq0-clause-changed
+returns-then-left-eq0-clause-changed g c = refl
+
+pub returns-then-left-eq0-clause-looped : goal.returns-then-left-eq0-clause-looped
+returns-then-left-eq0-clause-looped g c =
+    let table : Option (List ℕ) = g.B.Board.table c.args.board.now in
+    let meant : List (List RuleMeaning) = groups_meaning table c.args.groups.now in
+    let now : State = record { grid = g.B.Board.grid c.loop-again.board; queue = c.loop-again.queue } in
+    let next : State = record { grid = g.B.Board.grid c.pass.new.board; queue = c.pass.new.queue } in
+    let made : (let r : Result = record { state = next; changed = true } in r) ≡ pass meant now =
+    ap (λ (b : Bool). let r : Result = record { state = next; changed = b } in r) (sym c.if-not-again.false)
+    ∙ c.in_ok-again.ensures.pass
+    ∙ ap (λ (t : Option (List ℕ)). pass (groups_meaning t c.args.groups.now) now) c.loop-again.invariant.table in
+    looped_stop meant c.loop-again.left now next c.if-left-eq0.true made ∙ c.loop-again.invariant.looped
+
+pub pass-requires : goal.pass-requires
+pass-requires g c =
+    subst (λ (count : ℕ). GroupsHaveRooms count c.args.groups.now) (sym c.loop-again.auto.rooms) c.requires
+
+pub returns-then-not-again-clause-rooms : goal.returns-then-not-again-clause-rooms
+returns-then-not-again-clause-rooms g c = c.in_ok-again.ensures.rooms ∙ c.loop-again.auto.rooms
+
+pub returns-in_err-again-clause-table : goal.returns-in_err-again-clause-table
+returns-in_err-again-clause-table g c = c.in_err-again.ensures.table ∙ c.loop-again.invariant.table
+
+pub returns-in_err-left-clause-table : goal.returns-in_err-left-clause-table
+returns-in_err-left-clause-table g c = c.in_ok-again.ensures.table ∙ c.loop-again.invariant.table
+
+pub returns-then-left-eq0-clause-table : goal.returns-then-left-eq0-clause-table
+returns-then-left-eq0-clause-table g c = c.in_ok-again.ensures.table ∙ c.loop-again.invariant.table
+
+pub returns-then-not-again-clause-table : goal.returns-then-not-again-clause-table
+returns-then-not-again-clause-table g c = c.in_ok-again.ensures.table ∙ c.loop-again.invariant.table
+
+pub returns-in_err-again-clause-sides : goal.returns-in_err-again-clause-sides
+returns-in_err-again-clause-sides g c = c.in_err-again.ensures.sides ∙ c.loop-again.invariant.sides
+
+pub returns-in_err-left-clause-sides : goal.returns-in_err-left-clause-sides
+returns-in_err-left-clause-sides g c = c.in_ok-again.ensures.sides ∙ c.loop-again.invariant.sides
+
+pub returns-then-left-eq0-clause-sides : goal.returns-then-left-eq0-clause-sides
+returns-then-left-eq0-clause-sides g c = c.in_ok-again.ensures.sides ∙ c.loop-again.invariant.sides
+
+pub returns-then-not-again-clause-sides : goal.returns-then-not-again-clause-sides
+returns-then-not-again-clause-sides g c = c.in_ok-again.ensures.sides ∙ c.loop-again.invariant.sides
+
+pub returns-then-left-eq0-clause-rooms : goal.returns-then-left-eq0-clause-rooms
+returns-then-left-eq0-clause-rooms g c = c.in_ok-again.ensures.rooms ∙ c.loop-again.auto.rooms
+
+pub returns-in_err-left-clause-rooms : goal.returns-in_err-left-clause-rooms
+returns-in_err-left-clause-rooms g c = c.in_ok-again.ensures.rooms ∙ c.loop-again.auto.rooms
+
+pub returns-in_err-again-clause-rooms : goal.returns-in_err-again-clause-rooms
+returns-in_err-again-clause-rooms g c = c.in_err-again.ensures.rooms ∙ c.loop-again.auto.rooms

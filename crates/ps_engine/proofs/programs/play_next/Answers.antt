@@ -1,11 +1,13 @@
-use Rattle.std.proofs.Common.{◌≡◌, ◌∙◌, ℕ, IfOk, List, get_or, ap, subst}
+use Rattle.std.proofs.Common.{◌≡◌, ◌∙◌, ℕ, IfOk, List, get_or, length, refl, sym, ap, subst, ◌<◌, rules}
 use Rattle.std.proofs.lemmas.Option.{get_or_from_slice_get}
 use Rattle.ps_model.specs.board.Attempts.{State}
 use Rattle.ps_model.specs.board.Programs.{Progress, section_run}
 use Rattle.ps_program.specs.declared.program.CompiledSection.{CompiledSection}
+use Rattle.ps_engine.specs.Rooms.{SectionHasRooms}
 use Rattle.ps_engine.specs.RulesInRoom.{section_meaning}
 use Rattle.ps_engine.specs.Watched.{Watching}
 use Rattle.ps_engine.proofs.Idle.{section_still}
+use Rattle.ps_engine.proofs.Waking.{each_there}
 use Rattle.ps_engine.proofs.programs.play_next.Goals as goal
 
 pub returns-then-passes-clause-section : goal.returns-then-passes-clause-section
@@ -32,3 +34,63 @@ returns-clause-section g c = λ section at.
     (let p : Progress = record { state = after; repeats = left.repeats; stopped = left.stopped } in p)
     ≡ section_run (section_meaning (g.B.Board.table c.args.board.now) s) c.args.repeats before)) own
     c.play_section.ensures.section
+
+pub passes-requires-clause-number : goal.passes-requires-clause-number
+passes-requires-clause-number g c = c.requires.number
+
+pub passes-requires-clause-rooms : goal.passes-requires-clause-rooms
+passes-requires-clause-rooms g c = c.requires.rooms
+
+pub passes-requires-clause-same : goal.passes-requires-clause-same
+passes-requires-clause-same g c = c.requires.same
+
+pub returns-then-passes-clause-unchanged : goal.returns-then-passes-clause-unchanged
+returns-then-passes-clause-unchanged g c = λ off. refl
+
+pub returns-then-passes-clause-table : goal.returns-then-passes-clause-table
+returns-then-passes-clause-table g c = refl
+
+pub returns-then-passes-clause-sides : goal.returns-then-passes-clause-sides
+returns-then-passes-clause-sides g c = refl
+
+pub returns-then-passes-clause-rooms : goal.returns-then-passes-clause-rooms
+returns-then-passes-clause-rooms g c = c.passes.ensures.rooms
+
+pub returns-then-passes-clause-program : goal.returns-then-passes-clause-program
+returns-then-passes-clause-program g c = c.passes.ensures.program
+
+pub play_section-requires : goal.play_section-requires
+play_section-requires g c =
+    subst (λ (count : ℕ). SectionHasRooms count c.index-sections-number.result) (sym c.passes.ensures.rooms)
+    (each_there (SectionHasRooms (length c.args.rooms.now)) c.sections-sections.result.now
+    c.args.program.now.sections c.args.number c.index-sections-number.result
+    (c.sections-sections.ensures ∙ ap (λ (w : Watching). w.sections) c.passes.ensures.program) c.requires.number
+    c.index-sections-number.is c.requires.rooms)
+
+pub returns-clause-unchanged : goal.returns-clause-unchanged
+returns-clause-unchanged g c = c.play_section.ensures.unchanged
+
+pub returns-clause-table : goal.returns-clause-table
+returns-clause-table g c = c.play_section.ensures.table
+
+pub returns-clause-sides : goal.returns-clause-sides
+returns-clause-sides g c = c.play_section.ensures.sides
+
+pub returns-clause-rooms : goal.returns-clause-rooms
+returns-clause-rooms g c = c.play_section.ensures.rooms ∙ c.passes.ensures.rooms
+
+pub returns-clause-program : goal.returns-clause-program
+returns-clause-program g c = c.passes.ensures.program
+
+pub bounds-sections-number : goal.bounds-sections-number
+bounds-sections-number g c =
+    subst (λ (sections : List CompiledSection). c.args.number < length sections)
+    (sym (c.sections-sections.ensures ∙ ap (λ (w : Watching). w.sections) c.passes.ensures.program)) c.requires.number
+
+pub offset_bounds-sections-number : goal.offset_bounds-sections-number
+offset_bounds-sections-number g c =
+    let low : c.args.number < length c.sections-sections.result.now =
+    subst (λ (sections : List CompiledSection). c.args.number < length sections)
+    (sym (c.sections-sections.ensures ∙ ap (λ (w : Watching). w.sections) c.passes.ensures.program))
+    c.requires.number in
+    search rules

@@ -1,10 +1,12 @@
-use Rattle.std.proofs.Common.{◌≡◌, ◌∙◌, Bool, Option, List, ℕ, true, false, refl, sym, ap}
+use Rattle.std.proofs.Common.{◌≡◌, ◌∙◌, Bool, Option, List, ℕ, true, false, refl, sym, ap, length, subst}
 use Rattle.ps_model.specs.declared.limits.TheConstants.{REPEAT_LIMIT}
 use Rattle.ps_model.specs.board.Attempts.{State}
 use Rattle.ps_model.specs.board.Programs.{Progress, section_run}
 use Rattle.ps_program.specs.declared.program.CompiledSection.{CompiledSection}
 use Rattle.ps_engine.specs.RulesInRoom.{section_meaning, sections_meaning}
+use Rattle.ps_engine.specs.Rooms.{SectionHasRooms, SectionsHaveRooms}
 use Rattle.ps_engine.proofs.Sequences.{program_is, sections_end, sections_on, sections_stop}
+use Rattle.ps_engine.proofs.Waking.{each_there}
 use Rattle.ps_engine.proofs.programs.play_sections.Goals as goal
 
 pub loop-section-init : goal.loop-section-init
@@ -53,12 +55,19 @@ returns-then-left-clause-run g c =
     ∙ ap (λ (t : Option (List ℕ)). section_run (section_meaning t section) c.loop-section.repeats now)
     c.loop-section.invariant.table in
     sections_stop (section_meaning table) c.args.sections.now c.loop-section.section-index section
-        c.loop-section.repeats left.repeats now next c.loop-section-test.true c.section-item.is made
+    c.loop-section.repeats left.repeats now next c.loop-section-test.true c.section-item.is made
     ∙ c.loop-section.invariant.run
 
 pub returns-clause-run : goal.returns-clause-run
 returns-clause-run g c =
     sections_end (section_meaning (g.B.Board.table c.args.board.now)) c.args.sections.now c.loop-section.section-index
-        c.loop-section.repeats (record { grid = g.B.Board.grid c.loop-section.board; queue = c.loop-section.queue })
-        c.loop-section-test.false
+    c.loop-section.repeats (record { grid = g.B.Board.grid c.loop-section.board; queue = c.loop-section.queue })
+    c.loop-section-test.false
     ∙ c.loop-section.invariant.run
+
+pub play_section-requires : goal.play_section-requires
+play_section-requires g c =
+    let sections : List CompiledSection = c.args.sections.now in
+    each_there (SectionHasRooms (length c.loop-section.rooms)) sections sections c.loop-section.section-index
+    c.section-item.result refl c.loop-section-test.true c.section-item.is
+    (subst (λ (count : ℕ). SectionsHaveRooms count sections) (sym c.loop-section.auto.rooms) c.requires)

@@ -1,7 +1,8 @@
-use Rattle.std.proofs.Common.{◌≡◌, ◌∙◌, ℕ, ◌<◌, Bool, true, false, Option, List, length, refl, sym, ap}
-use Rattle.std.proofs.Common.{subst, arith}
+use Rattle.std.proofs.Common.{◌≡◌, ◌∙◌, ℕ, ◌<◌, Bool, true, false, Option, List, length, refl, sym, ap, subst, arith}
+use Rattle.std.proofs.Common.{Some, ◌≤◌}
 use Rattle.std.specs.Prelude.{slice_get}
-use Rattle.std.proofs.lemmas.Option.{get_or_from_slice_get}
+use Rattle.std.proofs.lemmas.Option.{get_or_from_slice_get, same_Some}
+use Rattle.std.proofs.lemmas.Result.{IfOk-from_err}
 use Rattle.ps_model.specs.declared.limits.TheConstants.{REPEAT_LIMIT}
 use Rattle.ps_model.specs.board.Grid.{Grid}
 use Rattle.ps_model.specs.board.Attempts.{State}
@@ -10,7 +11,9 @@ use Rattle.ps_program.specs.declared.program.CompiledSection.{CompiledSection}
 use Rattle.ps_match.specs.Topics.{DifferOnlyAbout}
 use Rattle.ps_engine.specs.RulesInRoom.{section_meaning, sections_meaning}
 use Rattle.ps_engine.specs.Watched.{Watching}
-use Rattle.ps_engine.proofs.Sequences.{program_is, sections_on, sections_stop}
+use Rattle.ps_engine.specs.Rooms.{SectionsHaveRooms}
+use Rattle.ps_engine.specs.Waking.{IsSameBut}
+use Rattle.ps_engine.proofs.Sequences.{program_is, sections_end, sections_on, sections_stop}
 use Rattle.ps_engine.proofs.Stirred.{differ_none}
 use Rattle.ps_engine.proofs.Waking.{found_at}
 use Rattle.ps_engine.proofs.programs.play_watched.Goals as goal
@@ -92,3 +95,77 @@ loop-number-preserved g c =
       ];
       program = program;
     }
+
+pub play_next-requires-clause-number : goal.play_next-requires-clause-number
+play_next-requires-clause-number g c =
+    subst (λ (sections : List CompiledSection). c.loop-number.number < length sections)
+    (c.sections-number-end.ensures ∙ sym (ap (λ (w : Watching). w.sections) c.loop-number.invariant.program))
+    c.loop-number-test.true
+
+pub play_next-requires-clause-rooms : goal.play_next-requires-clause-rooms
+play_next-requires-clause-rooms g c =
+    subst (λ (count : ℕ). SectionsHaveRooms count c.loop-number.program.sections) (sym c.loop-number.auto.rooms)
+    (subst (λ (w : Watching). SectionsHaveRooms (length c.args.rooms.now) w.sections)
+    (sym c.loop-number.invariant.program) c.requires.rooms)
+
+pub play_next-requires-clause-same : goal.play_next-requires-clause-same
+play_next-requires-clause-same g c = λ kept table is.
+    let start : Grid × Option (List ℕ) = (g.B.Board.grid c.args.board.now, g.B.Board.table c.args.board.now) in
+    let shown : Some start ≡ Some (kept, table) =
+    sym (ap (λ (w : Watching). w.kept) c.loop-number.invariant.program ∙ c.requires.kept) ∙ is in
+    subst (λ (p : Grid × Option (List ℕ)). IsSameBut c.loop-number.stirred (g.B.Board.grid c.loop-number.board)
+    (g.B.Board.table c.loop-number.board) p.0 p.1) (same_Some start (kept, table) shown) (record {
+      differ = c.loop-number.invariant.differ;
+      sides = sym c.loop-number.invariant.sides;
+      shape = c.recall_shape.ensures.shape;
+      same_table = sym c.loop-number.invariant.table;
+    })
+
+pub returns-in_err-left-clause-run : goal.returns-in_err-left-clause-run
+returns-in_err-left-clause-run g c = IfOk-from_err c.from_residual.result _ c.from_residual.ensures.0
+
+pub returns-in_err-left-clause-table : goal.returns-in_err-left-clause-table
+returns-in_err-left-clause-table g c = c.in_err-left.ensures.table ∙ c.loop-number.invariant.table
+
+pub returns-in_err-left-clause-sides : goal.returns-in_err-left-clause-sides
+returns-in_err-left-clause-sides g c = c.in_err-left.ensures.sides ∙ c.loop-number.invariant.sides
+
+pub returns-in_err-left-clause-program : goal.returns-in_err-left-clause-program
+returns-in_err-left-clause-program g c = c.in_err-left.ensures.program ∙ c.loop-number.invariant.program
+
+pub returns-in_err-left-clause-rooms : goal.returns-in_err-left-clause-rooms
+returns-in_err-left-clause-rooms g c = c.in_err-left.ensures.rooms ∙ c.loop-number.auto.rooms
+
+pub returns-then-left-clause-table : goal.returns-then-left-clause-table
+returns-then-left-clause-table g c = c.in_ok-left.ensures.table ∙ c.loop-number.invariant.table
+
+pub returns-then-left-clause-sides : goal.returns-then-left-clause-sides
+returns-then-left-clause-sides g c = c.in_ok-left.ensures.sides ∙ c.loop-number.invariant.sides
+
+pub returns-then-left-clause-program : goal.returns-then-left-clause-program
+returns-then-left-clause-program g c = c.in_ok-left.ensures.program ∙ c.loop-number.invariant.program
+
+pub returns-then-left-clause-rooms : goal.returns-then-left-clause-rooms
+returns-then-left-clause-rooms g c = c.in_ok-left.ensures.rooms ∙ c.loop-number.auto.rooms
+
+pub returns-clause-run : goal.returns-clause-run
+returns-clause-run g c =
+    let sections : List CompiledSection = c.args.program.now.sections in
+    let far : length sections ≤ c.loop-number.number =
+    subst (λ (all : List CompiledSection). length all ≤ c.loop-number.number) c.sections-number-end.ensures
+    c.loop-number-test.false in
+    sections_end (section_meaning (g.B.Board.table c.args.board.now)) sections c.loop-number.number
+    c.loop-number.repeats (record { grid = g.B.Board.grid c.loop-number.board; queue = c.loop-number.queue }) far
+    ∙ c.loop-number.invariant.run
+
+pub returns-clause-table : goal.returns-clause-table
+returns-clause-table g c = c.loop-number.invariant.table
+
+pub returns-clause-sides : goal.returns-clause-sides
+returns-clause-sides g c = c.loop-number.invariant.sides
+
+pub returns-clause-program : goal.returns-clause-program
+returns-clause-program g c = c.loop-number.invariant.program
+
+pub returns-clause-rooms : goal.returns-clause-rooms
+returns-clause-rooms g c = c.loop-number.auto.rooms

@@ -11,3 +11,21 @@ returns-clause-exact g c = λ run.
     on_ok_weaker c.play_program.result
     (λ ran. ran ∙ ap (λ (meant : List Section). program_run meant before)
     (program_as_it_is (g.B.Board.table c.args.board.now) c.args.program.now.sections run)) c.play_program.ensures.run
+
+pub returns-clause-run : goal.returns-clause-run
+returns-clause-run g c = c.play_program.ensures.run
+
+pub returns-clause-table : goal.returns-clause-table
+returns-clause-table g c = c.play_program.ensures.table
+
+pub returns-clause-sides : goal.returns-clause-sides
+returns-clause-sides g c = c.play_program.ensures.sides
+
+pub returns-clause-rooms : goal.returns-clause-rooms
+returns-clause-rooms g c = c.play_program.ensures.rooms
+
+pub returns-clause-sections : goal.returns-clause-sections
+returns-clause-sections g c = c.play_program.ensures.sections
+
+pub play_program-requires : goal.play_program-requires
+play_program-requires g c = c.requires

@@ -1,9 +1,11 @@
-use Rattle.std.proofs.Common.{◌≡◌, ◌∙◌, ℕ, List, Option, ap}
+use Rattle.std.proofs.Common.{◌≡◌, ◌∙◌, ℕ, List, Option, ap, length, sym, subst, refl, get_or}
+use Rattle.std.proofs.lemmas.Result.{IfOk-from_err}
 use Rattle.ps_model.specs.board.Attempts.{State, Result}
 use Rattle.ps_model.specs.board.Programs.{group}
 use Rattle.ps_program.specs.declared.rules.CompiledRule.{CompiledRule}
 use Rattle.ps_engine.specs.RulesInRoom.{rules_meaning}
-use Rattle.ps_engine.proofs.Sequences.{pass_more}
+use Rattle.ps_engine.specs.Rooms.{HaveRooms}
+use Rattle.ps_engine.proofs.Sequences.{pass_end, pass_more}
 use Rattle.ps_engine.proofs.rounds.pass.Goals as goal
 
 pub loop-rules-preserved : goal.loop-rules-preserved
@@ -28,3 +30,42 @@ loop-rules-preserved g c =
       table = c.play_group.ensures.table ∙ c.loop-rules.invariant.table;
       sides = c.play_group.ensures.sides ∙ c.loop-rules.invariant.sides;
     }
+
+pub loop-rules-init : goal.loop-rules-init
+loop-rules-init g c = record { pass = refl; table = refl; sides = refl }
+
+pub play_group-requires : goal.play_group-requires
+play_group-requires g c =
+    let rules : List CompiledRule = c.rules-item.result in
+    subst (HaveRooms (length c.loop-rules.rooms)) (sym (c.as_slice.ensures ∙ c.rules-item.is))
+    (subst (λ (count : ℕ). HaveRooms count (get_or c.args.groups.now c.loop-rules.rules-index rules))
+    (sym c.loop-rules.auto.rooms) (c.requires c.loop-rules.rules-index rules c.loop-rules-test.true))
+
+pub returns-in_err-more-clause-pass : goal.returns-in_err-more-clause-pass
+returns-in_err-more-clause-pass g c = IfOk-from_err c.from_residual.result _ c.from_residual.ensures.0
+
+pub returns-in_err-more-clause-table : goal.returns-in_err-more-clause-table
+returns-in_err-more-clause-table g c = c.in_err-more.ensures.table ∙ c.loop-rules.invariant.table
+
+pub returns-clause-table : goal.returns-clause-table
+returns-clause-table g c = c.loop-rules.invariant.table
+
+pub returns-in_err-more-clause-sides : goal.returns-in_err-more-clause-sides
+returns-in_err-more-clause-sides g c = c.in_err-more.ensures.sides ∙ c.loop-rules.invariant.sides
+
+pub returns-clause-sides : goal.returns-clause-sides
+returns-clause-sides g c = c.loop-rules.invariant.sides
+
+pub returns-in_err-more-clause-rooms : goal.returns-in_err-more-clause-rooms
+returns-in_err-more-clause-rooms g c = c.in_err-more.ensures.rooms ∙ c.loop-rules.auto.rooms
+
+pub returns-clause-rooms : goal.returns-clause-rooms
+returns-clause-rooms g c = c.loop-rules.auto.rooms
+
+pub returns-clause-pass : goal.returns-clause-pass
+returns-clause-pass g c =
+    let table : Option (List ℕ) = g.B.Board.table c.args.board.now in
+    let now : State = record { grid = g.B.Board.grid c.loop-rules.board; queue = c.loop-rules.queue } in
+    pass_end (rules_meaning table) c.args.groups.now c.loop-rules.rules-index c.loop-rules.changed now
+    c.loop-rules-test.false
+    ∙ c.loop-rules.invariant.pass

@@ -1,5 +1,6 @@
-use Rattle.std.proofs.Common.{◌≡◌, ◌∙◌, ℕ, List, Option, ap, subst, arith}
+use Rattle.std.proofs.Common.{◌≡◌, ◌∙◌, ℕ, List, Option, ap, subst, arith, ◌≤◌, length, refl, sym}
 use Rattle.ps_model.specs.board.Attempts.{State, Result, attempt}
+use Rattle.ps_program.specs.declared.rules.CompiledRule.{CompiledRule}
 use Rattle.ps_engine.specs.Lacking.{AreIdleBetween}
 use Rattle.ps_engine.specs.RulesInRoom.{rule_meaning}
 use Rattle.ps_engine.proofs.Idle.{rules_passed}
@@ -60,3 +61,16 @@ returns-clause-table g c = c.loop-number.invariant.table
 
 pub returns-clause-sides : goal.returns-clause-sides
 returns-clause-sides g c = c.loop-number.invariant.sides
+
+pub loop-number-init : goal.loop-number-init
+loop-number-init g c = record { round = refl; table = refl; sides = refl; rooms = refl }
+
+pub attempt-changed-requires : goal.attempt-changed-requires
+attempt-changed-requires g c =
+    let rule : CompiledRule = c.index-rules-number.result in
+    subst (λ (count : ℕ). length rule.rows ≤ count) (sym c.loop-number.invariant.rooms)
+    (subst (λ (each : CompiledRule). length each.rows ≤ length c.args.rooms.now) (sym c.index-rules-number.is)
+    (c.requires c.loop-number.number rule c.loop-number-test.true))
+
+pub returns-clause-rooms : goal.returns-clause-rooms
+returns-clause-rooms g c = c.loop-number.invariant.rooms

@@ -1,7 +1,8 @@
 use Rattle.std.proofs.Common.{◌≡◌, ◌∙◌, ℕ, ◌+◌, ◌<◌, Option, Some, List, false, true, get_or, length, refl, sym, ap}
-use Rattle.std.proofs.Common.{arith, rules}
+use Rattle.std.proofs.Common.{arith}
 use Rattle.std.specs.Prelude.{slice_get, slice_set}
-use Rattle.std.proofs.lemmas.Option.{slice_get-get_or, slice_get_read}
+use Rattle.std.proofs.lemmas.Option.{slice_get-get_or, slice_get_read, none-some}
+use Rattle.std.proofs.lemmas.List.{length-set}
 use Rattle.ps_model.specs.board.Grid.{Grid}
 use Rattle.ps_model.specs.board.Attempts.{all_fit}
 use Rattle.ps_program.specs.declared.rows.CompiledRow.{CompiledRow}
@@ -11,6 +12,7 @@ use Rattle.ps_engine.specs.Choosing.{HaveStartsOf, rows_meaning}
 use Rattle.ps_engine.proofs.Choosing.{no_row_left, none_found, spent_next}
 use Rattle.ps_engine.proofs.RoomsChanged.{all_starts, lacks_before, left_as_they_are, left_more, lines_still}
 use Rattle.ps_engine.proofs.RoomsChanged.{next_found, next_placed, starts_as_they_are, starts_more}
+use Rattle.ps_engine.proofs.Within.{room_there}
 use Rattle.ps_engine.proofs.walking.advance.Goals as goal
 
 pub loop-number-init : goal.loop-number-init
@@ -57,13 +59,13 @@ start_again-requires-clause-lines g c =
 
 pub returns-then-start_again-clause-found : goal.returns-then-start_again-clause-found
 returns-then-start_again-clause-found g c =
-    let e : c.start_again.result ≡ true = search rules in
+    let e : c.start_again.result ≡ true = c.if-start_again.true in
     let n : ℕ = c.loop-number.number in
     let inside : n < length c.loop-number.rooms =
     omega (arith, c.loop-number-test.true, c.requires.long, c.loop-number.invariant.same.long) in
     let row : CompiledRow = c.index-rows-number.result in
     let before : Room = get_or c.loop-number.rooms n c.index-rooms-number.result in
-    let yes : c.next_place.result ≡ true = search rules in
+    let yes : c.next_place.result ≡ true = c.if-next_place.true in
     c.loop-number.invariant.passed
     ∙ next_found (g.B.Board.grid c.args.board.now) (g.B.Board.table c.args.board.now) c.args.rows.now c.args.rooms.now
     c.loop-number.rooms c.start_again.new.rooms n row before c.next_place.new.self
@@ -76,7 +78,7 @@ returns-then-start_again-clause-found g c =
 
 pub returns-then-next_place-clause-none : goal.returns-then-next_place-clause-none
 returns-then-next_place-clause-none g c = λ nowhere.
-    let e : c.start_again.result ≡ false = search rules in
+    let e : c.start_again.result ≡ false = c.if-start_again.false in
     let n : ℕ = c.loop-number.number in
     let inside : n < length c.loop-number.rooms =
     omega (arith, c.loop-number-test.true, c.requires.long, c.loop-number.invariant.same.long) in
@@ -92,13 +94,13 @@ returns-then-next_place-clause-none g c = λ nowhere.
 
 pub returns-then-start_again-clause-places : goal.returns-then-start_again-clause-places
 returns-then-start_again-clause-places g c =
-    let e : c.start_again.result ≡ true = search rules in
+    let e : c.start_again.result ≡ true = c.if-start_again.true in
     let n : ℕ = c.loop-number.number in
     let inside : n < length c.loop-number.rooms =
     omega (arith, c.loop-number-test.true, c.requires.long, c.loop-number.invariant.same.long) in
     let row : CompiledRow = c.index-rows-number.result in
     let before : Room = get_or c.loop-number.rooms n c.index-rooms-number.result in
-    let yes : c.next_place.result ≡ true = search rules in
+    let yes : c.next_place.result ≡ true = c.if-next_place.true in
     let row_is : slice_get c.args.rows.now n ≡ Some row =
     slice_get_read c.args.rows.now _ n row refl c.loop-number-test.true c.index-rows-number.is in
     let there : slice_get c.loop-number.rooms n ≡ Some before =
@@ -144,7 +146,7 @@ returns-then-start_again-clause-same g c =
 
 pub returns-then-start_again-clause-started : goal.returns-then-start_again-clause-started
 returns-then-start_again-clause-started g c =
-    let e : c.start_again.result ≡ true = search rules in
+    let e : c.start_again.result ≡ true = c.if-start_again.true in
     c.start_again.ensures.started e
 
 pub loop-number-preserved : goal.loop-number-preserved
@@ -156,7 +158,7 @@ loop-number-preserved g c =
     let before : Room = get_or c.loop-number.rooms n c.index-rooms-number.result in
     let there : slice_get c.loop-number.rooms n ≡ Some before =
     slice_get-get_or c.loop-number.rooms n c.index-rooms-number.result inside in
-    let no : c.next_place.result ≡ false = search rules in
+    let no : c.next_place.result ≡ false = c.if-next_place.false in
     record {
       passed =
           c.loop-number.invariant.passed
@@ -178,3 +180,57 @@ returns-clause-none g c = λ e.
     ∙ ap (from_first (all_fit grid (rows_meaning table c.args.rows.now)))
     (no_row_left grid table c.loop-number.number c.args.rows.now c.args.rooms.now
     (omega (arith, c.loop-number-test.false)))
+
+pub start_again-requires-clause-long : goal.start_again-requires-clause-long
+start_again-requires-clause-long g c =
+    omega (
+      arith,
+      c.requires.long,
+      c.loop-number.auto.rooms,
+      length-set c.loop-number.rooms c.loop-number.number c.next_place.new.self,
+    )
+
+pub start_again-requires-clause-count : goal.start_again-requires-clause-count
+start_again-requires-clause-count g c = omega (arith, c.loop-number-test.true)
+
+pub returns-then-start_again-clause-none : goal.returns-then-start_again-clause-none
+returns-then-start_again-clause-none g c = λ e. absurd (none-some c.loop-number.number (sym e))
+
+pub returns-then-start_again-clause-count : goal.returns-then-start_again-clause-count
+returns-then-start_again-clause-count g c = omega (arith, c.loop-number-test.true)
+
+pub returns-then-next_place-clause-found : goal.returns-then-next_place-clause-found
+returns-then-next_place-clause-found g c = tt
+
+pub returns-clause-found : goal.returns-clause-found
+returns-clause-found g c = tt
+
+pub returns-then-next_place-clause-places : goal.returns-then-next_place-clause-places
+returns-then-next_place-clause-places g c = tt
+
+pub returns-clause-places : goal.returns-clause-places
+returns-clause-places g c = tt
+
+pub returns-then-next_place-clause-count : goal.returns-then-next_place-clause-count
+returns-then-next_place-clause-count g c = tt
+
+pub returns-clause-count : goal.returns-clause-count
+returns-clause-count g c = tt
+
+pub returns-then-next_place-clause-started : goal.returns-then-next_place-clause-started
+returns-then-next_place-clause-started g c = tt
+
+pub returns-clause-started : goal.returns-clause-started
+returns-clause-started g c = tt
+
+pub returns-clause-same : goal.returns-clause-same
+returns-clause-same g c = c.loop-number.invariant.same
+
+pub bounds-rows-number : goal.bounds-rows-number
+bounds-rows-number g c = c.loop-number-test.true
+
+pub bounds-rooms-number : goal.bounds-rooms-number
+bounds-rooms-number g c =
+    room_there c.loop-number.number (length c.args.rows.now) (length c.args.rooms.now)
+    (length c.loop-number.rooms) c.loop-number-test.true
+    c.requires.long c.loop-number.auto.rooms

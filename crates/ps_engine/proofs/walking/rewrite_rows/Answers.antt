@@ -1,10 +1,10 @@
-use Rattle.std.proofs.Common.{◌≡◌, ◌∙◌, ℕ, ◌+◌, ◌<◌, false, List, Option, length, refl, sym, ap, ap₂, arith, rules}
-use Rattle.std.proofs.lemmas.Bool.Decides.{nat_tests}
+use Rattle.std.proofs.Common.{◌≡◌, ◌∙◌, ℕ, ◌+◌, ◌<◌, List, Option, length, refl, sym, ap, ap₂, arith}
 use Rattle.std.proofs.lemmas.Option.{slice_get_read}
 use Rattle.ps_model.specs.board.Attempts.{Rewritten, rewritten_along}
 use Rattle.ps_places.specs.RowPlaces.{cells_meaning, place_at}
 use Rattle.ps_engine.proofs.Choosing.{first_of_fitting}
-use Rattle.ps_engine.proofs.Rewriting.{rewritten_from, rewritten_more, same_height}
+use Rattle.ps_engine.proofs.Rewriting.{none_there, rewritten_end, rewritten_from, rewritten_more, same_height}
+use Rattle.ps_engine.proofs.Rewriting.{some_there}
 use Rattle.ps_engine.proofs.walking.rewrite_rows.Goals as goal
 
 pub loop-number-init : goal.loop-number-init
@@ -14,8 +14,8 @@ loop-number-init g c =
     let row = c.index-rows-0.result in
     let room = c.index-rooms-0.result in
     let before : Rewritten = record { grid = g.B.Board.grid c.args.board.now; changed = c.args.changed } in
-    let filled : c.is_empty.result ≡ false = search rules in
-    let some : 0 < length c.args.rows.now = grind (arith, nat_tests, c.is_empty.ensures, filled) in
+    let some : 0 < length c.args.rows.now =
+    some_there c.args.rows.now (sym c.is_empty.ensures ∙ c.if-is_empty.false) in
     record {
       rewritten =
           ap (rewritten_from table height c.args.rows.now c.args.rooms.now 1) c.rewrite_fitting-any.ensures.rewritten
@@ -55,10 +55,44 @@ loop-number-preserved g c =
 
 pub rewrite_fitting-any-requires-clause-fits : goal.rewrite_fitting-any-requires-clause-fits
 rewrite_fitting-any-requires-clause-fits g c =
-    let filled : c.is_empty.result ≡ false = search rules in
-    let some : 0 < length c.args.rows.now = grind (arith, nat_tests, c.is_empty.ensures, filled) in
+    let some : 0 < length c.args.rows.now =
+    some_there c.args.rows.now (sym c.is_empty.ensures ∙ c.if-is_empty.false) in
     first_of_fitting (g.B.Board.grid c.args.board.now) (g.B.Board.table c.args.board.now) c.args.rows.now
     c.args.rooms.now c.index-rows-0.result c.index-rooms-0.result
     (slice_get_read c.args.rows.now _ 0 c.index-rows-0.result refl some c.index-rows-0.is)
     (slice_get_read c.args.rooms.now _ 0 c.index-rooms-0.result refl (omega (arith, some, c.requires.long))
     c.index-rooms-0.is) c.requires.fit
+
+pub returns-then-is_empty-clause-rewritten : goal.returns-then-is_empty-clause-rewritten
+returns-then-is_empty-clause-rewritten g c =
+    sym (rewritten_end (g.B.Board.table c.args.board.now) (g.B.Board.grid c.args.board.now).height 0 c.args.rows.now
+    c.args.rooms.now (record { grid = g.B.Board.grid c.args.board.now; changed = c.args.changed })
+    (none_there c.args.rows.now (sym c.is_empty.ensures ∙ c.if-is_empty.true)))
+
+pub returns-then-is_empty-clause-table : goal.returns-then-is_empty-clause-table
+returns-then-is_empty-clause-table g c = refl
+
+pub returns-then-is_empty-clause-sides : goal.returns-then-is_empty-clause-sides
+returns-then-is_empty-clause-sides g c = refl
+
+pub rewrite_fitting-any-requires-clause-spaced : goal.rewrite_fitting-any-requires-clause-spaced
+rewrite_fitting-any-requires-clause-spaced g c =
+    let some : 0 < length c.args.rows.now =
+    some_there c.args.rows.now (sym c.is_empty.ensures ∙ c.if-is_empty.false) in
+    (c.requires.places 0 c.index-rows-0.result c.index-rooms-0.result (omega arith)
+    (slice_get_read c.args.rows.now _ 0 c.index-rows-0.result refl some c.index-rows-0.is)
+    (slice_get_read c.args.rooms.now _ 0 c.index-rooms-0.result refl (omega (arith, some, c.requires.long))
+    c.index-rooms-0.is)).spaced
+
+pub returns-clause-rewritten : goal.returns-clause-rewritten
+returns-clause-rewritten g c =
+    sym (rewritten_end (g.B.Board.table c.args.board.now) (g.B.Board.grid c.args.board.now).height c.loop-number.number
+    c.args.rows.now c.args.rooms.now
+    (record { grid = g.B.Board.grid c.loop-number.board; changed = c.loop-number.any }) c.loop-number-test.false)
+    ∙ c.loop-number.invariant.rewritten
+
+pub returns-clause-table : goal.returns-clause-table
+returns-clause-table g c = c.loop-number.invariant.table
+
+pub returns-clause-sides : goal.returns-clause-sides
+returns-clause-sides g c = c.loop-number.invariant.sides

@@ -1,9 +1,10 @@
-use Rattle.std.proofs.Common.{◌≡◌, ◌∙◌, ℕ, ◌+◌, ◌<◌, Some, false, true, get_or, length, refl, sym, arith, rules}
+use Rattle.std.proofs.Common.{◌≡◌, ◌∙◌, ℕ, ◌+◌, ◌<◌, Some, false, true, get_or, length, refl, sym, arith, true≢false}
 use Rattle.std.specs.Prelude.{slice_get}
 use Rattle.std.proofs.lemmas.Option.{slice_get-get_or, slice_get_read}
 use Rattle.ps_places.specs.Room.{Room}
 use Rattle.ps_engine.proofs.RoomsChanged.{left_as_they_are, left_more, lines_still, started_more, starts_as_they_are}
 use Rattle.ps_engine.proofs.RoomsChanged.{starts_more}
+use Rattle.ps_engine.proofs.Within.{room_there, row_there}
 use Rattle.ps_engine.proofs.walking.start_again.Goals as goal
 
 pub loop-number-init : goal.loop-number-init
@@ -31,7 +32,7 @@ returns-then-not-first_place-clause-none g c = λ e.
     let low : n < length c.args.rows.now = omega (arith, c.loop-number-test.true, c.requires.count) in
     let inside : n < length c.loop-number.rooms =
     omega (arith, low, c.requires.long, c.loop-number.invariant.same.long) in
-    let no : c.first_place.result ≡ false = search rules in
+    let no : c.first_place.result ≡ false = c.if-not-first_place.true in
     record {
       number = n;
       low = c.loop-number-test.true;
@@ -69,7 +70,7 @@ loop-number-preserved g c =
     let before : Room = get_or c.loop-number.rooms n c.index-rooms-number.result in
     let room_is : slice_get c.loop-number.rooms n ≡ Some before =
     slice_get-get_or c.loop-number.rooms n c.index-rooms-number.result inside in
-    let yes : c.first_place.result ≡ true = search rules in
+    let yes : c.first_place.result ≡ true = c.if-not-first_place.false in
     record {
       started =
           started_more (g.B.Board.grid c.args.board.now) (g.B.Board.table c.args.board.now) c.args.rows.now
@@ -91,3 +92,27 @@ loop-number-preserved g c =
 pub returns-clause-started : goal.returns-clause-started
 returns-clause-started g c = λ e k row room low is there.
     c.loop-number.invariant.started k row room (omega (arith, low, c.loop-number-test.false)) is there
+
+pub returns-then-not-first_place-clause-started : goal.returns-then-not-first_place-clause-started
+returns-then-not-first_place-clause-started g c = λ e. absurd (true≢false (sym e))
+
+pub returns-clause-none : goal.returns-clause-none
+returns-clause-none g c = λ e. absurd (true≢false e)
+
+pub returns-clause-same : goal.returns-clause-same
+returns-clause-same g c = c.loop-number.invariant.same
+
+pub returns-clause-left : goal.returns-clause-left
+returns-clause-left g c = λ k high.
+    c.loop-number.invariant.left k (omega (arith, high, c.loop-number.auto.number-end))
+
+pub bounds-rows-number : goal.bounds-rows-number
+bounds-rows-number g c =
+    row_there c.loop-number.number c.args.count (length c.args.rows.now) c.loop-number-test.true c.requires.count
+
+pub bounds-rooms-number : goal.bounds-rooms-number
+bounds-rooms-number g c =
+    room_there c.loop-number.number (length c.args.rows.now) (length c.args.rooms.now)
+    (length c.loop-number.rooms)
+    (row_there c.loop-number.number c.args.count (length c.args.rows.now) c.loop-number-test.true c.requires.count)
+    c.requires.long c.loop-number.auto.rooms

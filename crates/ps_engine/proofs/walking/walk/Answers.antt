@@ -1,5 +1,5 @@
 use Rattle.std.proofs.Common.{◌≡◌, ◌∙◌, ℕ, ◌<◌, ◌≤◌, Bool, Option, List, [], ◌∷◌, false, true, fold, length, sym, subst}
-use Rattle.std.proofs.Common.{ap, arith, rules}
+use Rattle.std.proofs.Common.{ap, arith}
 use Rattle.ps_model.specs.board.Grid.{Grid}
 use Rattle.ps_model.specs.board.Attempts.{Rewritten, all_fit, applied, rewritten_rows}
 use Rattle.ps_places.specs.Ways.{from_first}
@@ -38,7 +38,7 @@ returns-then-not-go_on-clause-rewritten g c =
     c.rewrite_rows-changed.ensures.rewritten
     ∙ ap (λ (t : Option (List ℕ)). rewritten_rows before (rows_meaning t c.args.rows.now)
     (chosen (choices_of before.grid.height c.args.rows.now c.loop-sleeps.rooms))) c.loop-sleeps.invariant.table in
-    let no : c.go_on.result ≡ false = search rules in
+    let no : c.go_on.result ≡ false = c.if-not-go_on.true in
     turn c.args.rows.now c.loop-sleeps.rooms table other before.grid.height after.grid.height before after [] e d
     c.loop-sleeps.invariant.fit made (c.slowest_unfit-first.ensures.passed ∙ c.go_on.ensures.none no)
     ∙ c.loop-sleeps.invariant.rewritten
@@ -53,7 +53,7 @@ loop-sleeps-smaller g c =
     let all : List (List (List ℕ)) = behind (choices_of after.height rows c.loop-sleeps.rooms) in
     let fits : List (List ℕ) → Bool = all_fit after
     (rows_meaning (g.B.Board.table c.rewrite_rows-changed.new.board) rows) in
-    let yes : c.go_on.result ≡ true = search rules in
+    let yes : c.go_on.result ≡ true = c.if-not-go_on.false in
     let most : length (from_first fits all) ≤ length all = no_more fits all in
     let left : List (List (List ℕ)) = from_first fits
     (behind_from c.slowest_unfit-first.result (choices_of after.height rows c.loop-sleeps.rooms)) in
@@ -81,7 +81,7 @@ loop-sleeps-preserved g c =
     c.rewrite_rows-changed.ensures.rewritten
     ∙ ap (λ (t : Option (List ℕ)). rewritten_rows before (rows_meaning t rows)
     (chosen (choices_of before.grid.height rows c.loop-sleeps.rooms))) c.loop-sleeps.invariant.table in
-    let yes : c.go_on.result ≡ true = search rules in
+    let yes : c.go_on.result ≡ true = c.if-not-go_on.false in
     let next : List Choice = choices_of after.grid.height rows c.go_on.new.rooms in
     let left : List (List (List ℕ)) =
     from_first (all_fit after.grid (rows_meaning other rows))

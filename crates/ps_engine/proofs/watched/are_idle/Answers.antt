@@ -1,4 +1,5 @@
-use Rattle.std.proofs.Common.{◌+◌, ◌∙◌, arith, refl, rules}
+use Rattle.std.proofs.Common.{◌+◌, ◌∙◌, arith, refl, sym, true≢false, ℕ, ◌≤◌, length, subst}
+use Rattle.ps_program.specs.declared.rules.CompiledRule.{CompiledRule}
 use Rattle.ps_engine.proofs.AskedFor.{idle_further, one_idle}
 use Rattle.ps_engine.proofs.watched.are_idle.Goals as goal
 
@@ -14,7 +15,7 @@ loop-number-preserved-then-next-number g c =
           idle_further grid table c.args.rules.now 0 c.loop-number.number (c.loop-number.number + 1)
           c.loop-number.invariant.idle
           (one_idle grid table c.args.rules.now c.loop-number.number c.index-rules-number.result
-          c.loop-number-test.true c.index-rules-number.is (c.is_idle.ensures.idle (search rules)));
+          c.loop-number-test.true c.index-rules-number.is (c.is_idle.ensures.idle c.if-not-is_idle.false));
       rooms = c.is_idle.ensures.long ∙ c.loop-number.invariant.rooms;
     }
 
@@ -31,3 +32,19 @@ loop-number-preserved g c =
 pub returns-clause-idle : goal.returns-clause-idle
 returns-clause-idle g c = λ e. λ k d low.
     c.loop-number.invariant.idle k d (omega arith) (omega (arith, low, c.loop-number-test.false))
+
+pub is_idle-requires : goal.is_idle-requires
+is_idle-requires g c =
+    let rule : CompiledRule = c.index-rules-number.result in
+    subst (λ (count : ℕ). length rule.rows ≤ count) (sym c.loop-number.invariant.rooms)
+    (subst (λ (each : CompiledRule). length each.rows ≤ length c.args.rooms.now) (sym c.index-rules-number.is)
+    (c.requires c.loop-number.number rule c.loop-number-test.true))
+
+pub returns-then-not-is_idle-clause-idle : goal.returns-then-not-is_idle-clause-idle
+returns-then-not-is_idle-clause-idle g c = λ e. absurd (true≢false (sym e))
+
+pub returns-then-not-is_idle-clause-rooms : goal.returns-then-not-is_idle-clause-rooms
+returns-then-not-is_idle-clause-rooms g c = c.is_idle.ensures.long ∙ c.loop-number.invariant.rooms
+
+pub returns-clause-rooms : goal.returns-clause-rooms
+returns-clause-rooms g c = c.loop-number.invariant.rooms

@@ -1,12 +1,17 @@
-use Rattle.std.proofs.Common.{◌≡◌, ◌∙◌, ℕ, not, Some, [], sym, ap, subst}
+use Rattle.std.proofs.Common.{◌≡◌, ◌∙◌, ℕ, not, true≢false, Some, [], length, refl, sym, ap, ◌<◌, arith, subst, rules}
 use Rattle.std.specs.Prelude.{slice_get}
 use Rattle.std.proofs.lemmas.Option.{get_or_from_slice_get}
 use Rattle.ps_board.specs.ColumnSets.{both_columns, set_columns}
 use Rattle.ps_program.specs.declared.program.CompiledSection.{CompiledSection}
+use Rattle.ps_engine.specs.Rooms.{SectionHasRooms}
 use Rattle.ps_engine.specs.Watched.{IsIdleOn, Watching}
 use Rattle.ps_engine.specs.declared.watched.SectionWatch.{SectionWatch}
-use Rattle.ps_engine.proofs.Waking.{known_idle, known_noted, section_there, watch_same, watch_there}
+use Rattle.ps_engine.proofs.Waking.{each_there, known_idle, known_noted, section_there, watch_same, watch_there}
 use Rattle.ps_engine.proofs.watched.WatchedProgram.passes.Goals as goal
+
+-- a section's number is that of a watch
+within : (n inside all watches : ℕ) → n < all → inside ≡ all → watches ≡ inside → n < watches
+within n inside all watches low same long = omega arith
 
 pub returns-then-index-clause-idle : goal.returns-then-index-clause-idle
 returns-then-index-clause-idle g c = λ section at e.
@@ -61,3 +66,65 @@ returns-clause-idle g c = λ section at e.
     c.index-sections-number.result here in
     subst (λ (s : CompiledSection). IsIdleOn (g.B.Board.grid c.args.board.now) (g.B.Board.table c.args.board.now) s) own
     (c.is_idle_section-idle.ensures.idle e)
+
+-- where nothing is passed over, nothing is claimed
+pub returns-then-is_none-clause-idle : goal.returns-then-is_none-clause-idle
+returns-then-is_none-clause-idle g c = λ section at e. absurd (true≢false (sym e))
+
+pub returns-then-is_none-clause-rooms : goal.returns-then-is_none-clause-rooms
+returns-then-is_none-clause-rooms g c = refl
+
+pub returns-then-index-clause-rooms : goal.returns-then-index-clause-rooms
+returns-then-index-clause-rooms g c = refl
+
+pub returns-clause-rooms : goal.returns-clause-rooms
+returns-clause-rooms g c = c.is_idle_section-idle.ensures.rooms
+
+pub returns-then-is_none-clause-program : goal.returns-then-is_none-clause-program
+returns-then-is_none-clause-program g c = refl
+
+pub returns-then-index-clause-program : goal.returns-then-index-clause-program
+returns-then-index-clause-program g c = c.self.view_is
+
+pub returns-clause-program : goal.returns-clause-program
+returns-clause-program g c = c.self.view_is
+
+pub is_idle_section-idle-requires : goal.is_idle_section-idle-requires
+is_idle_section-idle-requires g c =
+    each_there (SectionHasRooms (length c.args.rooms.now)) c.self.inside.sections.now c.args.self.now.sections
+    c.args.number c.index-sections-number.result (ap (λ (w : Watching). w.sections) c.self.view_is) c.requires.number
+    c.index-sections-number.is c.requires.rooms
+
+pub note-requires : goal.note-requires
+note-requires g c = within c.args.number (length c.self.inside.sections.now) (length c.args.self.now.sections)
+    (length c.self.inside.watches.items) c.requires.number
+    (ap (λ (w : Watching). length w.sections) c.self.view_is) c.self.invariant.0
+
+pub invariant_of-self : goal.invariant_of-self
+invariant_of-self g c = c.self.invariant
+
+pub index-requires : goal.index-requires
+index-requires g c =
+    subst (λ (n : ℕ). c.args.number < n) (sym c.self.inside.watches.ok.0)
+    (within c.args.number (length c.self.inside.sections.now) (length c.args.self.now.sections)
+    (length c.self.inside.watches.items) c.requires.number
+    (ap (λ (w : Watching). length w.sections) c.self.view_is) c.self.invariant.0)
+
+pub index-requires-2 : goal.index-requires-2
+index-requires-2 g c =
+    subst (λ (n : ℕ). c.args.number < n) (sym c.self.inside.watches.ok.0)
+    (within c.args.number (length c.self.inside.sections.now) (length c.args.self.now.sections)
+    (length c.self.inside.watches.items) c.requires.number
+    (ap (λ (w : Watching). length w.sections) c.self.view_is) c.self.invariant.0)
+
+pub bounds-sections-number : goal.bounds-sections-number
+bounds-sections-number g c =
+    subst (λ (n : ℕ). c.args.number < n) (sym (ap (λ (w : Watching). length w.sections) c.self.view_is))
+    c.requires.number
+
+pub offset_bounds-sections-number : goal.offset_bounds-sections-number
+offset_bounds-sections-number g c =
+    let low : c.args.number < length c.self.inside.sections.now =
+    subst (λ (n : ℕ). c.args.number < n) (sym (ap (λ (w : Watching). length w.sections) c.self.view_is))
+    c.requires.number in
+    search rules

@@ -1,7 +1,7 @@
-use Rattle.std.proofs.Common.{◌∙◌, Option, List, ℕ, refl, ap, subst}
+use Rattle.std.proofs.Common.{◌∙◌, Option, List, ℕ, refl, ap, subst, true≢false, sym}
 use Rattle.std.specs.Prelude.{option_map}
 use Rattle.ps_model.specs.board.Grid.{Grid}
-use Rattle.ps_engine.specs.Watched.{AreKnown}
+use Rattle.ps_engine.specs.Watched.{AreKnown, Watching}
 use Rattle.ps_engine.proofs.Waking.{known_woken, two_same}
 use Rattle.ps_engine.proofs.watched.WatchedProgram.renew.Goals as goal
 
@@ -33,3 +33,48 @@ invariant_of-self-2 g c =
           c.copy_into.ensures.table)
           after,
     )
+
+pub returns-in_default-clause-kept : goal.returns-in_default-clause-kept
+returns-in_default-clause-kept g c = λ e. absurd (true≢false (sym e))
+
+pub returns-then-not-is_alike-clause-kept : goal.returns-then-not-is_alike-clause-kept
+returns-then-not-is_alike-clause-kept g c = λ e. absurd (true≢false (sym e))
+
+pub returns-in_default-clause-sections : goal.returns-in_default-clause-sections
+returns-in_default-clause-sections g c = ap (λ (w : Watching). w.sections) c.self.view_is
+
+pub returns-then-not-is_alike-clause-sections : goal.returns-then-not-is_alike-clause-sections
+returns-then-not-is_alike-clause-sections g c = ap (λ (w : Watching). w.sections) c.self.view_is
+
+pub returns-clause-sections : goal.returns-clause-sections
+returns-clause-sections g c = ap (λ (w : Watching). w.sections) c.self.view_is
+
+pub topics_differing-stirred-requires-clause-width : goal.topics_differing-stirred-requires-clause-width
+topics_differing-stirred-requires-clause-width g c = c.if-not-is_alike.ensures.width refl
+
+pub copy_into-requires-clause-width : goal.copy_into-requires-clause-width
+copy_into-requires-clause-width g c = c.if-not-is_alike.ensures.width refl
+
+pub topics_differing-stirred-requires-clause-height : goal.topics_differing-stirred-requires-clause-height
+topics_differing-stirred-requires-clause-height g c = c.if-not-is_alike.ensures.height refl
+
+pub copy_into-requires-clause-height : goal.copy_into-requires-clause-height
+copy_into-requires-clause-height g c = c.if-not-is_alike.ensures.height refl
+
+pub topics_differing-stirred-requires-clause-layers : goal.topics_differing-stirred-requires-clause-layers
+topics_differing-stirred-requires-clause-layers g c = c.if-not-is_alike.ensures.layers refl
+
+pub copy_into-requires-clause-layers : goal.copy_into-requires-clause-layers
+copy_into-requires-clause-layers g c = c.if-not-is_alike.ensures.layers refl
+
+pub topics_differing-stirred-requires-clause-table : goal.topics_differing-stirred-requires-clause-table
+topics_differing-stirred-requires-clause-table g c = c.if-not-is_alike.ensures.table refl
+
+pub copy_into-requires-clause-table : goal.copy_into-requires-clause-table
+copy_into-requires-clause-table g c = c.if-not-is_alike.ensures.table refl
+
+pub returns-clause-kept : goal.returns-clause-kept
+returns-clause-kept g c = λ e.
+    sym (two_same (g.B.Board.grid c.args.board.now) (g.B.Board.grid c.copy_into.new.other)
+    (g.B.Board.table c.args.board.now) (g.B.Board.table c.copy_into.new.other) c.copy_into.ensures.grid
+    c.copy_into.ensures.table)
