@@ -37,3 +37,5 @@ pub mod RowHistories
 pub mod TopicsTold
 pub mod LayersTouched
 pub mod Untouched
+mod Passed
+mod Joined

@@ -133,3 +133,7 @@ range_at table numbers ranges n layer range each long below is =
     let P : MemberRange → Type 0 = λ s. IsRangeOf table numbers layer s in
     let inside : layer < length ranges = omega arith in
     subst P (sym is) (each layer range inside)
+
+-- without ranges
+pub no_ranges : (table numbers : List ℕ) (ranges : List MemberRange) → ranges ≡ [] → AreRangesOf table numbers ranges
+no_ranges table numbers ranges none layer default below = let low = rw none at below in absurd (omega arith)

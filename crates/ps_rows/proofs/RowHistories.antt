@@ -1,6 +1,6 @@
 -- The boards of an undo history, behind steps to them.
-use Rattle.std.proofs.Common.{◌≡◌, ◌∙◌, ℕ, zero, suc, ◌+◌, ◌-◌, ◌<◌, ◌≤◌, Option, Some, None, List, [], ◌∷◌, ◌++◌, All}
-use Rattle.std.proofs.Common.{length, map, take, drop, refl, sym, ap, ap₂, arith, subst}
+use Rattle.std.proofs.Common.{◌≡◌, ◌∙◌, ℕ, zero, suc, ◌+◌, ◌-◌, ◌*◌, ◌<◌, ◌≤◌, Option, Some, None, List, [], ◌∷◌, ◌++◌}
+use Rattle.std.proofs.Common.{All, Bool, length, map, take, drop, refl, sym, ap, ap₂, arith, subst}
 use Rattle.std.specs.Prelude.{slice_get}
 use Rattle.std.proofs.lemmas.List.{drop-append-le, drop-map, get_or_push, length-map, length_push, map-append}
 use Rattle.std.proofs.lemmas.List.{take-append-le, take_all, take_more}
@@ -9,7 +9,8 @@ use Rattle.std.proofs.lemmas.Option.{get_or_from_slice_get, none-some, same_Some
 use Rattle.ps_board.specs.Histories.{BoardShown, boards_before, boards_kept, latest_board}
 use Rattle.ps_model.specs.declared.limits.TheConstants.{HISTORY_LIMIT}
 use Rattle.ps_rows.specs.RowHistories.{AreBehind, IsBoard, IsReady, Kept, LeadsBack, LeadsOn, Step, behind, boards_of}
-use Rattle.ps_rows.specs.RowHistories.{first_of, oldest, ready_of, shown, stepped}
+use Rattle.ps_rows.specs.Showing.{AreMotionsShown, AreObjectsShown}
+use Rattle.ps_rows.specs.RowHistories.{first_of, kept, oldest, ready_of, shown, stepped}
 use Rattle.ps_rows.specs.declared.row_history.BoardStep.TheVariants.{Rows, Whole}
 
 -- a list without its last item
@@ -276,3 +277,17 @@ module _ {B : Type 0} (keeps : B → Kept) where
       ap boards_before (sym (nothing_behind (keeps board)))
       ∙ ap (λ (ss : List (Step B)). boards_before (boards_of (Some board) ss keeps)) (sym (no_last steps (sym last)))
       ∙ ap (λ (o : Option B). boards_before (boards_of o steps keeps)) e
+
+-- what is read of a board whose rows became those of another one, of the same size for the same game
+module _ (table table' : List ℕ) (width width' height height' layers layers' : ℕ) (now others : List (List Bool))
+    (same : table' ≡ table) (wide : width' ≡ width) (high : height' ≡ height) (deep : layers' ≡ layers)
+    (are : now ≡ others) where
+  pub alike_shown : shown (kept table width height layers now) ≡ shown (kept table' width' height' layers' others)
+  alike_shown = rw (same, wide, high, deep, are) refl
+
+  pub alike_board : AreObjectsShown table' height' others (width' * height') →
+      AreMotionsShown table' layers' height' others (width' * height') → IsBoard (kept table width height layers now)
+  alike_board objects motions = record {
+    objects = rw are (rw (same, wide, high) at objects);
+    motions = rw are (rw (same, wide, high, deep) at motions);
+  }

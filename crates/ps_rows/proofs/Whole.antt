@@ -15,7 +15,8 @@ use Rattle.ps_laws.proofs.common.SameThings.{is_number-true, is_number-own}
 use Rattle.ps_board.specs.Rooms.{HasRoom, HaveRoom}
 use Rattle.ps_rows.specs.Members.{on_layer}
 use Rattle.ps_rows.specs.Showing.{numbered, motions_from, object_shown, cells_shown, cleared_from, with_slot_in}
-use Rattle.ps_rows.specs.Showing.{grid_shown}
+use Rattle.ps_rows.specs.Showing.{AreMotionsShown, AreObjectsShown, grid_shown}
+use Rattle.ps_rows.specs.Planes.{AreEmptyFrom}
 use Rattle.ps_rows.proofs.Puts.{IsPut, cells_put}
 use Rattle.ps_rows.proofs.Rests.{object_room, cells_rested, empty_cells}
 use Rattle.ps_board.specs.ColumnSets.{no_columns}
@@ -111,3 +112,25 @@ have_room table own e = λ object layer h.
     let here : slice_get (map number own) object.0 ≡ Some layer.0 = slice_get-map number own object.0
     ∙ ap (option_map number) h in
     subst P (sym e) (is_number-own (slice_get (map number own) object.0) layer.0 here)
+
+-- a copy of a board shows what it shows, and is whole as it is
+module _ (table table' : List ℕ) (height height' : ℕ) (words words' : List (List Bool)) (same : table' ≡ table)
+    (high : height' ≡ height) (are : words' ≡ words) where
+  pub copied_whole : (layers long long' : ℕ) → long' ≡ length words' → length words ≡ long →
+      long ≡ motions_from table layers * height → long' ≡ motions_from table' layers * height'
+  copied_whole layers long long' here there whole = rw (same, high) (here ∙ ap length are ∙ there ∙ whole)
+
+  pub copied_objects : (width : ℕ) → AreObjectsShown table height words (width * height) →
+      AreObjectsShown table' height' words' (width * height')
+  copied_objects width told = rw (same, high, are) told
+
+  pub copied_motions : (layers width : ℕ) → AreMotionsShown table layers height words (width * height) →
+      AreMotionsShown table' layers height' words' (width * height')
+  copied_motions layers width told = rw (same, high, are) told
+
+  pub copied_rest : AreEmptyFrom (length table * height) words → AreEmptyFrom (length table' * height') words'
+  copied_rest told = rw (same, high, are) told
+
+  pub copied_grid : (width layers : ℕ) →
+      grid_shown table' width height' layers words' ≡ grid_shown table width height layers words
+  copied_grid width layers = rw (same, high, are) refl

@@ -1,4 +1,4 @@
-use Rattle.std.proofs.Common.{◌≡◌, ◌<◌, ◌∙◌, ℕ, [], length, sym, refl, arith, ap, Bool, List, false, subst, ◌+◌}
+use Rattle.std.proofs.Common.{◌≡◌, ◌<◌, ◌∙◌, ℕ, [], length, sym, refl, ap, Bool, List, false, subst, ◌+◌}
 use Rattle.std.proofs.lemmas.List.{get_or_read}
 use Rattle.ps_rows.proofs.Marked.{plane_indexed}
 use Rattle.ps_rows.proofs.PlaneCopies.{marked_plane, plane_blank, sets_planes, unmarked_plane}
@@ -16,7 +16,8 @@ returns-then-is_empty-clause-words g c =
     let plane : ℕ = c.args.plane in
     let counted : plane < p.index.len = plane_indexed p.index.len p.height plane p.words.len p.some_row p.whole
     c.requires in
-    let own : plane < length p.index.items = omega (arith, counted, p.index.ok.0) in
+    let N : ℕ → Type 0 = λ n. plane < n in
+    let own : plane < length p.index.items = subst N p.index.ok.0 counted in
     let none : set_columns (row_of p.index.items plane) ≡ [] =
     ap set_columns (sym (get_or_read p.index.items _ _ own c.index.ensures no_columns))
     ∙ c.is_empty.ensures.none c.if-is_empty.true in
@@ -28,7 +29,7 @@ pub invariant_of-self-clause-marked : goal.invariant_of-self-clause-marked
 invariant_of-self-clause-marked g c =
     let p = c.args.self.now in
     let left : List (List Bool) = c.clear_plane.new.words in
-    let long : length left ≡ p.words.len = omega (arith, c.clear_plane.auto.words, c.as_mut_slice.ensures.len) in
+    let long : length left ≡ p.words.len = c.clear_plane.auto.words ∙ c.as_mut_slice.ensures.len in
     let B : List (List Bool) → Type 0 = λ ws. ArePlanesOf p.height c.args.plane (c.args.plane + 1) [] ws left in
     let D : List (List Bool) → Type 0 = λ ws. ArePlanesOf p.height c.args.plane (c.args.plane + 1) [] p.words.items ws
     in
@@ -37,7 +38,8 @@ invariant_of-self-clause-marked g c =
     subst D (sym (with_items_is p.words left long)) (subst B c.as_mut_slice.ensures.value c.clear_plane.ensures) in
     let counted : c.args.plane < p.index.len =
     plane_indexed p.index.len p.height c.args.plane p.words.len p.some_row p.whole c.requires in
-    let own : c.args.plane < length p.index.items = omega (arith, counted, p.index.ok.0) in
+    let N : ℕ → Type 0 = λ n. c.args.plane < n in
+    let own : c.args.plane < length p.index.items = subst N p.index.ok.0 counted in
     marked_plane p.index.len p.height c.args.plane c.none.result [] p.words.items (with_items p.words left).items
     p.index.items own changed p.marked (λ row under clear. refl)
 
@@ -45,7 +47,7 @@ pub invariant_of-self-clause-sets : goal.invariant_of-self-clause-sets
 invariant_of-self-clause-sets g c =
     let p = c.args.self.now in
     let left : List (List Bool) = c.clear_plane.new.words in
-    let long : length left ≡ p.words.len = omega (arith, c.clear_plane.auto.words, c.as_mut_slice.ensures.len) in
+    let long : length left ≡ p.words.len = c.clear_plane.auto.words ∙ c.as_mut_slice.ensures.len in
     let B : List (List Bool) → Type 0 = λ ws. ArePlanesOf p.height c.args.plane (c.args.plane + 1) [] ws left in
     let D : List (List Bool) → Type 0 = λ ws. ArePlanesOf p.height c.args.plane (c.args.plane + 1) [] p.words.items ws
     in
@@ -54,3 +56,35 @@ invariant_of-self-clause-sets g c =
     subst D (sym (with_items_is p.words left long)) (subst B c.as_mut_slice.ensures.value c.clear_plane.ensures) in
     sets_planes p.height c.args.plane (c.args.plane + 1) [] p.words.items (with_items p.words left).items p.some_row
     changed (λ place. set_where (λ x. false)) p.sets
+
+pub index-requires : goal.index-requires
+index-requires g c =
+    let p = c.args.self.now in
+    plane_indexed p.index.len p.height c.args.plane p.words.len p.some_row p.whole c.requires
+
+pub index_mut-requires : goal.index_mut-requires
+index_mut-requires g c =
+    let p = c.args.self.now in
+    plane_indexed p.index.len p.height c.args.plane p.words.len p.some_row p.whole c.requires
+
+pub clear_plane-requires : goal.clear_plane-requires
+clear_plane-requires g c = rw c.as_mut_slice.ensures.len c.requires
+
+pub invariant_of-self-clause-whole : goal.invariant_of-self-clause-whole
+invariant_of-self-clause-whole g c = c.args.self.now.whole
+
+pub returns-clause-words : goal.returns-clause-words
+returns-clause-words g c =
+    let p = c.args.self.now in
+    let left : List (List Bool) = c.clear_plane.new.words in
+    let long : length left ≡ p.words.len = c.clear_plane.auto.words ∙ c.as_mut_slice.ensures.len in
+    let B : List (List Bool) → Type 0 = λ ws. ArePlanesOf p.height c.args.plane (c.args.plane + 1) [] ws left in
+    let D : List (List Bool) → Type 0 = λ ws. ArePlanesOf p.height c.args.plane (c.args.plane + 1) [] p.words.items ws
+    in
+    subst D (sym (with_items_is p.words left long)) (subst B c.as_mut_slice.ensures.value c.clear_plane.ensures)
+
+pub returns-clause-count : goal.returns-clause-count
+returns-clause-count g c = refl
+
+pub returns-clause-marks : goal.returns-clause-marks
+returns-clause-marks g c = refl
