@@ -4,7 +4,7 @@ use Rattle.std.proofs.Common.{[], ◌∷◌, ◌++◌, length, map, take, drop, 
 use Rattle.std.specs.Prelude.{slice_get, nat_lt, nat_eq, not, ⊤}
 use Rattle.std.specs.List.{flat_map}
 use Rattle.std.proofs.lemmas.Bool.Decides.{nat_tests}
-use Rattle.std.proofs.lemmas.List.{drop_all, take-take, get_or-take, set_split, get_or_default}
+use Rattle.std.proofs.lemmas.List.{drop_all, take-take, get_or-take, set_split, get_or_default, map-append}
 use Rattle.ps_laws.proofs.common.Truths.{other_holds}
 use Rattle.ps_rules.proofs.Loops.{drop-at}
 use Rattle.std.proofs.lemmas.Option.{cond_some, same_Some}
@@ -42,6 +42,14 @@ with_first-all (item ∷ items) all = refl
 pub lists-first : {A : Type 0} (wheels : List (Wheel A)) → lists_of (map at_first wheels) ≡ lists_of wheels
 lists-first [] = refl
 lists-first (wheel ∷ wheels) = ap (λ lists. wheel.items ∷ lists) (lists-first wheels)
+
+-- one more wheel has one more list
+pub wheel_more : {A : Type 0} (wheels grown : List (Wheel A)) (items : List A) (lists : List (List A)) →
+    grown ≡ wheels ++ record { items = items; place = 0 } ∷ [] → lists_of wheels ≡ lists →
+    lists_of grown ≡ lists ++ items ∷ []
+wheel_more wheels grown items lists e before =
+    ap lists_of e ∙ map-append (λ wheel. wheel.items) wheels (record { items = items; place = 0 } ∷ [])
+    ∙ ap (λ l. l ++ items ∷ []) before
 
 -- from the first way on there are all
 pub ways-first : {A : Type 0} (wheels : List (Wheel A)) →
