@@ -4,6 +4,7 @@ use Rattle.std.proofs.Common.{None, List, [], ◌∷◌, ◌++◌, map, refl, sy
 use Rattle.std.specs.Prelude.{filter}
 use Rattle.std.proofs.lemmas.List.{append-nil, map-append}
 use Rattle.ps_rules.proofs.Loops.{drop-at}
+use Rattle.ps_readings.proofs.Pieces.{list_more}
 use Rattle.ps_model.specs.meaning.Readings.{Reading}
 use Rattle.ps_model.specs.meaning.ReadingMeanings.{is_possible}
 use Rattle.ps_model.specs.meaning.CompiledRules.{rule_by}
@@ -115,6 +116,25 @@ shown-more {A} {B} {C} {D} show f h made grown all x y ys i e shows less is befo
     ∙ ap (λ (z : B). map show made ++ z ∷ rest) shows
     ∙ ap (λ (l : List C). map show made ++ map f (map h l)) (sym there)
     ∙ before
+
+-- one more of a list passes, or doesn't
+pub passed_more : {A B : Type 0} (p : A → Bool) (f : A → B) (made grown all : List B) (d : A) (xs : List A) (i : ℕ) →
+    i < length xs → p (get_or xs i d) ≡ true → grown ≡ made ++ f (get_or xs i d) ∷ [] →
+    made ++ map f (filter p (drop i xs)) ≡ all → grown ++ map f (filter p (drop (i + 1) xs)) ≡ all
+passed_more {A} {B} p f made grown all d xs i less passes e before =
+    let x : A = get_or xs i d in
+    let rest : List A = filter p (drop (i + 1) xs) in
+    list_more (λ (l : List A). map f (filter p l)) made grown all (f x ∷ []) x d xs i
+    (ap (λ (pass : Bool). map f (cond pass (x ∷ rest) rest)) passes) less refl e before
+
+pub kept_more : {A B : Type 0} (p : A → Bool) (f : A → B) (made grown all : List B) (d : A) (xs : List A) (i : ℕ) →
+    i < length xs → p (get_or xs i d) ≡ false → grown ≡ made →
+    made ++ map f (filter p (drop i xs)) ≡ all → grown ++ map f (filter p (drop (i + 1) xs)) ≡ all
+kept_more {A} {B} p f made grown all d xs i less stays e before =
+    let x : A = get_or xs i d in
+    let rest : List A = filter p (drop (i + 1) xs) in
+    list_more (λ (l : List A). map f (filter p l)) made grown all [] x d xs i
+    (ap (λ (pass : Bool). map f (cond pass (x ∷ rest) rest)) stays) less refl (e ∙ sym (append-nil made)) before
 
 -- one more is made of what passes
 passed : {A : Type 0} (f : A → CompiledRule) (x : A) (xs : List A) (made : List CompiledRule) (yes : Bool) →

@@ -1,5 +1,6 @@
 -- Compiled sections in the making: what the pieces come to that lines are cut into.
-use Rattle.std.proofs.Common.{◌≡◌, List, [], ◌∷◌, ◌++◌, map, flat_map, refl, sym, ap, ◌∙◌, append_assoc}
+use Rattle.std.proofs.Common.{◌≡◌, ℕ, ◌+◌, ◌<◌, List, [], ◌∷◌, ◌++◌, length, drop, map, get_or, flat_map, Bor}
+use Rattle.std.proofs.Common.{refl, sym, ap, ◌∙◌, append_assoc}
 use Rattle.std.specs.List.{slice_split}
 use Rattle.std.proofs.lemmas.List.{map-append}
 use Rattle.ps_model.specs.declared.rules.Part.{Part}
@@ -10,6 +11,12 @@ use Rattle.ps_model.specs.board.RulePrograms.{is_start, is_end, groups_in, outsi
 use Rattle.ps_model.specs.board.RulePrograms.{behind_start}
 use Rattle.ps_model.specs.meaning.Compiled.{CompiledSection}
 use Rattle.ps_laws.proofs.common.Stages.{map-flat_map}
+use Rattle.ps_rules.specs.declared.tree.RuleLine.{RuleLine as TheLine}
+use Rattle.ps_rules.specs.RulesShown.{lines_shown}
+use Rattle.ps_program.specs.declared.program.CompiledSection.{CompiledSection as TheSection}
+use Rattle.ps_program.specs.ProgramShown.{sections_shown}
+use Rattle.ps_readings.proofs.Pieces.{list_more}
+use Rattle.ps_compile.specs.PiecesShown.{pieces_shown}
 use Rattle.ps_compile.specs.GroupsMade.{compiled_group}
 use Rattle.ps_compile.specs.ProgramsMade.{compiled_sections, compact_groups, compact_outside, compact_behind}
 use Rattle.ps_compile.specs.CompactPrograms.{compact_program}
@@ -57,3 +64,14 @@ behind-begun show names part lines inside others before begun section e shows cu
     ∙ append_assoc (map show before) (show section ∷ []) rest
     ∙ ap (λ shown. map show before ++ shown ∷ rest) shows
     ∙ ap (λ sections. map show before ++ sections) (sym (behind-made names part lines inside others cut))
+
+-- the sections of one more piece of lines are made
+pub sections-more : (f : List RuleLine → List CompiledSection) (made grown : List TheSection)
+    (all : List CompiledSection) (piece : Bor (List TheLine)) (pieces : List (Bor (List TheLine))) (i : ℕ) →
+    i < length pieces → piece ≡ get_or pieces i piece →
+    sections_shown grown ≡ sections_shown made ++ f (lines_shown piece.now) →
+    sections_shown made ++ flat_map f (pieces_shown (drop i pieces)) ≡ all →
+    sections_shown grown ++ flat_map f (pieces_shown (drop (i + 1) pieces)) ≡ all
+sections-more f made grown all piece pieces i less is e before =
+    list_more (λ (l : List (Bor (List TheLine))). flat_map f (pieces_shown l)) (sections_shown made)
+    (sections_shown grown) all (f (lines_shown piece.now)) piece piece pieces i refl less is e before
