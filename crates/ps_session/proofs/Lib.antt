@@ -2,3 +2,4 @@ mod Dismissed
 mod Heeded
 mod HistoryBoards
 mod IgnoredSteps
+mod KeyEnds

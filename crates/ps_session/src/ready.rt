@@ -1,13 +1,17 @@
 //! What takes memory, before anything of a session changes.
 
 ghost use Rattle.std.specs.Prelude.{◌≡◌, ◌++◌, OnErr, OnOk};
+ghost use Rattle.ps_model.specs.board.Turns.{Script};
+ghost use Rattle.ps_model.specs.session.Sessions.{Step};
+ghost use Rattle.ps_stage.specs.StepsShown.{IsStopped};
+ghost use Rattle.ps_session.specs.Left.{IsLeft};
 ghost use Rattle.ps_session.specs.Nexts.{IsReadyFor};
 
 use crate::nexts::Next;
 use ps_board::{Board, History};
 use ps_model::Memory;
 use ps_screen::OutputText;
-use ps_stage::{HistoryChange, Location, PlayedLevel, Stage};
+use ps_stage::{HistoryChange, Location, PlayedLevel, Stage, Stop};
 
 /// Makes the board of a location ready to enter the history, where it enters it before what comes next.
 ///
@@ -54,4 +58,20 @@ pub fn prepare<B: Board, H: History<B>>(
 {
     make_ready(history, location, next)?;
     stage.move_text(output)
+}
+
+/// What a key comes to that stopped. Where it leads elsewhere, the text before that is added to the output; without
+/// memory for that it is as if memory had been wanting before, and the output stays as it is.
+pub fn tell_stop<B: Board>(stage: &mut Stage<'_, B>, stop: Stop, output: &mut OutputText) -> Stop
+    ensures game { stage.new.game ≡ stage.old.game }
+    ensures left { (script : Script) (step : Step) → IsStopped script stop step stage.old.text
+        → IsLeft script result step output.old output.new }
+{
+    match stop {
+        Stop::Memory => Stop::Memory,
+        Stop::Elsewhere(entry) => match stage.move_text(output) {
+            Ok(()) => Stop::Elsewhere(entry),
+            Err(Memory) => Stop::Memory,
+        },
+    }
 }

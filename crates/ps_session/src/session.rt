@@ -13,7 +13,7 @@ ghost use Rattle.ps_session.specs.Phases.{phase_of};
 use crate::commit::{commit, give_up};
 use crate::locations::next_at;
 use crate::phase::Phase;
-use crate::ready::prepare;
+use crate::ready::{prepare, tell_stop};
 use ps_board::{Board, History};
 use ps_model::{Ending, Key, Memory};
 use ps_screen::OutputText;
@@ -138,11 +138,7 @@ impl<'g, B: Board, H: History<B>> Session<'g, B, H> {
         let next = match found {
             Ok(Some(next)) => next,
             Ok(None) => return Ok(self.phase()),
-            Err(Stop::Memory) => return Err(Stop::Memory),
-            Err(Stop::Elsewhere(entry)) => {
-                self.stage.move_text(output)?;
-                return Err(Stop::Elsewhere(entry));
-            }
+            Err(stop) => return Err(tell_stop(&mut self.stage, stop, output)),
         };
         let done = prepare(
             &mut self.stage,
