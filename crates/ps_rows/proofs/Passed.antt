@@ -1,13 +1,14 @@
 -- Loops over a list of planes: what holds of those passed by, and then of all.
-use Rattle.std.proofs.Common.{◌≡◌, ◌∙◌, ℕ, ◌+◌, ◌*◌, ◌<◌, ◌≤◌, inl, inr, Bool, true, List, length, get_or, sym, ap}
+use Rattle.std.proofs.Common.{◌≡◌, ◌∙◌, ℕ, ◌+◌, ◌-◌, ◌*◌, ◌<◌, ◌≤◌, inl, inr, Bool, true, List, length, get_or, sym, ap}
 use Rattle.std.proofs.Common.{refl, subst, take, arith}
 use Rattle.std.specs.Prelude.{nat_eq}
 use Rattle.std.specs.List.{list_any}
-use Rattle.std.proofs.lemmas.Bool.{eqb-true, or_cases}
+use Rattle.std.proofs.lemmas.Bool.{cases_eq, cases_lt, eqb-true, or_cases}
 use Rattle.std.proofs.lemmas.List.{take_all}
 use Rattle.std.proofs.lemmas.List.Folds.{list_any_more}
 use Rattle.ps_rows.specs.Planes.{HavePlanes}
-use Rattle.ps_rows.specs.PlaneCopies.{ArePlanesOf}
+use Rattle.ps_rows.specs.Showing.{motions_from}
+use Rattle.ps_rows.specs.PlaneCopies.{ArePlanesOf, AreRowsOf}
 use Rattle.ps_rows.proofs.Marks.{listed_at}
 use Rattle.ps_rows.proofs.PlaneCopies.{behind_plane, planes_within}
 
@@ -17,7 +18,7 @@ module _ (P : ℕ → Type 0) (planes : List ℕ) (k : ℕ) where
       P (get_or planes k 0) → (plane : ℕ) → list_any (nat_eq plane) (take (k + 1) planes) ≡ true → P plane
   passed_one inside before here plane listed =
       elim (or_cases (list_any (nat_eq plane) (take k planes)) (nat_eq plane (get_or planes k 0))
-        (sym (list_any_more (nat_eq plane) planes k 0 inside) ∙ listed)) [
+      (sym (list_any_more (nat_eq plane) planes k 0 inside) ∙ listed)) [
         | inl early ↦ before plane early
         | inr same ↦ subst P (sym (eqb-true plane (get_or planes k 0) same)) here
       ]
@@ -61,6 +62,13 @@ pub next_enough : (height plane marked planes long long' : ℕ) → plane < mark
 next_enough height plane marked planes long long' below few within same =
     let order : plane + 1 ≤ planes = omega arith in planes_enough height (plane + 1) planes long long' order within same
 
+pub indexed_enough : (height height' count end plane long long' : ℕ) → plane < end → end ≡ count → height' ≡ height →
+    long ≡ count * height → long' ≡ long → (plane + 1) * height' ≤ long'
+indexed_enough height height' count end plane long long' below all high whole same =
+    let few : end ≤ count = omega arith in
+    let within : count * height ≤ long = omega arith in
+    rw high (next_enough height plane end count long long' below few within same)
+
 -- the words are those of all planes
 pub words_whole : (count height long : ℕ) (words : List (List Bool)) → long ≡ length words → long ≡ count * height →
     length words ≤ count * height
@@ -71,11 +79,80 @@ pub planes_counted : (height planes count long : ℕ) → 0 < height → long �
 planes_counted height planes count long some whole within =
     let enough : planes * height ≤ count * height = omega arith in planes_within height planes count some enough
 
+-- the planes of objects stand in the words of a board
+pub objects_within : (table : List ℕ) (layers height long : ℕ) (words : List (List Bool)) → long ≡ length words →
+    long ≡ motions_from table layers * height → length table * height ≤ length words
+objects_within table layers height long words all whole =
+    let fewer : length table ≤ motions_from table layers = omega arith in
+    let less : length table * height ≤ motions_from table layers * height =
+    behind_plane height (length table) (motions_from table layers) fewer in
+    omega (arith, less)
+
 -- no plane is copied at first
-pub none_copied : (height : ℕ) (source before : List (List Bool)) → ArePlanesOf height 0 0 source before before
-none_copied height source before =
+pub none_copied : (height first : ℕ) (source before : List (List Bool)) →
+    ArePlanesOf height first first source before before
+none_copied height first source before =
     record {
       below = λ plane row under less. refl;
       behind = λ plane row under more. refl;
       copied = λ plane row under low high. absurd (omega arith);
     }
+
+-- and then one plane more
+pub planes_more : (height first end : ℕ) (source before between after : List (List Bool)) → first ≤ end →
+    ArePlanesOf height first end source before between → ArePlanesOf height end (end + 1) source between after →
+    ArePlanesOf height first (end + 1) source before after
+planes_more height first end source before between after order was next =
+    record {
+      below = λ plane row under less.
+          let low : plane < end = omega arith in next.below plane row under low ∙ was.below plane row under less;
+      behind = λ plane row under more.
+          let high : end ≤ plane = omega arith in next.behind plane row under more ∙ was.behind plane row under high;
+      copied = λ plane row under from below. elim (cases_lt plane end) [
+        | inl early ↦ next.below plane row under early ∙ was.copied plane row under from early
+        | inr late ↦ next.copied plane row under late below
+      ];
+    }
+
+-- so of some rows of the planes
+pub no_rows_copied : (height first : ℕ) (rows : List Bool) (source before : List (List Bool)) →
+    AreRowsOf height first first rows source before before
+no_rows_copied height first rows source before =
+    record {
+      below = λ plane row under less. refl;
+      behind = λ plane row under more. refl;
+      copied = λ plane row under low high has. absurd (omega arith);
+      left = λ plane row under clear. refl;
+    }
+
+pub rows_more : (height first end : ℕ) (rows : List Bool) (source before between after : List (List Bool)) →
+    first ≤ end → AreRowsOf height first end rows source before between →
+    AreRowsOf height end (end + 1) rows source between after →
+    AreRowsOf height first (end + 1) rows source before after
+rows_more height first end rows source before between after order was next =
+    record {
+      below = λ plane row under less.
+          let low : plane < end = omega arith in next.below plane row under low ∙ was.below plane row under less;
+      behind = λ plane row under more.
+          let high : end ≤ plane = omega arith in next.behind plane row under more ∙ was.behind plane row under high;
+      copied = λ plane row under from below has. elim (cases_lt plane end) [
+        | inl early ↦ next.below plane row under early ∙ was.copied plane row under from early has
+        | inr late ↦ next.copied plane row under late below has
+      ];
+      left = λ plane row under clear. next.left plane row under clear ∙ was.left plane row under clear;
+    }
+
+-- layers that are passed by from the last one on
+pub layers_more : (P : ℕ → Type 0) (layers step : ℕ) →
+    ((layer : ℕ) → layer < layers → layers - step ≤ layer → P layer) → P (layers - 1 - step) → (layer : ℕ) →
+    layer < layers → layers - (step + 1) ≤ layer → P layer
+layers_more P layers step before here layer low from = elim (cases_eq layer (layers - 1 - step)) [
+  | inl e ↦ subst P (sym e) here
+  | inr n ↦ let more : layers - step ≤ layer = omega (arith, low, from, n) in before layer low more
+]
+
+pub layer_below : (layers step : ℕ) → step < layers → layers - 1 - step < layers
+layer_below layers step inside = omega arith
+
+pub zero_below : (n : ℕ) → 0 ≤ n
+zero_below n = omega arith

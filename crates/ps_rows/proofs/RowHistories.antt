@@ -278,6 +278,23 @@ module _ {B : Type 0} (keeps : B → Kept) where
       ∙ ap (λ (ss : List (Step B)). boards_before (boards_of (Some board) ss keeps)) (sym (no_last steps (sym last)))
       ∙ ap (λ (o : Option B). boards_before (boards_of o steps keeps)) e
 
+  -- there is none that could leave
+  pub none_are : (latest after : Option B) (steps : List (Step B)) → after ≡ latest → AreBehind latest steps keeps →
+      AreBehind after steps keeps
+  none_are latest after steps same behinds = let P : Option B → Type 0 = λ o. AreBehind o steps keeps in
+      subst P (sym same) behinds
+
+  pub none_left : (latest after : Option B) (steps : List (Step B)) → after ≡ None → latest ≡ None →
+      boards_of after steps keeps ≡ boards_before (boards_of latest steps keeps)
+  none_left latest after steps gone none = rw (gone, none) refl
+
+  pub gone_rest : (after : Option B) (steps front : List (Step B)) → after ≡ None →
+      None ≡ slice_get steps (length steps - 1) → front ≡ take (length steps - 1) steps → AreBehind after front keeps
+  gone_rest after steps front gone last is =
+      let P : Option B → Type 0 = λ o. AreBehind o front keeps in
+      subst P (sym gone)
+      (is ∙ ap (λ (ss : List (Step B)). take (length ss - 1) ss) (no_last steps (sym last)))
+
 -- what is read of a board whose rows became those of another one, of the same size for the same game
 module _ (table table' : List ℕ) (width width' height height' layers layers' : ℕ) (now others : List (List Bool))
     (same : table' ≡ table) (wide : width' ≡ width) (high : height' ≡ height) (deep : layers' ≡ layers)
@@ -291,3 +308,10 @@ module _ (table table' : List ℕ) (width width' height height' layers layers' :
     objects = rw are (rw (same, wide, high) at objects);
     motions = rw are (rw (same, wide, high, deep) at motions);
   }
+
+-- a board that keeps what another one does
+pub kept_same : (table table' : List ℕ) (width width' height height' layers layers' : ℕ)
+    (words words' : List (List Bool)) → table' ≡ table → width' ≡ width → height' ≡ height → layers' ≡ layers →
+    words' ≡ words → kept table' width' height' layers' words' ≡ kept table width height layers words
+kept_same table table' width width' height height' layers layers' words words' same wide high deep are =
+    rw (same, wide, high, deep, are) refl

@@ -2,6 +2,7 @@
 use Rattle.std.proofs.Common.{◌≡◌, ℕ, ◌*◌, ◌/◌, ◌<◌, ◌≤◌, true, Option, Some, None, List, [], length, get_or, map}
 use Rattle.std.proofs.Common.{replicate, refl, sym, ap, subst, ◌∙◌, arith, Bool}
 use Rattle.std.specs.Prelude.{IfSome, option_map, slice_get, slice_set}
+use Rattle.std.proofs.lemmas.List.{length-replicate}
 use Rattle.std.proofs.lemmas.Nat.{div_below}
 use Rattle.std.proofs.lemmas.Option.{none-some, same_Some, slice_get-map}
 use Rattle.ps_model.specs.declared.pieces.ObjectId.{ObjectId}
@@ -113,24 +114,32 @@ have_room table own e = λ object layer h.
     ∙ ap (option_map number) h in
     subst P (sym e) (is_number-own (slice_get (map number own) object.0) layer.0 here)
 
--- a copy of a board shows what it shows, and is whole as it is
-module _ (table table' : List ℕ) (height height' : ℕ) (words words' : List (List Bool)) (same : table' ≡ table)
-    (high : height' ≡ height) (are : words' ≡ words) where
-  pub copied_whole : (layers long long' : ℕ) → long' ≡ length words' → length words ≡ long →
-      long ≡ motions_from table layers * height → long' ≡ motions_from table' layers * height'
-  copied_whole layers long long' here there whole = rw (same, high) (here ∙ ap length are ∙ there ∙ whole)
+-- a board to which another one is copied shows what it shows, and is whole as it is
+module _ (table table' : List ℕ) (width width' height height' layers layers' : ℕ) (words words' : List (List Bool))
+    (same : table' ≡ table) (wide : width' ≡ width) (high : height' ≡ height) (deep : layers' ≡ layers)
+    (are : words' ≡ words) where
+  pub copied_whole : (long long' : ℕ) → long' ≡ length words' → length words ≡ long →
+      long ≡ motions_from table layers * height → long' ≡ motions_from table' layers' * height'
+  copied_whole long long' here there whole = rw (same, high, deep) (here ∙ ap length are ∙ there ∙ whole)
 
-  pub copied_objects : (width : ℕ) → AreObjectsShown table height words (width * height) →
-      AreObjectsShown table' height' words' (width * height')
-  copied_objects width told = rw (same, high, are) told
+  pub copied_objects : AreObjectsShown table height words (width * height) →
+      AreObjectsShown table' height' words' (width' * height')
+  copied_objects told = rw (same, wide, high, are) told
 
-  pub copied_motions : (layers width : ℕ) → AreMotionsShown table layers height words (width * height) →
-      AreMotionsShown table' layers height' words' (width * height')
-  copied_motions layers width told = rw (same, high, are) told
+  pub copied_motions : AreMotionsShown table layers height words (width * height) →
+      AreMotionsShown table' layers' height' words' (width' * height')
+  copied_motions told = rw (same, wide, high, deep, are) told
 
   pub copied_rest : AreEmptyFrom (length table * height) words → AreEmptyFrom (length table' * height') words'
   copied_rest told = rw (same, high, are) told
 
-  pub copied_grid : (width layers : ℕ) →
-      grid_shown table' width height' layers words' ≡ grid_shown table width height layers words
-  copied_grid width layers = rw (same, high, are) refl
+  pub copied_grid : grid_shown table' width' height' layers' words' ≡ grid_shown table width height layers words
+  copied_grid = rw (same, wide, high, deep, are) refl
+
+-- a new board has all its planes
+pub new_whole : (table : List ℕ) (layers height height' count long : ℕ) (words : List (List Bool)) →
+    long ≡ length words → words ≡ replicate (count * height) no_columns → count ≡ motions_from table layers →
+    height' ≡ height → long ≡ motions_from table layers * height'
+new_whole table layers height height' count long words here are all high =
+    rw high
+    (here ∙ ap length are ∙ length-replicate (count * height) no_columns ∙ ap (λ (n : ℕ). n * height) all)

@@ -1,6 +1,7 @@
-use Rattle.std.proofs.Common.{◌≡◌, ◌*◌, ◌≤◌, ℕ, length, arith, subst, [], List}
+use Rattle.std.proofs.Common.{◌≡◌, ◌∙◌, ◌*◌, ◌≤◌, ℕ, length, refl, sym, arith, subst, [], List}
 use Rattle.ps_rows.specs.RowDifferences.{Difference, LeadBothWays}
 use Rattle.ps_rows.proofs.RowDifferences.{all_back, all_forth, both_none, both_planes, both_reach}
+use Rattle.ps_rows.proofs.Passed.{next_enough, own_order, planes_enough, then_order}
 use Rattle.ps_rows.proofs.row_differences.differences.Goals as goal
 
 pub loop-plane-init : goal.loop-plane-init
@@ -15,36 +16,60 @@ pub returns-clause-forth : goal.returns-clause-forth
 returns-clause-forth g c =
     let p = c.args.first.now in
     let o = c.args.second.now in
-    let all : c.loop-plane.plane ≡ c.planes_marked-marked.result =
-    omega (arith, c.loop-plane-test.false, c.loop-plane.auto.plane-end) in
-    let whole : length p.words.items ≤ length p.words.items = omega arith in
-    let enough : c.args.planes * p.height ≤ length p.words.items = omega (arith, c.requires.planes, p.words.ok.0) in
-    let long : length o.words.items ≡ length p.words.items =
-    omega (arith, c.requires.count, p.words.ok.0, o.words.ok.0) in
+    let marked : ℕ = c.planes_marked-marked.result in
+    let whole : length p.words.items ≤ length p.words.items = own_order (length p.words.items) in
+    let N : ℕ → Type 0 = λ n. c.args.planes * p.height ≤ n in
+    let enough : c.args.planes * p.height ≤ length p.words.items = subst N p.words.ok.0 c.requires.planes in
+    let long : length o.words.items ≡ length p.words.items = sym o.words.ok.0 ∙ c.requires.count ∙ p.words.ok.0 in
     all_forth p.height (length p.words.items) p.words.items o.words.items c.loop-plane.found.items whole long
     (both_reach p.height (c.args.planes * p.height) (length p.words.items) p.words.items o.words.items
     c.loop-plane.found.items enough (λ place from below. c.requires.rest place from)
     (both_planes p.height c.loop-plane.plane c.args.planes p.words.items o.words.items c.loop-plane.found.items
     p.some_row
-    (omega (arith, all, c.planes_marked-marked.ensures.few))
-    (λ plane from below. c.planes_marked-marked.ensures.same plane (omega (arith, all, from)) below)
+    (then_order c.loop-plane.plane marked c.args.planes c.loop-plane.auto.plane-end c.planes_marked-marked.ensures.few)
+    (λ plane from below. c.planes_marked-marked.ensures.same plane
+    (then_order marked c.loop-plane.plane plane c.loop-plane-test.false from) below)
     c.loop-plane.invariant))
 
 pub returns-clause-back : goal.returns-clause-back
 returns-clause-back g c =
     let p = c.args.first.now in
     let o = c.args.second.now in
-    let all : c.loop-plane.plane ≡ c.planes_marked-marked.result =
-    omega (arith, c.loop-plane-test.false, c.loop-plane.auto.plane-end) in
-    let whole : length p.words.items ≤ length p.words.items = omega arith in
-    let enough : c.args.planes * p.height ≤ length p.words.items = omega (arith, c.requires.planes, p.words.ok.0) in
-    let long : length o.words.items ≡ length p.words.items =
-    omega (arith, c.requires.count, p.words.ok.0, o.words.ok.0) in
+    let marked : ℕ = c.planes_marked-marked.result in
+    let whole : length p.words.items ≤ length p.words.items = own_order (length p.words.items) in
+    let N : ℕ → Type 0 = λ n. c.args.planes * p.height ≤ n in
+    let enough : c.args.planes * p.height ≤ length p.words.items = subst N p.words.ok.0 c.requires.planes in
+    let long : length o.words.items ≡ length p.words.items = sym o.words.ok.0 ∙ c.requires.count ∙ p.words.ok.0 in
     all_back p.height (length p.words.items) p.words.items o.words.items c.loop-plane.found.items whole long
     (both_reach p.height (c.args.planes * p.height) (length p.words.items) p.words.items o.words.items
     c.loop-plane.found.items enough (λ place from below. c.requires.rest place from)
     (both_planes p.height c.loop-plane.plane c.args.planes p.words.items o.words.items c.loop-plane.found.items
     p.some_row
-    (omega (arith, all, c.planes_marked-marked.ensures.few))
-    (λ plane from below. c.planes_marked-marked.ensures.same plane (omega (arith, all, from)) below)
+    (then_order c.loop-plane.plane marked c.args.planes c.loop-plane.auto.plane-end c.planes_marked-marked.ensures.few)
+    (λ plane from below. c.planes_marked-marked.ensures.same plane
+    (then_order marked c.loop-plane.plane plane c.loop-plane-test.false from) below)
     c.loop-plane.invariant))
+
+pub planes_marked-marked-requires : goal.planes_marked-marked-requires
+planes_marked-marked-requires g c =
+    let p = c.args.first.now in
+    record {
+      height = c.requires.height;
+      here = c.requires.planes;
+      there = planes_enough p.height c.args.planes c.args.planes p.words.len c.args.second.now.words.len
+          (own_order c.args.planes) c.requires.planes c.requires.count;
+    }
+
+pub add_differences-requires : goal.add_differences-requires
+add_differences-requires g c =
+    let p = c.args.first.now in
+    record {
+      height = c.requires.height;
+      count = c.requires.count;
+      plane = next_enough p.height c.loop-plane.plane c.planes_marked-marked.result c.args.planes p.words.len p.words.len
+          c.loop-plane-test.true c.planes_marked-marked.ensures.few c.requires.planes refl;
+      before = c.loop-plane.invariant;
+    }
+
+pub loop-plane-preserved : goal.loop-plane-preserved
+loop-plane-preserved g c = c.in_ok-add_differences.ensures

@@ -1,6 +1,8 @@
-use Rattle.std.proofs.Common.{◌*◌, ◌≤◌, ◌∙◌, length, refl, sym, arith}
+use Rattle.std.proofs.Common.{◌+◌, ◌*◌, ◌≤◌, ◌∙◌, ℕ, [], length, refl, sym, subst, arith}
 use Rattle.ps_board.proofs.ColumnLaws.{none_in}
 use Rattle.ps_rows.proofs.PlaneCopies.{all_cleared, behind_plane, unmarked_rest}
+use Rattle.ps_rows.specs.PlaneCopies.{ArePlanesOf}
+use Rattle.ps_rows.proofs.Passed.{indexed_enough, none_copied, planes_more}
 use Rattle.ps_rows.proofs.planes.Planes.clear_from.Goals as goal
 
 pub returns-clause-words : goal.returns-clause-words
@@ -24,3 +26,37 @@ returns-then-is_empty-clause-words g c =
     (λ plane row from less low.
     c.rows_from.ensures plane row from less low
     (none_in c.rows_from.result row (c.is_empty.ensures.none c.if-is_empty.true) low)))
+
+pub loop-plane-init : goal.loop-plane-init
+loop-plane-init g c = (
+  none_copied c.args.self.now.height c.args.first [] c.args.self.now.words.items,
+  refl,
+  refl,
+  refl,
+)
+
+pub clear_marked-requires : goal.clear_marked-requires
+clear_marked-requires g c =
+    let p = c.args.self.now in
+    let was = c.loop-plane.invariant in
+    indexed_enough p.height c.loop-plane.self.height p.index.len c.len-plane-end.result c.loop-plane.plane p.words.len
+    c.loop-plane.self.words.len c.loop-plane-test.true c.len-plane-end.ensures was.1 p.whole was.2
+
+pub loop-plane-preserved : goal.loop-plane-preserved
+loop-plane-preserved g c =
+    let was = c.loop-plane.invariant in
+    let H : ℕ → Type 0 = λ h. ArePlanesOf h c.loop-plane.plane (c.loop-plane.plane + 1) [] c.loop-plane.self.words.items
+    c.clear_marked.new.self.words.items in (
+      planes_more c.args.self.now.height c.args.first c.loop-plane.plane [] c.args.self.now.words.items
+          c.loop-plane.self.words.items c.clear_marked.new.self.words.items c.loop-plane.auto.plane was.0
+          (subst H was.1 c.clear_marked.ensures.words),
+      c.clear_marked.ensures.height ∙ was.1,
+      c.clear_marked.ensures.count ∙ was.2,
+      c.clear_marked.ensures.marks ∙ was.3,
+    )
+
+pub returns-clause-height : goal.returns-clause-height
+returns-clause-height g c = c.loop-plane.invariant.1
+
+pub returns-clause-count : goal.returns-clause-count
+returns-clause-count g c = c.loop-plane.invariant.2

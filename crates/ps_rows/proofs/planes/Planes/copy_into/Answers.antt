@@ -73,7 +73,7 @@ pub loop-plane-init : goal.loop-plane-init
 loop-plane-init g c =
     record {
       order = own_order 0;
-      copied = none_copied c.args.self.now.height c.args.self.now.words.items c.args.other.now.words.items;
+      copied = none_copied c.args.self.now.height 0 c.args.self.now.words.items c.args.other.now.words.items;
       height = c.requires.height;
       count = c.requires.count;
     }

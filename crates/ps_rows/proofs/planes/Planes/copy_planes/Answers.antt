@@ -1,10 +1,10 @@
-use Rattle.std.proofs.Common.{◌≡◌, ◌+◌, ◌-◌, ◌*◌, ◌<◌, ◌≤◌, ℕ, Bool, List, length, refl, sym, subst, arith}
+use Rattle.std.proofs.Common.{◌≡◌, ◌≢◌, ◌∙◌, ◌+◌, ◌-◌, ◌*◌, ◌<◌, ◌≤◌, ℕ, Bool, List, length, refl, sym, subst, arith}
 use Rattle.std.specs.Vec.{with_items}
 use Rattle.std.proofs.lemmas.List.{with_items_is}
 use Rattle.ps_rows.specs.PlaneCopies.{AreCopied}
 use Rattle.ps_rows.specs.RowIndex.{AreRowsMarked}
 use Rattle.ps_rows.proofs.Marked.{plane_indexed}
-use Rattle.ps_rows.proofs.PlaneCopies.{marked_planes, planes_copied, sets_planes}
+use Rattle.ps_rows.proofs.PlaneCopies.{behind_plane, marked_planes, planes_copied, sets_planes}
 use Rattle.ps_rows.proofs.planes.Planes.copy_planes.Goals as goal
 
 -- so many planes stand whole in the words, and have their words in the index
@@ -17,29 +17,33 @@ all_indexed count height end long some whole enough one =
     let below : last < count = plane_indexed count height last long some whole (subst E (sym e) enough) in
     omega (arith, below, e)
 
+-- what ends behind its start ends behind something
+some_end : (first end : ℕ) → first ≤ end → first ≢ end → 0 < end
+some_end first end order apart = omega arith
+
 pub copy_sets-requires-2-clause-here : goal.copy_sets-requires-2-clause-here
 copy_sets-requires-2-clause-here g c =
     let p = c.args.self.now in
-    let one : 0 < c.args.end = omega (arith, c.requires.order, c.if-first-end.false) in
+    let one : 0 < c.args.end = some_end c.args.first c.args.end c.requires.order c.if-first-end.false in
     let within : c.args.end ≤ p.index.len = all_indexed p.index.len p.height c.args.end p.words.len p.some_row p.whole
     c.requires.here one in
-    omega (arith, within, c.as_slice-2.ensures.len)
+    rw c.as_slice-2.ensures.len within
 
 pub copy_sets-requires-2-clause-there : goal.copy_sets-requires-2-clause-there
 copy_sets-requires-2-clause-there g c =
     let o = c.args.other.now in
-    let one : 0 < c.args.end = omega (arith, c.requires.order, c.if-first-end.false) in
+    let one : 0 < c.args.end = some_end c.args.first c.args.end c.requires.order c.if-first-end.false in
     let E : ℕ → Type 0 = λ h. c.args.end * h ≤ o.words.len in
     let within : c.args.end ≤ o.index.len = all_indexed o.index.len o.height c.args.end o.words.len o.some_row o.whole
     (subst E (sym c.requires.height) c.requires.there) one in
-    omega (arith, within, c.as_mut_slice-index.ensures.len)
+    rw c.as_mut_slice-index.ensures.len within
 
 pub invariant_of-other-clause-sets : goal.invariant_of-other-clause-sets
 invariant_of-other-clause-sets g c =
     let p = c.args.self.now in
     let o = c.args.other.now in
     let left : List (List Bool) = c.copy_sets.new.others in
-    let long : length left ≡ o.words.len = omega (arith, c.copy_sets.ensures.long, c.as_mut_slice-words.ensures.len) in
+    let long : length left ≡ o.words.len = c.copy_sets.ensures.long ∙ c.as_mut_slice-words.ensures.len in
     let start : ℕ = c.args.first * p.height in
     let end : ℕ = c.args.end * p.height in
     let A : List (List Bool) → Type 0 = λ ws. AreCopied start end ws c.as_mut_slice-words.result.now left in
@@ -58,9 +62,8 @@ invariant_of-other-clause-marked g c =
     let o = c.args.other.now in
     let left : List (List Bool) = c.copy_sets.new.others in
     let mine : List (List Bool) = c.copy_sets-2.new.others in
-    let long : length left ≡ o.words.len = omega (arith, c.copy_sets.ensures.long, c.as_mut_slice-words.ensures.len) in
-    let high : length mine ≡ o.index.len =
-    omega (arith, c.copy_sets-2.ensures.long, c.as_mut_slice-index.ensures.len) in
+    let long : length left ≡ o.words.len = c.copy_sets.ensures.long ∙ c.as_mut_slice-words.ensures.len in
+    let high : length mine ≡ o.index.len = c.copy_sets-2.ensures.long ∙ c.as_mut_slice-index.ensures.len in
     let start : ℕ = c.args.first * p.height in
     let end : ℕ = c.args.end * p.height in
     let A : List (List Bool) → Type 0 = λ ws. AreCopied start end ws c.as_mut_slice-words.result.now left in
@@ -76,7 +79,7 @@ invariant_of-other-clause-marked g c =
     let noted : AreCopied c.args.first c.args.end p.index.items o.index.items (with_items o.index mine).items =
     subst K (sym (with_items_is o.index mine high))
     (subst J c.as_mut_slice-index.ensures.value (subst I c.as_slice-2.ensures.value c.copy_sets-2.ensures.copied)) in
-    let one : 0 < c.args.end = omega (arith, c.requires.order, c.if-first-end.false) in
+    let one : 0 < c.args.end = some_end c.args.first c.args.end c.requires.order c.if-first-end.false in
     let within : c.args.end ≤ p.index.len = all_indexed p.index.len p.height c.args.end p.words.len p.some_row p.whole
     c.requires.here one in
     let M : ℕ → Type 0 = λ h. AreRowsMarked o.index.len h o.words.items o.index.items in
@@ -101,7 +104,7 @@ returns-clause-words g c =
     let p = c.args.self.now in
     let o = c.args.other.now in
     let left : List (List Bool) = c.copy_sets.new.others in
-    let long : length left ≡ o.words.len = omega (arith, c.copy_sets.ensures.long, c.as_mut_slice-words.ensures.len) in
+    let long : length left ≡ o.words.len = c.copy_sets.ensures.long ∙ c.as_mut_slice-words.ensures.len in
     let start : ℕ = c.args.first * p.height in
     let end : ℕ = c.args.end * p.height in
     let A : List (List Bool) → Type 0 = λ ws. AreCopied start end ws c.as_mut_slice-words.result.now left in
@@ -110,3 +113,20 @@ returns-clause-words g c =
     planes_copied p.height c.args.first c.args.end p.words.items o.words.items (with_items o.words left).items
     (subst D (sym (with_items_is o.words left long))
     (subst B c.as_mut_slice-words.ensures.value (subst A c.as_slice.ensures.value c.copy_sets.ensures.copied)))
+
+pub copy_sets-requires : goal.copy_sets-requires
+copy_sets-requires g c =
+    record {
+      order = behind_plane c.args.self.now.height c.args.first c.args.end c.requires.order;
+      here = rw c.as_slice.ensures.len c.requires.here;
+      there = rw c.as_mut_slice-words.ensures.len c.requires.there;
+    }
+
+pub invariant_of-other-clause-whole : goal.invariant_of-other-clause-whole
+invariant_of-other-clause-whole g c = c.args.other.now.whole
+
+pub returns-clause-height : goal.returns-clause-height
+returns-clause-height g c = c.requires.height
+
+pub returns-clause-count : goal.returns-clause-count
+returns-clause-count g c = refl

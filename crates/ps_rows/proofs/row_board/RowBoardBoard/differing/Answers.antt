@@ -1,5 +1,7 @@
 use Rattle.std.proofs.Common.{◌≡◌}
 use Rattle.std.proofs.lemmas.Option.{same_Some}
+use Rattle.ps_rows.proofs.Alike.{other_whole}
+use Rattle.ps_rows.proofs.Passed.{objects_within}
 use Rattle.ps_rows.proofs.SameRows.{others_same}
 use Rattle.ps_rows.proofs.row_board.RowBoardBoard.differing.Goals as goal
 
@@ -14,3 +16,21 @@ returns g c =
     c.args.row c.differing_row.result c.requires.row
     b.columns (rw (c.count-objects.ensures.value, c.as_slice-here.ensures.value, c.as_slice-there.ensures.value) at
     c.differing_row.ensures))
+
+pub differing_row-requires-clause-first : goal.differing_row-requires-clause-first
+differing_row-requires-clause-first g c =
+    let b = c.args.self.now in
+    rw (c.count-objects.ensures.value, c.as_slice-here.ensures.value)
+    (objects_within b.members.table.items b.layers b.planes.height b.planes.words.len b.planes.words.items
+    b.planes.words.ok.0 b.whole)
+
+pub differing_row-requires-clause-second : goal.differing_row-requires-clause-second
+differing_row-requires-clause-second g c =
+    let b = c.args.self.now in
+    let o = c.args.other.now in
+    rw (c.count-objects.ensures.value, c.as_slice-there.ensures.value)
+    (objects_within b.members.table.items b.layers b.planes.height o.planes.words.len o.planes.words.items
+    o.planes.words.ok.0
+    (other_whole b.members.table.items o.members.table.items b.layers o.layers b.planes.height o.planes.height
+    o.planes.words.len (same_Some o.members.table.items b.members.table.items c.requires.table) c.requires.layers
+    c.requires.height o.whole))
