@@ -1,13 +1,16 @@
 -- Loops over a list of planes: what holds of those passed by, and then of all.
-use Rattle.std.proofs.Common.{◌≡◌, ◌∙◌, ℕ, ◌+◌, ◌-◌, ◌*◌, ◌<◌, ◌≤◌, inl, inr, Bool, true, List, length, get_or, sym, ap}
-use Rattle.std.proofs.Common.{refl, subst, take, arith}
-use Rattle.std.specs.Prelude.{nat_eq}
+use Rattle.std.proofs.Common.{◌≡◌, ◌∙◌, ℕ, ◌+◌, ◌-◌, ◌*◌, ◌<◌, ◌≤◌, ◌&&◌, inl, inr, Bool, true, List, length, get_or}
+use Rattle.std.proofs.Common.{sym, ap, refl, subst, take, arith}
+use Rattle.std.specs.Prelude.{nat_eq, nat_lt, slice_get}
 use Rattle.std.specs.List.{list_any}
-use Rattle.std.proofs.lemmas.Bool.{cases_eq, cases_lt, eqb-true, or_cases}
+use Rattle.std.proofs.lemmas.Bool.{and_parts, cases_eq, cases_lt, eqb-true, or_cases}
 use Rattle.std.proofs.lemmas.List.{take_all}
 use Rattle.std.proofs.lemmas.List.Folds.{list_any_more}
 use Rattle.ps_rows.specs.Planes.{HavePlanes}
 use Rattle.ps_rows.specs.Showing.{motions_from}
+use Rattle.std.proofs.lemmas.Option.{slice_get_within}
+use Rattle.ps_model.specs.board.Movement.{is_number}
+use Rattle.ps_laws.proofs.common.SameThings.{is_number-true}
 use Rattle.ps_rows.specs.PlaneCopies.{ArePlanesOf, AreRowsOf}
 use Rattle.ps_rows.proofs.Marks.{listed_at}
 use Rattle.ps_rows.proofs.PlaneCopies.{behind_plane, planes_within}
@@ -156,3 +159,41 @@ layer_below layers step inside = omega arith
 
 pub zero_below : (n : ℕ) → 0 ≤ n
 zero_below n = omega arith
+
+-- the five planes of a layer's motions
+pub motion_below : (table : List ℕ) (layers layer first motion : ℕ) → first ≡ motions_from table layer →
+    layer < layers → motion < 5 → first + motion < motions_from table layers
+motion_below table layers layer first motion is low five = omega arith
+
+module _ (P : ℕ → Type 0) (first motion : ℕ) where
+  pub no_motions : (plane : ℕ) → first ≤ plane → plane < first + 0 → P plane
+  no_motions plane from below = absurd (omega arith)
+
+  pub motions_more : ((plane : ℕ) → first ≤ plane → plane < first + motion → P plane) → P (first + motion) →
+      (plane : ℕ) → first ≤ plane → plane < first + (motion + 1) → P plane
+  motions_more before here plane from below = elim (cases_eq plane (first + motion)) [
+    | inl e ↦ subst P (sym e) here
+    | inr n ↦ let low : plane < first + motion = omega (arith, below, n) in before plane from low
+  ]
+
+  pub motions_all : (start : ℕ) → first ≡ start → 5 ≤ motion →
+      ((plane : ℕ) → first ≤ plane → plane < first + motion → P plane) → (plane : ℕ) → start ≤ plane →
+      plane < start + 5 → P plane
+  motions_all start is five before plane from below =
+      let after : first ≤ plane = omega (arith, is, from) in
+      let low : plane < first + motion = omega (arith, is, five, below) in
+      before plane after low
+
+-- an object that stands on a layer has a plane
+pub held_plane : (table : List ℕ) (layers object layer : ℕ) (on : Bool) →
+    on ≡ (nat_lt layer layers && is_number (slice_get table object) layer) → on ≡ true →
+    object < motions_from table layers
+held_plane table layers object layer on is told =
+    let parts = and_parts (nat_lt layer layers) (is_number (slice_get table object) layer) (sym is ∙ told) in
+    let within : object < length table =
+    slice_get_within table object layer (is_number-true (slice_get table object) layer parts.1) in
+    omega arith
+
+-- a row of so many, from the first one on
+pub row_there : (first count k height : ℕ) → first + count ≤ height → k < count → first + k < height
+row_there first count k height all low = omega arith

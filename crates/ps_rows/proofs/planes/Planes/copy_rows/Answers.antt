@@ -1,4 +1,4 @@
-use Rattle.std.proofs.Common.{◌∙◌, ℕ, List, Bool, refl, subst}
+use Rattle.std.proofs.Common.{◌∙◌, ℕ, refl, subst}
 use Rattle.ps_rows.specs.PlaneCopies.{AreRowsOf}
 use Rattle.ps_rows.proofs.Passed.{next_enough, no_rows_copied, own_order, rows_more, same_order}
 use Rattle.ps_rows.proofs.Passed.{zero_below}

@@ -1,9 +1,10 @@
-use Rattle.std.proofs.Common.{◌∙◌, ◌+◌, ◌<◌, [], refl, sym, arith}
+use Rattle.std.proofs.Common.{◌∙◌, ◌+◌, ◌<◌, [], length, refl, sym}
 use Rattle.std.specs.Prelude.{slice_index_or}
 use Rattle.ps_model.specs.board.Grid.{Grid}
 use Rattle.ps_rows.specs.Showing.{grid_shown}
 use Rattle.ps_rows.specs.RowTests.{held}
 use Rattle.ps_rows.proofs.RowsKept.{kept_everywhere, kept_without}
+use Rattle.ps_rows.proofs.Passed.{held_plane, row_there}
 use Rattle.ps_rows.proofs.Scans.{own_row, other_row}
 use Rattle.ps_rows.proofs.row_board.RowBoard.keep_free.Goals as goal
 
@@ -14,7 +15,8 @@ returns-then-is_on g c =
     record {
       long = c.keep_without.ensures.long;
       each = λ k low.
-          let here : c.args.first + k < b.planes.height = omega (arith, low, c.requires) in
+          let here : c.args.first + k < b.planes.height =
+          row_there c.args.first (length c.args.found.now) k b.planes.height c.requires low in
           kept_without grid (c.args.first + k) (slice_index_or c.args.found.now k []) (held c.args.sought.now)
           (slice_index_or c.plane_rows-words.result.now k []) (slice_index_or c.keep_without.new.found k []) b.columns
           (own_row b.members.table.items b.width b.planes.height b.layers b.planes.words.items (c.args.first + k)
@@ -31,8 +33,22 @@ returns-else-is_on g c =
     record {
       long = refl;
       each = λ k low.
-          let here : c.args.first + k < b.planes.height = omega (arith, low, c.requires) in
+          let here : c.args.first + k < b.planes.height =
+          row_there c.args.first (length c.args.found.now) k b.planes.height c.requires low in
           kept_everywhere grid (c.args.first + k) (slice_index_or c.args.found.now k []) (held c.args.sought.now)
           (other_row b.members.table.items b.width b.planes.height b.layers b.planes.words.items (c.args.first + k)
           b.planes.some_row b.columns here c.args.sought.now (sym c.is_on.ensures ∙ c.if-is_on.false));
     }
+
+pub plane_rows-words-requires : goal.plane_rows-words-requires
+plane_rows-words-requires g c =
+    let b = c.args.self.now in
+    let sought = c.args.sought.now in
+    record {
+      plane = held_plane b.members.table.items b.layers sought.object.0 sought.layer.0 c.is_on.result c.is_on.ensures
+          c.if-is_on.true;
+      rows = c.requires;
+    }
+
+pub keep_without-requires : goal.keep_without-requires
+keep_without-requires g c = c.plane_rows-words.ensures.long

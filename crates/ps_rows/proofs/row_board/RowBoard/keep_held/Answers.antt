@@ -1,4 +1,4 @@
-use Rattle.std.proofs.Common.{◌∙◌, ℕ, ◌+◌, ◌<◌, List, Bool, [], length, replicate, sym, arith}
+use Rattle.std.proofs.Common.{◌∙◌, ℕ, ◌+◌, ◌<◌, List, Bool, [], length, replicate, sym}
 use Rattle.std.specs.Prelude.{slice_index_or}
 use Rattle.std.proofs.lemmas.List.{get_or-replicate, length-replicate}
 use Rattle.ps_model.specs.board.Grid.{Grid}
@@ -6,6 +6,7 @@ use Rattle.ps_board.specs.ColumnSets.{no_columns}
 use Rattle.ps_rows.specs.Showing.{grid_shown}
 use Rattle.ps_rows.specs.RowTests.{held}
 use Rattle.ps_rows.proofs.RowsKept.{kept_both, kept_nowhere}
+use Rattle.ps_rows.proofs.Passed.{held_plane, row_there}
 use Rattle.ps_rows.proofs.Scans.{own_row, other_row}
 use Rattle.ps_rows.proofs.row_board.RowBoard.keep_held.Goals as goal
 
@@ -16,7 +17,8 @@ returns-then-is_on g c =
     record {
       long = c.keep_both.ensures.long;
       each = λ k low.
-          let here : c.args.first + k < b.planes.height = omega (arith, low, c.requires) in
+          let here : c.args.first + k < b.planes.height =
+          row_there c.args.first (length c.args.found.now) k b.planes.height c.requires low in
           kept_both grid (c.args.first + k) (slice_index_or c.args.found.now k []) (held c.args.sought.now)
           (slice_index_or c.plane_rows-words.result.now k []) (slice_index_or c.keep_both.new.found k []) b.columns
           (own_row b.members.table.items b.width b.planes.height b.layers b.planes.words.items (c.args.first + k)
@@ -35,10 +37,24 @@ returns g c =
     rw c.clear.ensures (record {
       long = length-replicate count no_columns;
       each = λ k low.
-          let here : c.args.first + k < b.planes.height = omega (arith, low, c.requires) in
+          let here : c.args.first + k < b.planes.height =
+          row_there c.args.first (length c.args.found.now) k b.planes.height c.requires low in
           kept_nowhere grid (c.args.first + k) (slice_index_or c.args.found.now k []) (held c.args.sought.now)
           (slice_index_or none k [])
           (other_row b.members.table.items b.width b.planes.height b.layers b.planes.words.items (c.args.first + k)
           b.planes.some_row b.columns here c.args.sought.now (sym c.is_on.ensures ∙ c.if-is_on.false))
           (get_or-replicate count k no_columns [] low);
     })
+
+pub plane_rows-words-requires : goal.plane_rows-words-requires
+plane_rows-words-requires g c =
+    let b = c.args.self.now in
+    let sought = c.args.sought.now in
+    record {
+      plane = held_plane b.members.table.items b.layers sought.object.0 sought.layer.0 c.is_on.result c.is_on.ensures
+          c.if-is_on.true;
+      rows = c.requires;
+    }
+
+pub keep_both-requires : goal.keep_both-requires
+keep_both-requires g c = c.plane_rows-words.ensures.long

@@ -9,8 +9,8 @@ invariant_of-other-clause-whole g c =
     let b = c.args.self.now in
     let o = c.args.other.now in
     let new = c.copy_into.new.other in
-    copied_whole b.members.table.items o.members.table.items b.width o.width b.planes.height new.height b.layers o.layers
-    b.planes.words.items new.words.items
+    copied_whole b.members.table.items o.members.table.items b.width o.width b.planes.height new.height b.layers
+    o.layers b.planes.words.items new.words.items
     (same_Some o.members.table.items b.members.table.items c.requires.table) c.requires.width
     c.copy_into.ensures.height c.requires.layers c.copy_into.ensures.words b.planes.words.len new.words.len
     new.words.ok.0 (sym b.planes.words.ok.0) b.whole
@@ -20,8 +20,8 @@ invariant_of-other-clause-objects g c =
     let b = c.args.self.now in
     let o = c.args.other.now in
     let new = c.copy_into.new.other in
-    copied_objects b.members.table.items o.members.table.items b.width o.width b.planes.height new.height b.layers o.layers
-    b.planes.words.items new.words.items
+    copied_objects b.members.table.items o.members.table.items b.width o.width b.planes.height new.height b.layers
+    o.layers b.planes.words.items new.words.items
     (same_Some o.members.table.items b.members.table.items c.requires.table) c.requires.width
     c.copy_into.ensures.height c.requires.layers c.copy_into.ensures.words b.objects
 
@@ -30,8 +30,8 @@ invariant_of-other-clause-motions g c =
     let b = c.args.self.now in
     let o = c.args.other.now in
     let new = c.copy_into.new.other in
-    copied_motions b.members.table.items o.members.table.items b.width o.width b.planes.height new.height b.layers o.layers
-    b.planes.words.items new.words.items
+    copied_motions b.members.table.items o.members.table.items b.width o.width b.planes.height new.height b.layers
+    o.layers b.planes.words.items new.words.items
     (same_Some o.members.table.items b.members.table.items c.requires.table) c.requires.width
     c.copy_into.ensures.height c.requires.layers c.copy_into.ensures.words b.motions
 
@@ -40,8 +40,8 @@ invariant_of-other-clause-rest g c = λ still.
     let b = c.args.self.now in
     let o = c.args.other.now in
     let new = c.copy_into.new.other in
-    copied_rest b.members.table.items o.members.table.items b.width o.width b.planes.height new.height b.layers o.layers
-    b.planes.words.items new.words.items
+    copied_rest b.members.table.items o.members.table.items b.width o.width b.planes.height new.height b.layers
+    o.layers b.planes.words.items new.words.items
     (same_Some o.members.table.items b.members.table.items c.requires.table) c.requires.width
     c.copy_into.ensures.height c.requires.layers c.copy_into.ensures.words (b.rest still)
 
@@ -50,8 +50,8 @@ returns-clause-grid g c =
     let b = c.args.self.now in
     let o = c.args.other.now in
     let new = c.copy_into.new.other in
-    copied_grid b.members.table.items o.members.table.items b.width o.width b.planes.height new.height b.layers o.layers
-    b.planes.words.items new.words.items
+    copied_grid b.members.table.items o.members.table.items b.width o.width b.planes.height new.height b.layers
+    o.layers b.planes.words.items new.words.items
     (same_Some o.members.table.items b.members.table.items c.requires.table) c.requires.width
     c.copy_into.ensures.height c.requires.layers c.copy_into.ensures.words
 

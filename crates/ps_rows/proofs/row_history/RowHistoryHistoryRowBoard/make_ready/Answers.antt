@@ -1,4 +1,4 @@
-use Rattle.std.proofs.Common.{◌∙◌, ap, Some}
+use Rattle.std.proofs.Common.{ap, Some}
 use Rattle.ps_rows.specs.RowHistories.{HistoryShown}
 use Rattle.ps_rows.proofs.row_history.RowHistoryHistoryRowBoard.make_ready.Goals.{in-None+in_ok-copied-in-None}
 use Rattle.ps_rows.proofs.row_history.RowHistoryHistoryRowBoard.make_ready.Goals.{in-Some+in_ok-step-in-Some}
