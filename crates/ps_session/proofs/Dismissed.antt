@@ -1,12 +1,13 @@
 -- A message that is dismissed.
-use Rattle.std.proofs.Common.{◌≡◌, ◌≢◌, true, false, refl}
+use Rattle.std.proofs.Common.{◌≡◌, ◌≢◌, ℕ, suc, false, refl}
 use Rattle.std.proofs.lemmas.Bool.{true≢false}
 use Rattle.ps_model.specs.declared.play.Input.TheVariants.{Up, Down, Left, Right, Action}
 use Rattle.ps_model.specs.declared.play.Key.{Key}
 use Rattle.ps_model.specs.declared.play.Key.TheVariants.{Move, Undo, Restart, Quit}
 use Rattle.ps_model.specs.board.Turns.{Script}
 use Rattle.ps_model.specs.session.Sessions.{Play, Pending}
-use Rattle.ps_model.specs.session.KeySteps.{gone_on, key_at_level_message}
+use Rattle.ps_model.specs.session.StartSteps.{enter}
+use Rattle.ps_model.specs.session.KeySteps.{gone_on, key_at_entry, key_at_level_message}
 use Rattle.ps_session.specs.IgnoredKeys.{is_ignored_at_message}
 
 -- a key that is neither ignored nor `q` dismisses it
@@ -21,3 +22,15 @@ dismissed script play pending (Move Action) e n = refl
 dismissed script play pending Undo e n = absurd (true≢false e)
 dismissed script play pending Restart e n = absurd (true≢false e)
 dismissed script play pending Quit e n = absurd (n refl)
+
+-- at a message entry the next one begins
+pub entry_dismissed : (script : Script) (entry : ℕ) (key : Key) → is_ignored_at_message key ≡ false → key ≢ Quit →
+    key_at_entry script entry key ≡ enter script (suc entry)
+entry_dismissed script entry (Move Up) e n = absurd (true≢false e)
+entry_dismissed script entry (Move Down) e n = absurd (true≢false e)
+entry_dismissed script entry (Move Left) e n = absurd (true≢false e)
+entry_dismissed script entry (Move Right) e n = absurd (true≢false e)
+entry_dismissed script entry (Move Action) e n = refl
+entry_dismissed script entry Undo e n = absurd (true≢false e)
+entry_dismissed script entry Restart e n = absurd (true≢false e)
+entry_dismissed script entry Quit e n = absurd (n refl)

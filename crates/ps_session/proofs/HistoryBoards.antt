@@ -1,7 +1,7 @@
 -- The boards of an undo history, and the grids that they show.
 use Rattle.std.proofs.Common.{◌≡◌, ◌∙◌, ℕ, ◌-◌, Option, List, [], ◌∷◌, ◌++◌, length, map, take, drop, sym, ap, arith}
 use Rattle.std.proofs.lemmas.List.{drop-map, length-map}
-use Rattle.std.proofs.lemmas.List.Elements.{All-drop, All-push, All-take}
+use Rattle.std.proofs.lemmas.List.Elements.{All-drop, All-nil, All-push, All-same, All-take}
 use Rattle.std.specs.List.{take-map}
 use Rattle.std.proofs.lemmas.Grind.{common_steps}
 use Rattle.ps_board.specs.Histories.{BoardShown, boards_before, boards_kept}
@@ -38,3 +38,7 @@ kept_on_table table boards board on own =
 pub before_on_table : (table : Option (List ℕ)) (boards : List BoardShown) → AreOnTable table boards →
     AreOnTable table (boards_before boards)
 before_on_table table boards on = All-take (λ shown. shown.table ≡ table) (length boards - 1) boards on
+
+pub none_on_table : (table : Option (List ℕ)) (boards : List BoardShown) → boards ≡ [] → AreOnTable table boards
+none_on_table table boards none =
+    All-same (λ shown. shown.table ≡ table) boards [] none (All-nil (λ shown. shown.table ≡ table))

@@ -5,7 +5,7 @@ use Rattle.ps_model.specs.declared.play.Input.TheVariants.{Up, Down, Left, Right
 use Rattle.ps_model.specs.declared.play.Key.{Key}
 use Rattle.ps_model.specs.declared.play.Key.TheVariants.{Move, Undo, Restart, Quit}
 use Rattle.ps_model.specs.board.Turns.{Script}
-use Rattle.ps_model.specs.session.Sessions.{Play, Pending, Session, Playing, Waiting, AtMessage, Ended, Step, quietly}
+use Rattle.ps_model.specs.session.Sessions.{Play, Pending, Playing, Waiting, AtMessage, Ended, Step, quietly}
 use Rattle.ps_model.specs.session.Sessions.{with_board_in_history}
 use Rattle.ps_model.specs.session.StartSteps.{restarted}
 use Rattle.ps_model.specs.session.KeySteps.{input_taken, key_at_entry, key_at_level_message, key_in_level, undone}
@@ -17,7 +17,7 @@ dropped : (ignored : Bool) (play : Play) (key : Play → Step) → ignored ≡ t
 dropped true play key e = refl
 dropped false play key e = absurd (true≢false (sym e))
 
-in_level : (script : Script) (play : Play) (key : Key) → is_ignored_in_level script.options key ≡ true →
+pub in_level : (script : Script) (play : Play) (key : Key) → is_ignored_in_level script.options key ≡ true →
     key_in_level script play key ≡ quietly (Playing play)
 in_level script play (Move Up) e = absurd (true≢false (sym e))
 in_level script play (Move Down) e = absurd (true≢false (sym e))
@@ -40,7 +40,7 @@ at_level_message script play pending Undo e = refl
 at_level_message script play pending Restart e = refl
 at_level_message script play pending Quit e = absurd (true≢false (sym e))
 
-at_entry : (script : Script) (entry : ℕ) (key : Key) → is_ignored_at_message key ≡ true →
+pub at_entry : (script : Script) (entry : ℕ) (key : Key) → is_ignored_at_message key ≡ true →
     key_at_entry script entry key ≡ quietly (AtMessage entry)
 at_entry script entry (Move Up) e = refl
 at_entry script entry (Move Down) e = refl

@@ -1,13 +1,11 @@
 -- What a key comes to, told of the value of a session: it is the session's inside, whose text was forgotten first.
-use Rattle.std.proofs.Common.{◌≡◌, ◌∙◌, ◌++◌, ℕ, Bool, true, false, Option, Some, None, List, Result, Ok, Err, sym}
-use Rattle.std.proofs.Common.{ap, subst, append_assoc}
+use Rattle.std.proofs.Common.{◌≡◌, ◌∙◌, ◌++◌, ℕ, true, false, Option, Some, None, List, Result, Ok, Err, sym}
+use Rattle.std.proofs.Common.{ap, subst}
 use Rattle.std.proofs.lemmas.List.{append-nil}
 use Rattle.ps_model.specs.board.Programs.{Section}
-use Rattle.ps_model.specs.board.Turns.{Script}
 use Rattle.ps_model.specs.declared.play.Key.{Key}
 use Rattle.ps_model.specs.session.KeySteps.{key_step}
-use Rattle.ps_model.specs.session.Sessions.{Session, Step, after, quietly}
-use Rattle.ps_model.specs.session.StartSteps.{enter}
+use Rattle.ps_model.specs.session.Sessions.{Session, Step, quietly}
 use Rattle.ps_board.specs.Histories.{BoardShown}
 use Rattle.ps_stage.specs.Locations.{location_shown}
 use Rattle.ps_stage.specs.Standings.{SessionParts, SessionValue, Standing, script_for}
@@ -16,7 +14,7 @@ use Rattle.ps_stage.specs.declared.locations.Location.{Location}
 use Rattle.ps_stage.specs.declared.stops.Stop.{Stop}
 use Rattle.ps_session.specs.Histories.{grids_of}
 use Rattle.ps_session.specs.IgnoredKeys.{is_ignored}
-use Rattle.ps_session.specs.Left.{BeginsAt, IsLeft}
+use Rattle.ps_session.specs.Left.{IsLeft}
 
 -- the game of the value
 pub game_of_value : (now then : SessionParts) (inside value : SessionValue) → now ≡ then → then ≡ inside.game →
@@ -73,17 +71,6 @@ pub no_text_come : (step : Step) (session : Session) (before : List ℕ) → ste
     before ≡ before ++ step.text
 no_text_come step session before is =
     sym (append-nil before) ∙ ap (λ (text : List ℕ). before ++ text) (sym (ap (λ (step : Step). step.text) is))
-
--- an entry is still to begin behind a step that stopped
-pub begins_at : (script : Script) (entry : ℕ) (step : Step) (text output now : List ℕ) →
-    step ≡ after text (enter script entry) → now ≡ output ++ text → BeginsAt script entry step output now
-begins_at script entry step text output now stopped moved =
-    let begun : Step = enter script entry in
-    record {
-      session = ap (λ (step : Step). step.session) stopped;
-      text = ap (λ (step : Step). output ++ step.text) stopped ∙ sym (append_assoc output text begun.text)
-          ∙ ap (λ (now : List ℕ). now ++ begun.text) (sym moved);
-    }
 
 -- what a key leaves inside is what it leaves of the value
 pub left_of_value : (table_for : List ℕ → Option (List ℕ)) (plain late : Option (List ℕ) → List Section)

@@ -3,3 +3,5 @@ mod Heeded
 mod HistoryBoards
 mod IgnoredSteps
 mod KeyEnds
+mod Starts
+mod UndoneSteps

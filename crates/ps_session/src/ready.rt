@@ -1,8 +1,12 @@
 //! What takes memory, before anything of a session changes.
 
-ghost use Rattle.std.specs.Prelude.{◌≡◌, ◌++◌, OnErr, OnOk};
+ghost use Rattle.std.specs.Prelude.{◌≡◌, ◌++◌, ◌≤◌, [], IfOk, OnErr, OnOk};
 ghost use Rattle.ps_model.specs.board.Turns.{Script};
 ghost use Rattle.ps_model.specs.session.Sessions.{Step};
+ghost use Rattle.ps_model.specs.session.StartSteps.{enter};
+ghost use Rattle.ps_stage.specs.Locations.{location_shown, IsOnTable};
+ghost use Rattle.ps_stage.specs.Sides.{side_at};
+ghost use Rattle.ps_stage.specs.Standings.{script_for};
 ghost use Rattle.ps_stage.specs.StepsShown.{IsStopped};
 ghost use Rattle.ps_session.specs.Left.{IsLeft};
 ghost use Rattle.ps_session.specs.Nexts.{IsReadyFor};
@@ -12,6 +16,7 @@ use ps_board::{Board, History};
 use ps_model::Memory;
 use ps_screen::OutputText;
 use ps_stage::{HistoryChange, Location, PlayedLevel, Stage, Stop};
+use ps_turn::{Rules, TurnRules};
 
 /// Makes the board of a location ready to enter the history, where it enters it before what comes next.
 ///
@@ -74,4 +79,34 @@ pub fn tell_stop<B: Board>(stage: &mut Stage<'_, B>, stop: Stop, output: &mut Ou
             Err(Memory) => Stop::Memory,
         },
     }
+}
+
+/// Begins at an entry for which the boards have room, and moves the text that this makes to the output.
+///
+/// # Errors
+///
+/// `Memory`, and the output is as before.
+pub fn begin<B: Board, R: Rules<B>>(
+    stage: &mut Stage<'_, B>,
+    rules: &mut TurnRules<B, R>,
+    entry: usize,
+    output: &mut OutputText,
+) -> Result<Location<PlayedLevel<B>>, Memory>
+    requires empty { stage.old.text ≡ [] }
+    requires room { side_at stage.old.game.entries entry ≤ B.Words.limit }
+    ensures game { stage.new.game ≡ stage.old.game }
+    ensures plain { R.meant rules.new.plain ≡ R.meant rules.old.plain }
+    ensures late { R.meant rules.new.late ≡ R.meant rules.old.late }
+    ensures table { IfOk result (λ location. IsOnTable (B.table_for stage.old.game.names.layers) location) }
+    ensures shown { IfOk result (λ location. location_shown [] location
+        ≡ (enter (script_for B.table_for stage.old.game (R.meant rules.old.plain) (R.meant rules.old.late))
+        entry).session) }
+    ensures written { OnOk result (output.new ≡ output.old
+        ++ (enter (script_for B.table_for stage.old.game (R.meant rules.old.plain) (R.meant rules.old.late))
+        entry).text) }
+    ensures kept { OnErr result (output.new ≡ output.old) }
+{
+    let location = stage.begin(rules, entry)?;
+    stage.move_text(output)?;
+    Ok(location)
 }

@@ -13,7 +13,7 @@ ghost use Rattle.ps_session.specs.Phases.{phase_of};
 use crate::commit::{commit, give_up};
 use crate::locations::next_at;
 use crate::phase::Phase;
-use crate::ready::{prepare, tell_stop};
+use crate::ready::{begin, prepare, tell_stop};
 use ps_board::{Board, History};
 use ps_model::{Ending, Key, Memory};
 use ps_screen::OutputText;
@@ -87,8 +87,7 @@ impl<'g, B: Board, H: History<B>> Session<'g, B, H> {
     {
         let history = H::try_new(alloc)?;
         let mut stage = Stage::new(alloc, game, sides)?;
-        let location = stage.begin(rules, entry)?;
-        stage.move_text(output)?;
+        let location = begin(&mut stage, rules, entry, output)?;
         Ok(Session {
             stage,
             location,

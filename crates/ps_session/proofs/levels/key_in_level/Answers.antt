@@ -1,28 +1,131 @@
-use Rattle.std.proofs.Common.{◌≡◌, ◌∙◌, false, sym, ap}
-use Rattle.ps_model.specs.declared.options.Options.{Options}
-use Rattle.ps_model.specs.declared.play.Key.{Key}
+use Rattle.std.proofs.Common.{◌≡◌, ◌∙◌, true, false, List, refl, sym, ap}
+use Rattle.std.proofs.lemmas.Bool.{true≢false}
+use Rattle.ps_model.specs.board.Grid.{Grid}
 use Rattle.ps_model.specs.board.Turns.{Script}
 use Rattle.ps_model.specs.session.KeySteps.{key_in_level}
 use Rattle.ps_model.specs.session.Sessions.{Play}
-use Rattle.ps_stage.specs.Standings.{SessionParts, play_of, script_for}
+use Rattle.ps_stage.specs.Standings.{play_of, script_for}
+use Rattle.ps_stage.specs.declared.locations.Location.TheVariants.{Playing}
 use Rattle.ps_session.specs.Histories.{grids_of}
 use Rattle.ps_session.specs.IgnoredKeys.{is_ignored_in_level}
-use Rattle.ps_session.proofs.Heeded.{undo_heeded}
+use Rattle.ps_session.proofs.Heeded.{moved_by, restarted_by, told_ignored, undone_by}
+use Rattle.ps_session.proofs.IgnoredSteps.{in_level}
 use Rattle.ps_session.proofs.levels.key_in_level.Goals as goal
 
-pub returns-in_ok-next-in-Undo-clause-came : goal.returns-in_ok-next-in-Undo-clause-came
-returns-in_ok-next-in-Undo-clause-came g c =
-    let game : SessionParts = c.args.stage.now.game in
-    let script : Script = script_for g.B.Board.table_for game (g.R.Rules.meant c.args.rules.now.plain)
-    (g.R.Rules.meant c.args.rules.now.late) in
-    let play : Play = play_of (grids_of (g.H.History.boards c.args.history.now)) c.args.level.now in
-    let heeded : game.options.no_undo ≡ false =
-    ap (λ (key : Key). is_ignored_in_level game.options key) (sym c.in-Undo.is)
-    ∙ ap (λ (options : Options). is_ignored_in_level options c.args.key)
-    (sym (c.options.ensures ∙ ap (λ (parts : SessionParts). parts.options) c.game.ensures))
-    ∙ sym c.is_ignored_in_level.ensures ∙ c.if-is_ignored_in_level.false in
-    ap (key_in_level script play) c.in-Undo.is ∙ undo_heeded script play heeded
-    ∙ c.in_ok-next-in-Undo.ensures.came script.plain script.late
+pub returns-then-is_ignored_in_level : goal.returns-then-is_ignored_in_level
+returns-then-is_ignored_in_level g c =
+    let ignored : is_ignored_in_level c.args.stage.now.game.options c.args.key ≡ true =
+    told_ignored c.args.stage.now.game c.game.result.now c.options.result c.args.key c.is_ignored_in_level.result true
+    c.game.ensures c.options.ensures c.is_ignored_in_level.ensures c.if-is_ignored_in_level.true in
+    record {
+      game = refl;
+      plain = refl;
+      late = refl;
+      same = refl;
+      came = in_level (script_for g.B.Board.table_for c.args.stage.now.game (g.R.Rules.meant c.args.rules.now.plain)
+          (g.R.Rules.meant c.args.rules.now.late)) (play_of (grids_of (g.H.History.boards c.args.history.now))
+          c.args.level.now) c.args.key ignored;
+      stopped = tt;
+      table = tt;
+      ignored = λ e. refl;
+    }
 
-pub returns-in_ok-next-in-Quit-clause-table : goal.returns-in_ok-next-in-Quit-clause-table
-returns-in_ok-next-in-Quit-clause-table g c = c.in_ok-next-in-Quit.ensures.table _
+pub returns-in_ok-next-in-Move : goal.returns-in_ok-next-in-Move
+returns-in_ok-next-in-Move g c =
+    let grids : List Grid = grids_of (g.H.History.boards c.args.history.now) in
+    let script : Script = script_for g.B.Board.table_for c.args.stage.now.game
+    (g.R.Rules.meant c.args.rules.now.plain) (g.R.Rules.meant c.args.rules.now.late) in
+    let play : Play = play_of grids c.args.level.now in
+    let heeded : is_ignored_in_level c.args.stage.now.game.options c.args.key ≡ false =
+    told_ignored c.args.stage.now.game c.game.result.now c.options.result c.args.key c.is_ignored_in_level.result false
+    c.game.ensures c.options.ensures c.is_ignored_in_level.ensures c.if-is_ignored_in_level.false in
+    record {
+      game = c.in_ok-next-in-Move.ensures.game;
+      plain = c.in_ok-next-in-Move.ensures.plain;
+      late = c.in_ok-next-in-Move.ensures.late;
+      same = c.in_ok-next-in-Move.ensures.same;
+      came = moved_by script play c.in-Move.input c.args.key c.in-Move.is heeded ∙ c.in_ok-next-in-Move.ensures.came grids;
+      stopped = tt;
+      table = c.in_ok-next-in-Move.ensures.table;
+      ignored = λ e. absurd (true≢false (sym e ∙ heeded));
+    }
+
+pub returns-in_ok-next-in-Undo : goal.returns-in_ok-next-in-Undo
+returns-in_ok-next-in-Undo g c =
+    let grids : List Grid = grids_of (g.H.History.boards c.args.history.now) in
+    let script : Script = script_for g.B.Board.table_for c.args.stage.now.game
+    (g.R.Rules.meant c.args.rules.now.plain) (g.R.Rules.meant c.args.rules.now.late) in
+    let play : Play = play_of grids c.args.level.now in
+    let heeded : is_ignored_in_level c.args.stage.now.game.options c.args.key ≡ false =
+    told_ignored c.args.stage.now.game c.game.result.now c.options.result c.args.key c.is_ignored_in_level.result false
+    c.game.ensures c.options.ensures c.is_ignored_in_level.ensures c.if-is_ignored_in_level.false in
+    record {
+      game = c.in_ok-next-in-Undo.ensures.game;
+      plain = refl;
+      late = refl;
+      same = refl;
+      came = undone_by script play c.args.key c.in-Undo.is heeded ∙ c.in_ok-next-in-Undo.ensures.came script.plain script.late;
+      stopped = tt;
+      table = c.in_ok-next-in-Undo.ensures.table;
+      ignored = λ e. absurd (true≢false (sym e ∙ heeded));
+    }
+
+pub returns-in_ok-next-in-Restart : goal.returns-in_ok-next-in-Restart
+returns-in_ok-next-in-Restart g c =
+    let grids : List Grid = grids_of (g.H.History.boards c.args.history.now) in
+    let script : Script = script_for g.B.Board.table_for c.args.stage.now.game
+    (g.R.Rules.meant c.args.rules.now.plain) (g.R.Rules.meant c.args.rules.now.late) in
+    let play : Play = play_of grids c.args.level.now in
+    let heeded : is_ignored_in_level c.args.stage.now.game.options c.args.key ≡ false =
+    told_ignored c.args.stage.now.game c.game.result.now c.options.result c.args.key c.is_ignored_in_level.result false
+    c.game.ensures c.options.ensures c.is_ignored_in_level.ensures c.if-is_ignored_in_level.false in
+    record {
+      game = c.in_ok-next-in-Restart.ensures.game;
+      plain = c.in_ok-next-in-Restart.ensures.plain;
+      late = c.in_ok-next-in-Restart.ensures.late;
+      same = refl;
+      came = restarted_by script play c.args.key c.in-Restart.is heeded ∙ c.in_ok-next-in-Restart.ensures.came grids;
+      stopped = tt;
+      table = c.in_ok-next-in-Restart.ensures.table;
+      ignored = λ e. absurd (true≢false (sym e ∙ heeded));
+    }
+
+pub returns-in_ok-next-in-Quit : goal.returns-in_ok-next-in-Quit
+returns-in_ok-next-in-Quit g c =
+    let grids : List Grid = grids_of (g.H.History.boards c.args.history.now) in
+    let script : Script = script_for g.B.Board.table_for c.args.stage.now.game
+    (g.R.Rules.meant c.args.rules.now.plain) (g.R.Rules.meant c.args.rules.now.late) in
+    let play : Play = play_of grids c.args.level.now in
+    let heeded : is_ignored_in_level c.args.stage.now.game.options c.args.key ≡ false =
+    told_ignored c.args.stage.now.game c.game.result.now c.options.result c.args.key c.is_ignored_in_level.result false
+    c.game.ensures c.options.ensures c.is_ignored_in_level.ensures c.if-is_ignored_in_level.false in
+    record {
+      game = c.in_ok-next-in-Quit.ensures.game;
+      plain = refl;
+      late = refl;
+      same = refl;
+      came = ap (key_in_level script play) c.in-Quit.is ∙ c.in_ok-next-in-Quit.ensures.came grids (Playing c.args.level.now);
+      stopped = tt;
+      table = c.in_ok-next-in-Quit.ensures.table _;
+      ignored = λ e. absurd (true≢false (sym e ∙ heeded));
+    }
+
+pub returns-in_err-next-in-Move-clause-ignored : goal.returns-in_err-next-in-Move-clause-ignored
+returns-in_err-next-in-Move-clause-ignored g c = λ e. absurd (true≢false (sym e
+    ∙ told_ignored c.args.stage.now.game c.game.result.now c.options.result c.args.key c.is_ignored_in_level.result false
+    c.game.ensures c.options.ensures c.is_ignored_in_level.ensures c.if-is_ignored_in_level.false))
+
+pub returns-in_err-next-in-Undo-clause-ignored : goal.returns-in_err-next-in-Undo-clause-ignored
+returns-in_err-next-in-Undo-clause-ignored g c = λ e. absurd (true≢false (sym e
+    ∙ told_ignored c.args.stage.now.game c.game.result.now c.options.result c.args.key c.is_ignored_in_level.result false
+    c.game.ensures c.options.ensures c.is_ignored_in_level.ensures c.if-is_ignored_in_level.false))
+
+pub returns-in_err-next-in-Restart-clause-ignored : goal.returns-in_err-next-in-Restart-clause-ignored
+returns-in_err-next-in-Restart-clause-ignored g c = λ e. absurd (true≢false (sym e
+    ∙ told_ignored c.args.stage.now.game c.game.result.now c.options.result c.args.key c.is_ignored_in_level.result false
+    c.game.ensures c.options.ensures c.is_ignored_in_level.ensures c.if-is_ignored_in_level.false))
+
+pub returns-in_err-next-in-Quit-clause-ignored : goal.returns-in_err-next-in-Quit-clause-ignored
+returns-in_err-next-in-Quit-clause-ignored g c = λ e. absurd (true≢false (sym e
+    ∙ told_ignored c.args.stage.now.game c.game.result.now c.options.result c.args.key c.is_ignored_in_level.result false
+    c.game.ensures c.options.ensures c.is_ignored_in_level.ensures c.if-is_ignored_in_level.false))

@@ -1,4 +1,48 @@
+use Rattle.std.proofs.Common.{◌≡◌, ◌∙◌, ℕ, List, true, false, refl, sym, ap}
+use Rattle.std.proofs.lemmas.Bool.{true≢false}
+use Rattle.ps_model.specs.board.Turns.{Script}
+use Rattle.ps_model.specs.session.Sessions.{after}
+use Rattle.ps_model.specs.session.StartSteps.{enter}
+use Rattle.ps_stage.specs.Standings.{script_for}
+use Rattle.ps_session.specs.IgnoredKeys.{is_ignored_at_message}
+use Rattle.ps_session.proofs.Dismissed.{entry_dismissed}
+use Rattle.ps_session.proofs.IgnoredSteps.{at_entry}
 use Rattle.ps_session.proofs.messages.key_at_entry.Goals as goal
+
+pub returns-then-is_ignored_at_message : goal.returns-then-is_ignored_at_message
+returns-then-is_ignored_at_message g c =
+    let ignored : is_ignored_at_message c.args.key ≡ true =
+    sym c.is_ignored_at_message.ensures ∙ c.if-is_ignored_at_message.true in
+    record {
+      game = refl;
+      plain = refl;
+      late = refl;
+      came = λ history. at_entry (script_for g.B.Board.table_for c.args.stage.now.game
+          (g.R.Rules.meant c.args.rules.now.plain) (g.R.Rules.meant c.args.rules.now.late)) c.args.entry.now c.args.key
+          ignored;
+      stopped = tt;
+      table = tt;
+      ignored = λ e. refl;
+    }
 
 pub returns-in-Quit-clause-table : goal.returns-in-Quit-clause-table
 returns-in-Quit-clause-table g c = c.in_ok-next.ensures.table _
+
+pub returns : goal.returns
+returns g c =
+    let script : Script = script_for g.B.Board.table_for c.args.stage.now.game (g.R.Rules.meant c.args.rules.now.plain)
+    (g.R.Rules.meant c.args.rules.now.late) in
+    let heeded : is_ignored_at_message c.args.key ≡ false = sym c.is_ignored_at_message.ensures
+    ∙ c.if-is_ignored_at_message.false in
+    record {
+      game = c.in_ok-location.ensures.game;
+      plain = c.in_ok-location.ensures.plain;
+      late = c.in_ok-location.ensures.late;
+      came = λ history. entry_dismissed script c.args.entry.now c.args.key heeded c.in_default.not-Quit
+          ∙ ap (enter script) (sym c.next.ensures)
+          ∙ ap (λ (text : List ℕ). after text (enter script c.next.result)) (sym c.requires.empty)
+          ∙ c.in_ok-location.ensures.came;
+      stopped = tt;
+      table = c.in_ok-location.ensures.table;
+      ignored = λ e. absurd (true≢false (sym e ∙ heeded));
+    }

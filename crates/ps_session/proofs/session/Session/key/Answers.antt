@@ -1,11 +1,10 @@
-use Rattle.std.proofs.Common.{◌≡◌, ◌∙◌, ℕ, List, None, Some, false, subst, refl, sym, ap}
+use Rattle.std.proofs.Common.{◌≡◌, ◌∙◌, ℕ, List, None, Some, subst, refl, ap}
 use Rattle.std.specs.Prelude.{Option}
-use Rattle.ps_model.specs.board.Grid.{Grid}
 use Rattle.ps_model.specs.session.KeySteps.{key_step}
 use Rattle.ps_model.specs.session.Sessions.{Step}
 use Rattle.ps_board.specs.Histories.{BoardShown}
 use Rattle.ps_stage.specs.Locations.{IsOnTable, location_shown}
-use Rattle.ps_stage.specs.Standings.{SessionParts, SessionValue, StageValue, script_for}
+use Rattle.ps_stage.specs.Standings.{SessionValue, StageValue, script_for}
 use Rattle.ps_session.specs.Histories.{AreOnTable, grids_of}
 use Rattle.ps_session.specs.Nexts.{next_shown, next_step}
 use Rattle.ps_session.specs.Tables.{AnswersOnTable}

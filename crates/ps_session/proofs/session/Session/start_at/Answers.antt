@@ -1,0 +1,35 @@
+use Rattle.std.proofs.Common.{◌∙◌, subst, sym}
+use Rattle.ps_stage.specs.Locations.{IsOnTable}
+use Rattle.ps_stage.specs.Standings.{SessionParts}
+use Rattle.ps_session.proofs.HistoryBoards.{none_on_table}
+use Rattle.ps_session.proofs.Starts.{started_session, started_text}
+use Rattle.ps_session.proofs.session.Session.start_at.Goals as goal
+
+pub begin-requires : goal.begin-requires
+begin-requires g c = record {
+  empty = c.in_ok-stage.ensures.text;
+  room = rw c.in_ok-stage.ensures.game c.requires.room;
+}
+
+pub invariant_of-result : goal.invariant_of-result
+invariant_of-result g c = (
+  subst (λ (game : SessionParts). IsOnTable (g.B.Board.table_for game.names.layers) c.in_ok-location.location)
+      (sym c.in_ok-location.ensures.game) c.in_ok-location.ensures.table,
+  none_on_table (g.B.Board.table_for c.begin.new.stage.game.names.layers)
+      (g.H.History.boards c.in_ok-history.history) c.in_ok-history.ensures,
+)
+
+pub returns : goal.returns
+returns g c = record {
+  game = c.in_ok-location.ensures.game ∙ c.in_ok-stage.ensures.game;
+  session = started_session g.B.Board.table_for (g.R.Rules.meant c.args.rules.now.plain)
+      (g.R.Rules.meant c.args.rules.now.late) c.in_ok-stage.stage.game c.args.game c.args.entry
+      (g.H.History.boards c.in_ok-history.history) c.in_ok-location.location c.in_ok-stage.ensures.game
+      c.in_ok-history.ensures c.in_ok-location.ensures.shown;
+  written = started_text g.B.Board.table_for (g.R.Rules.meant c.args.rules.now.plain)
+      (g.R.Rules.meant c.args.rules.now.late) c.in_ok-stage.stage.game c.args.game c.args.entry c.args.output.now
+      c.begin.new.output c.in_ok-stage.ensures.game c.in_ok-location.ensures.written;
+  kept = tt;
+  plain = c.in_ok-location.ensures.plain;
+  late = c.in_ok-location.ensures.late;
+}
