@@ -16,7 +16,7 @@ use Rattle.ps_model.specs.board.GameGrids.{IsGridOf}
 use Rattle.ps_model.specs.board.Attempts.{Result}
 use Rattle.ps_model.specs.board.Programs.{after_change, round}
 use Rattle.ps_model.specs.board.RulePrograms.{program_of}
-use Rattle.ps_model.specs.meaning.GameRules.{IsRuleOf, IsLineOf}
+use Rattle.ps_model.specs.meaning.GameRules.{IsRuleOf}
 use Rattle.ps_model.specs.meaning.TurnedRound.{row_turned, forwards}
 use Rattle.ps_model.specs.meaning.RuleMeanings.{CellMeaning, RuleMeaning}
 use Rattle.ps_model.specs.meaning.ReadingMeanings.{meanings}

@@ -1,10 +1,10 @@
 -- Entries of LEVELS, an entry further.
-use Rattle.std.proofs.Common.{◌≡◌, ℕ, suc, ◌+◌, ◌<◌, ◌≤◌, Bool, true, false, ◌&&◌, List, [], ◌∷◌, ◌++◌, length, map}
-use Rattle.std.proofs.Common.{Some, refl, sym, ap, ◌∙◌, append_assoc, arith}
+use Rattle.std.proofs.Common.{◌≡◌, ◌≢◌, ℕ, suc, ◌+◌, ◌<◌, ◌≤◌, Bool, true, false, ◌&&◌, List, [], ◌∷◌, ◌++◌, length}
+use Rattle.std.proofs.Common.{map, Some, refl, sym, ap, ◌∙◌, append_assoc, arith}
 use Rattle.std.specs.Prelude.{not, nat_eq}
 use Rattle.std.specs.List.{take_while, list_any}
 use Rattle.std.proofs.lemmas.Bool.Decides.{nat_tests}
-use Rattle.std.proofs.lemmas.List.{length-map, length-append}
+use Rattle.std.proofs.lemmas.List.{length-map, length-append, map-append}
 use Rattle.ps_model.specs.declared.faults.Fault.{Fault}
 use Rattle.ps_model.specs.declared.faults.FaultKind.TheVariants.{TooManyEntries, NoLevel}
 use Rattle.ps_model.specs.text.Faults.{first_fault, when}
@@ -149,6 +149,17 @@ pub over-limit : (place number : ℕ) (first : Line) → place ≡ ENTRY_LIMIT �
 over-limit place number first p n =
     let over : nat_eq place ENTRY_LIMIT ≡ true = grind (arith, nat_tests) in
     rw (over, n) refl
+
+pub under-limit : (place : ℕ) (first : Line) → place ≢ ENTRY_LIMIT → too_many place first ≡ []
+under-limit place first apart =
+    let under : nat_eq place ENTRY_LIMIT ≡ false = grind (arith, nat_tests) in
+    rw under refl
+
+-- one more entry, as it is meant
+pub shown-more : {A B : Type 0} (shows : A → B) (before now : List A) (one : A) (meant : B) → now ≡ before ++ one ∷ [] →
+    shows one ≡ meant → map shows now ≡ map shows before ++ meant ∷ []
+shown-more shows before now one meant e h =
+    ap (map shows) e ∙ map-append shows before (one ∷ []) ∙ ap (λ m. map shows before ++ m ∷ []) h
 
 level_by : (names : Names) (entry : EntryLines) → is_level_entry (entry_of_lines names entry) ≡ are_level_lines entry
 level_by names (MessageLine line) = refl

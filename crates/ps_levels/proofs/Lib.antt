@@ -4,6 +4,7 @@ mod Grounds
 mod ColumnSteps
 mod RowSteps
 mod LevelSteps
+pub mod Refusals
 mod StretchSteps
 mod EntrySteps
 mod WrittenRows

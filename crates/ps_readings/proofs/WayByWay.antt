@@ -258,6 +258,17 @@ turned-here place k old now wheel e within long front behind none is less =
     ∙ ap (λ behind. Some (take k now ++ at_next wheel ∷ behind)) (sym rest)
     ∙ ap Some (sym (set_split now k (at_next wheel) here))
 
+-- the loop ends at the first wheel, with no next way
+pub ended-none : {A : Type 0} (place : ℕ) (old : List (Wheel A)) → place ≤ 0 → next_wheels (drop place old) ≡ None →
+    next_wheels old ≡ None
+ended-none zero old end none = none
+ended-none (suc place) old end none = absurd (omega arith)
+
+pub ended-first : {A : Type 0} (place : ℕ) (old now : List (Wheel A)) → place ≤ 0 →
+    drop place now ≡ map at_first (drop place old) → now ≡ map at_first old
+ended-first zero old now end behind = behind
+ended-first (suc place) old now end behind = absurd (omega arith)
+
 -- two reads of one place
 pub same-read : {A : Type 0} (xs : List A) (k : ℕ) (x y : A) → k < length xs → x ≡ get_or xs k x → y ≡ get_or xs k y →
     x ≡ y

@@ -10,8 +10,9 @@ use Rattle.ps_compile.proofs.masks.denied_of.Goals as goal
 
 pub loop-wanted-preserved : goal.loop-wanted-preserved
 loop-wanted-preserved c =
-    mapped_piece_more (layered c.args.names.now) denied wanted_shown c.loop-wanted.made.items c.push_denied.new.made.items _ _
-    c.args.side.now c.loop-wanted.wanted-index c.loop-wanted-test.true c.in_ok-push_denied.ensures c.loop-wanted.invariant
+    mapped_piece_more (layered c.args.names.now) denied wanted_shown c.loop-wanted.made.items
+    c.push_denied.new.made.items _ _ c.args.side.now c.loop-wanted.wanted-index c.loop-wanted-test.true
+    c.in_ok-push_denied.ensures c.loop-wanted.invariant
 
 pub returns : goal.returns
 returns c =

@@ -9,8 +9,9 @@ use Rattle.ps_compile.proofs.masks.one_of_of.Goals as goal
 
 pub loop-wanted-preserved : goal.loop-wanted-preserved
 loop-wanted-preserved c =
-    mapped_piece_more (map (layered c.args.names.now)) one_of_by wanted_shown c.loop-wanted.made.items c.push_one_of.new.made.items _ _
-    c.args.side.now c.loop-wanted.wanted-index c.loop-wanted-test.true c.in_ok-push_one_of.ensures c.loop-wanted.invariant
+    mapped_piece_more (map (layered c.args.names.now)) one_of_by wanted_shown c.loop-wanted.made.items
+    c.push_one_of.new.made.items _ _ c.args.side.now c.loop-wanted.wanted-index c.loop-wanted-test.true
+    c.in_ok-push_one_of.ensures c.loop-wanted.invariant
 
 pub returns : goal.returns
 returns c =

@@ -1,4 +1,4 @@
-use Rattle.std.proofs.Common.{◌≡◌, ◌∷◌, [], ◌++◌, ◌∙◌, List, true, false, map, get_or, refl, sym, ap}
+use Rattle.std.proofs.Common.{◌∷◌, [], ◌++◌, ◌∙◌, List, map, refl, sym, ap}
 use Rattle.std.specs.Prelude.{filter}
 use Rattle.ps_model.specs.declared.compiled.Claim.{Claim}
 use Rattle.ps_model.specs.meaning.CompiledCells.{is_alone, clear_write}

@@ -1,4 +1,4 @@
-use Rattle.std.proofs.Common.{rules, ◌≡◌, ◌∙◌, ◌+◌, ap, sym, refl, arith, Some, length, List}
+use Rattle.std.proofs.Common.{◌≡◌, ◌++◌, ◌∙◌, ◌+◌, map, ap, sym, refl, arith, Some, length, List}
 use Rattle.std.specs.Prelude.{Vec}
 use Rattle.std.specs.Global.{Global}
 use Rattle.std.specs.Borrow.{Bor}
@@ -13,6 +13,7 @@ use Rattle.ps_model.specs.declared.refusal.Refusal.TheVariants.{Refused}
 use Rattle.ps_model.specs.text.LineNumbers.{here}
 use Rattle.ps_levels.specs.Cells.{cells_shown, rows_shown}
 use Rattle.ps_laws.proofs.common.LinesInOrder.{between-step}
+use Rattle.ps_names.proofs.common.Refused.{refused-reads-as}
 use Rattle.ps_levels.proofs.RowSteps.{first-of-rows, none-of-rows, rows-more, rows-counted}
 use Rattle.ps_levels.proofs.rows.add_rows.Goals as goal
 
@@ -29,7 +30,11 @@ returns-in_err-add_row c =
     λ f e. ap first_fault (sym c.loop-line.invariant.fine)
     ∙ first-of-rows names c.args.width (length c.loop-line.rows.items) (lines_between text line c.args.lines.end)
     (here text line) (lines_between text (line + 1) c.args.lines.end) f step (c.in_err-add_row.ensures.1.1 f e) in
-    search (rules, told)
+    refused-reads-as (λ _. rows_shown c.add_row.new.rows.items) c.from_residual.result fault
+    (rows_shown c.args.rows.now.items
+    ++ map (row_cells names c.args.width) (lines_between text c.args.lines.start c.args.lines.end))
+    (rows_faults names c.args.width (length c.args.rows.now.items)
+    (lines_between text c.args.lines.start c.args.lines.end)) c.from_residual.ensures.1 told
 
 pub loop-line-preserved : goal.loop-line-preserved
 loop-line-preserved c =

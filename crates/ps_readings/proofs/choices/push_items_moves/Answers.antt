@@ -9,12 +9,14 @@ use Rattle.ps_readings.proofs.choices.push_items_moves.Goals as goal
 
 pub loop-item-preserved : goal.loop-item-preserved
 loop-item-preserved c =
-    list_more (λ (items : List Item). filter_map (move_choices c.args.direction) (items_shown items)) c.loop-item.lists.items
-    c.push_move_choices.new.lists.items _ _ c.item-item.result c.item-item.result c.args.items.now c.loop-item.item-index
-    (sifted_first (move_choices c.args.direction (item_shown c.item-item.result)) _) c.loop-item-test.true
+    let choices = move_choices c.args.direction in
+    list_more (λ (items : List Item). filter_map choices (items_shown items)) c.loop-item.lists.items
+    c.push_move_choices.new.lists.items _ _ c.item-item.result c.item-item.result c.args.items.now
+    c.loop-item.item-index (sifted_first (choices (item_shown c.item-item.result)) _) c.loop-item-test.true
     c.item-item.is c.in_ok-push_move_choices.ensures c.loop-item.invariant
 
 pub returns : goal.returns
 returns c =
-    loop-end c.loop-item.lists.items _ (λ (items : List Item). filter_map (move_choices c.args.direction) (items_shown items))
+    let choices = move_choices c.args.direction in
+    loop-end c.loop-item.lists.items _ (λ (items : List Item). filter_map choices (items_shown items))
     c.args.items.now c.loop-item.item-index refl c.loop-item.invariant c.loop-item-test.false

@@ -1,6 +1,6 @@
-use Rattle.std.proofs.Common.{◌≡◌, ◌∙◌, ◌+◌, ◌-◌, ◌<◌, ℕ, length, arith, ap, sym}
+use Rattle.std.proofs.Common.{◌≡◌, ◌∙◌, ◌+◌, ◌-◌, ◌<◌, ℕ, length, arith, ap, sym, true≢false}
 use Rattle.ps_readings.specs.declared.wheels.Wheel.{Wheel}
-use Rattle.ps_readings.proofs.WayByWay.{turned-here, same-read}
+use Rattle.ps_readings.proofs.WayByWay.{turned-here, ended-none, ended-first, same-read}
 use Rattle.ps_readings.proofs.ways.turn_to_next.Goals as goal
 
 pub returns-then-index-count-clause-next : goal.returns-then-index-count-clause-next
@@ -21,3 +21,18 @@ returns-then-index-count-clause-next g c _ =
     turned-here place (place - 1) c.args.wheels.now.items c.loop-place.wheels.items c.index_mut.result.now back
     c.loop-place.invariant.within c.loop-place.invariant.long c.loop-place.invariant.front
     c.loop-place.invariant.behind c.loop-place.invariant.none c.index_mut.ensures.value less
+
+pub returns-then-index-count-clause-none : goal.returns-then-index-count-clause-none
+returns-then-index-count-clause-none g c e = absurd (true≢false e)
+
+pub returns-then-index-count-clause-first : goal.returns-then-index-count-clause-first
+returns-then-index-count-clause-first g c e = absurd (true≢false e)
+
+pub returns : goal.returns
+returns g c = record {
+  next = λ e. absurd (true≢false (sym e));
+  none = λ e. ended-none c.loop-place.place c.args.wheels.now.items c.loop-place-test.false
+      c.loop-place.invariant.none;
+  first = λ e. ended-first c.loop-place.place c.args.wheels.now.items c.loop-place.wheels.items
+      c.loop-place-test.false c.loop-place.invariant.behind;
+}
