@@ -44,7 +44,8 @@ returns-in_ok-next-in-Move g c =
       plain = c.in_ok-next-in-Move.ensures.plain;
       late = c.in_ok-next-in-Move.ensures.late;
       same = c.in_ok-next-in-Move.ensures.same;
-      came = moved_by script play c.in-Move.input c.args.key c.in-Move.is heeded ∙ c.in_ok-next-in-Move.ensures.came grids;
+      came = moved_by script play c.in-Move.input c.args.key c.in-Move.is heeded
+          ∙ c.in_ok-next-in-Move.ensures.came grids;
       stopped = tt;
       table = c.in_ok-next-in-Move.ensures.table;
       ignored = λ e. absurd (true≢false (sym e ∙ heeded));
@@ -64,7 +65,8 @@ returns-in_ok-next-in-Undo g c =
       plain = refl;
       late = refl;
       same = refl;
-      came = undone_by script play c.args.key c.in-Undo.is heeded ∙ c.in_ok-next-in-Undo.ensures.came script.plain script.late;
+      came = undone_by script play c.args.key c.in-Undo.is heeded
+          ∙ c.in_ok-next-in-Undo.ensures.came script.plain script.late;
       stopped = tt;
       table = c.in_ok-next-in-Undo.ensures.table;
       ignored = λ e. absurd (true≢false (sym e ∙ heeded));
@@ -104,7 +106,8 @@ returns-in_ok-next-in-Quit g c =
       plain = refl;
       late = refl;
       same = refl;
-      came = ap (key_in_level script play) c.in-Quit.is ∙ c.in_ok-next-in-Quit.ensures.came grids (Playing c.args.level.now);
+      came = ap (key_in_level script play) c.in-Quit.is
+          ∙ c.in_ok-next-in-Quit.ensures.came grids (Playing c.args.level.now);
       stopped = tt;
       table = c.in_ok-next-in-Quit.ensures.table _;
       ignored = λ e. absurd (true≢false (sym e ∙ heeded));
@@ -112,20 +115,20 @@ returns-in_ok-next-in-Quit g c =
 
 pub returns-in_err-next-in-Move-clause-ignored : goal.returns-in_err-next-in-Move-clause-ignored
 returns-in_err-next-in-Move-clause-ignored g c = λ e. absurd (true≢false (sym e
-    ∙ told_ignored c.args.stage.now.game c.game.result.now c.options.result c.args.key c.is_ignored_in_level.result false
-    c.game.ensures c.options.ensures c.is_ignored_in_level.ensures c.if-is_ignored_in_level.false))
+    ∙ told_ignored c.args.stage.now.game c.game.result.now c.options.result c.args.key c.is_ignored_in_level.result
+    false c.game.ensures c.options.ensures c.is_ignored_in_level.ensures c.if-is_ignored_in_level.false))
 
 pub returns-in_err-next-in-Undo-clause-ignored : goal.returns-in_err-next-in-Undo-clause-ignored
 returns-in_err-next-in-Undo-clause-ignored g c = λ e. absurd (true≢false (sym e
-    ∙ told_ignored c.args.stage.now.game c.game.result.now c.options.result c.args.key c.is_ignored_in_level.result false
-    c.game.ensures c.options.ensures c.is_ignored_in_level.ensures c.if-is_ignored_in_level.false))
+    ∙ told_ignored c.args.stage.now.game c.game.result.now c.options.result c.args.key c.is_ignored_in_level.result
+    false c.game.ensures c.options.ensures c.is_ignored_in_level.ensures c.if-is_ignored_in_level.false))
 
 pub returns-in_err-next-in-Restart-clause-ignored : goal.returns-in_err-next-in-Restart-clause-ignored
 returns-in_err-next-in-Restart-clause-ignored g c = λ e. absurd (true≢false (sym e
-    ∙ told_ignored c.args.stage.now.game c.game.result.now c.options.result c.args.key c.is_ignored_in_level.result false
-    c.game.ensures c.options.ensures c.is_ignored_in_level.ensures c.if-is_ignored_in_level.false))
+    ∙ told_ignored c.args.stage.now.game c.game.result.now c.options.result c.args.key c.is_ignored_in_level.result
+    false c.game.ensures c.options.ensures c.is_ignored_in_level.ensures c.if-is_ignored_in_level.false))
 
 pub returns-in_err-next-in-Quit-clause-ignored : goal.returns-in_err-next-in-Quit-clause-ignored
 returns-in_err-next-in-Quit-clause-ignored g c = λ e. absurd (true≢false (sym e
-    ∙ told_ignored c.args.stage.now.game c.game.result.now c.options.result c.args.key c.is_ignored_in_level.result false
-    c.game.ensures c.options.ensures c.is_ignored_in_level.ensures c.if-is_ignored_in_level.false))
+    ∙ told_ignored c.args.stage.now.game c.game.result.now c.options.result c.args.key c.is_ignored_in_level.result
+    false c.game.ensures c.options.ensures c.is_ignored_in_level.ensures c.if-is_ignored_in_level.false))

@@ -95,8 +95,8 @@ returns-in-Err-done g c =
       session = tt;
       written = tt;
       same = same_value c.give_up.new.stage.game c.next_at-found.new.location c.self.inside.location
-          (g.H.History.boards c.prepare-done.new.history) boards inside c.args.self.now refl game c.in-Ok-Some.ensures.same
-          c.prepare-done.ensures.boards c.self.view_is;
+          (g.H.History.boards c.prepare-done.new.history) boards inside c.args.self.now refl game
+          c.in-Ok-Some.ensures.same c.prepare-done.ensures.boards c.self.view_is;
       left = c.in-Err-done.ensures.kept;
       ignored = λ ignored. none_came _ _ (c.in-Ok-Some.ensures.ignored
           (ignored_inside c.forget_text.new.self.game inside c.args.self.now c.args.key c.forget_text.ensures.game
