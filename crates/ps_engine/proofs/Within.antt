@@ -14,9 +14,6 @@ use Rattle.ps_engine.proofs.Waking.{found_at}
 pub room_there : (n rows rooms now : ℕ) → n < rows → rows ≤ rooms → now ≡ rooms → n < now
 room_there n rows rooms now low enough same = omega arith
 
-pub row_there : (n count rows : ℕ) → n < count → count ≤ rows → n < rows
-row_there n count rows low most = omega arith
-
 -- a list has a place whose element is that of another one
 pub left_there : {X : Type 0} (xs ys : List X) (n : ℕ) → n < length xs → slice_get ys n ≡ slice_get xs n → n < length ys
 left_there xs ys n low same = let at = found_at xs n low in slice_get_within ys n at.0 (same ∙ at.1)

@@ -5,6 +5,7 @@ use Rattle.ps_model.specs.declared.faults.Fault.{Fault}
 use Rattle.ps_model.specs.declared.refusal.Refusal.{Refusal}
 use Rattle.ps_model.specs.declared.refusal.Refusal.TheVariants.{Refused, Memory}
 use Rattle.ps_model.specs.text.Faults.{first_fault}
+use Rattle.ps_levels.proofs.Refusals.{memory-refuses}
 use Rattle.ps_game.specs.Finds.{Finds}
 
 pub refused-finds : {A : Type 0} (result : Result A Refusal) (error : Refusal) (found : Option A)
@@ -12,10 +13,6 @@ pub refused-finds : {A : Type 0} (result : Result A Refusal) (error : Refusal) (
     → ((fault : Fault) → error ≡ Refused fault → first_fault faults ≡ Some fault) → Finds result found faults
 refused-finds (Ok read) error found faults is told = absurd is
 refused-finds (Err e) error found faults is told = (tt, λ fault h. told fault (sym is ∙ h))
-
--- memory is no fault of the text
-memory-refuses : {P : Type 0} (error : Refusal) (fault : Fault) → error ≡ Memory → error ≡ Refused fault → P
-memory-refuses error fault m r = cc
 
 pub memory-finds : {A : Type 0} (result : Result A Refusal) (found : Option A) (faults : List Fault) →
     IsErrAnd result (λ e. e ≡ Memory) → Finds result found faults

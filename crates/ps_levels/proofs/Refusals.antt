@@ -7,7 +7,7 @@ use Rattle.ps_model.specs.declared.refusal.Refusal.TheVariants.{Refused, Memory}
 use Rattle.ps_model.specs.text.Reads.{ReadsAs}
 
 -- memory is no fault of the text
-memory-refuses : {P : Type 0} (error : Refusal) (fault : Fault) → error ≡ Memory → error ≡ Refused fault → P
+pub memory-refuses : {P : Type 0} (error : Refusal) (fault : Fault) → error ≡ Memory → error ≡ Refused fault → P
 memory-refuses error fault m r = cc
 
 pub memory-reads-as : {A B : Type 0} (view : A → B) (result : Result A Refusal) (value : B) (faults : List Fault) →

@@ -6,6 +6,7 @@ use Rattle.std.specs.List.{flat_map, filter_map, cons_option}
 use Rattle.std.proofs.lemmas.List.{map-append}
 use Rattle.std.proofs.lemmas.List.Elements.{filter_map-append}
 use Rattle.ps_rules.proofs.Loops.{drop-from}
+use Rattle.ps_names.proofs.common.Loops.{option-first}
 
 -- one more piece is made
 pub piece_more : {A : Type 0} (made grown all piece rest : List A) → grown ≡ made ++ piece →
@@ -35,19 +36,13 @@ pub mapped_more : {A B : Type 0} (f : A → B) (made grown all : List B) (d : A)
 mapped_more f made grown all d xs i less e before =
     list_more (map f) made grown all (f (get_or xs i d) ∷ []) (get_or xs i d) d xs i refl less refl e before
 
--- what is sifted of one more is its own, if it gives one
-pub sifted_first : {B : Type 0} (given : Option B) (rest : List B) →
-    cons_option given rest ≡ option_to_list given ++ rest
-sifted_first None rest = refl
-sifted_first (Some x) rest = refl
-
 -- one more of a list is sifted
 pub sifted_one_more : {A B : Type 0} (f : A → Option B) (made grown all : List B) (d : A) (xs : List A) (i : ℕ) →
     i < length xs → grown ≡ made ++ option_to_list (f (get_or xs i d)) → made ++ filter_map f (drop i xs) ≡ all →
     grown ++ filter_map f (drop (i + 1) xs) ≡ all
 sifted_one_more f made grown all d xs i less e before =
     list_more (filter_map f) made grown all (option_to_list (f (get_or xs i d))) (get_or xs i d) d xs i
-    (sifted_first (f (get_or xs i d)) (filter_map f (drop (i + 1) xs))) less refl e before
+    (option-first (f (get_or xs i d)) (filter_map f (drop (i + 1) xs))) less refl e before
 
 -- one more of a list, as it is meant, gives a piece, each element of which is made one
 pub mapped_piece_more : {A B C D : Type 0} (g : C → D) (f : B → List C) (show : A → B) (made grown all : List D) (d : A)

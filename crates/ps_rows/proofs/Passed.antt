@@ -48,9 +48,6 @@ own_order n = omega arith
 pub next_order : (n m : ℕ) → n ≤ m → n ≤ m + 1
 next_order n m h = omega arith
 
-pub then_order : (n m o : ℕ) → n ≤ m → m ≤ o → n ≤ o
-then_order n m o h k = omega arith
-
 pub same_order : (n m : ℕ) → n ≤ m → m ≤ n → n ≡ m
 same_order n m h k = omega arith
 

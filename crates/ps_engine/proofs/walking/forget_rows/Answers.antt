@@ -4,7 +4,8 @@ use Rattle.std.proofs.lemmas.Option.{slice_get-get_or, slice_get_read}
 use Rattle.ps_places.specs.Room.{Room}
 use Rattle.ps_engine.proofs.RoomsChanged.{left_as_they_are, left_more}
 use Rattle.ps_engine.proofs.RoomsForgetting.{forgotten_more, none_forgotten}
-use Rattle.ps_engine.proofs.Within.{room_there, row_there}
+use Rattle.ps_engine.proofs.Within.{room_there}
+use Rattle.ps_laws.proofs.common.Orders.{less_up}
 use Rattle.ps_engine.proofs.walking.forget_rows.Goals as goal
 
 pub loop-number-init : goal.loop-number-init
@@ -54,11 +55,11 @@ returns-clause-left g c = λ k high.
 
 pub bounds-rows-number : goal.bounds-rows-number
 bounds-rows-number g c =
-    row_there c.loop-number.number c.args.count (length c.args.rows.now) c.loop-number-test.true c.requires.count
+    less_up c.loop-number.number c.args.count (length c.args.rows.now) c.loop-number-test.true c.requires.count
 
 pub bounds-rooms-number : goal.bounds-rooms-number
 bounds-rooms-number g c =
     room_there c.loop-number.number (length c.args.rows.now) (length c.args.rooms.now)
     (length c.loop-number.rooms)
-    (row_there c.loop-number.number c.args.count (length c.args.rows.now) c.loop-number-test.true c.requires.count)
+    (less_up c.loop-number.number c.args.count (length c.args.rows.now) c.loop-number-test.true c.requires.count)
     c.requires.long c.loop-number.auto.rooms

@@ -4,7 +4,8 @@ use Rattle.ps_model.specs.meaning.Readings.{move_choices}
 use Rattle.ps_rules.specs.declared.tree.Item.{Item}
 use Rattle.ps_rules.specs.RulesShown.{item_shown, items_shown}
 use Rattle.ps_rules.proofs.Loops.{loop-end}
-use Rattle.ps_readings.proofs.Pieces.{list_more, sifted_first}
+use Rattle.ps_names.proofs.common.Loops.{option-first}
+use Rattle.ps_readings.proofs.Pieces.{list_more}
 use Rattle.ps_readings.proofs.choices.push_items_moves.Goals as goal
 
 pub loop-item-preserved : goal.loop-item-preserved
@@ -12,7 +13,7 @@ loop-item-preserved c =
     let choices = move_choices c.args.direction in
     list_more (λ (items : List Item). filter_map choices (items_shown items)) c.loop-item.lists.items
     c.push_move_choices.new.lists.items _ _ c.item-item.result c.item-item.result c.args.items.now
-    c.loop-item.item-index (sifted_first (choices (item_shown c.item-item.result)) _) c.loop-item-test.true
+    c.loop-item.item-index (option-first (choices (item_shown c.item-item.result)) _) c.loop-item-test.true
     c.item-item.is c.in_ok-push_move_choices.ensures c.loop-item.invariant
 
 pub returns : goal.returns

@@ -1,7 +1,8 @@
 use Rattle.std.proofs.Common.{◌≡◌, ◌∙◌, ◌*◌, ◌≤◌, ℕ, length, refl, sym, arith, subst, [], List}
 use Rattle.ps_rows.specs.RowDifferences.{Difference, LeadBothWays}
 use Rattle.ps_rows.proofs.RowDifferences.{all_back, all_forth, both_none, both_planes, both_reach}
-use Rattle.ps_rows.proofs.Passed.{next_enough, own_order, planes_enough, then_order}
+use Rattle.ps_rows.proofs.Passed.{next_enough, own_order, planes_enough}
+use Rattle.ps_laws.proofs.common.Orders.{two_up}
 use Rattle.ps_rows.proofs.row_differences.differences.Goals as goal
 
 pub loop-plane-init : goal.loop-plane-init
@@ -26,9 +27,9 @@ returns-clause-forth g c =
     c.loop-plane.found.items enough (λ place from below. c.requires.rest place from)
     (both_planes p.height c.loop-plane.plane c.args.planes p.words.items o.words.items c.loop-plane.found.items
     p.some_row
-    (then_order c.loop-plane.plane marked c.args.planes c.loop-plane.auto.plane-end c.planes_marked-marked.ensures.few)
+    (two_up c.loop-plane.plane marked c.args.planes c.loop-plane.auto.plane-end c.planes_marked-marked.ensures.few)
     (λ plane from below. c.planes_marked-marked.ensures.same plane
-    (then_order marked c.loop-plane.plane plane c.loop-plane-test.false from) below)
+    (two_up marked c.loop-plane.plane plane c.loop-plane-test.false from) below)
     c.loop-plane.invariant))
 
 pub returns-clause-back : goal.returns-clause-back
@@ -45,9 +46,9 @@ returns-clause-back g c =
     c.loop-plane.found.items enough (λ place from below. c.requires.rest place from)
     (both_planes p.height c.loop-plane.plane c.args.planes p.words.items o.words.items c.loop-plane.found.items
     p.some_row
-    (then_order c.loop-plane.plane marked c.args.planes c.loop-plane.auto.plane-end c.planes_marked-marked.ensures.few)
+    (two_up c.loop-plane.plane marked c.args.planes c.loop-plane.auto.plane-end c.planes_marked-marked.ensures.few)
     (λ plane from below. c.planes_marked-marked.ensures.same plane
-    (then_order marked c.loop-plane.plane plane c.loop-plane-test.false from) below)
+    (two_up marked c.loop-plane.plane plane c.loop-plane-test.false from) below)
     c.loop-plane.invariant))
 
 pub planes_marked-marked-requires : goal.planes_marked-marked-requires
@@ -66,7 +67,8 @@ add_differences-requires g c =
     record {
       height = c.requires.height;
       count = c.requires.count;
-      plane = next_enough p.height c.loop-plane.plane c.planes_marked-marked.result c.args.planes p.words.len p.words.len
+      plane = next_enough p.height c.loop-plane.plane c.planes_marked-marked.result c.args.planes p.words.len
+          p.words.len
           c.loop-plane-test.true c.planes_marked-marked.ensures.few c.requires.planes refl;
       before = c.loop-plane.invariant;
     }

@@ -11,13 +11,15 @@ loop-step-preserved g c =
       done = joined_one both_columns c.args.found.now c.args.words.now c.loop-step.found c.loop-step.step
           c.index-found-step.result c.index-words-step.result c.both.result c.loop-step-test.true c.requires was.long
           c.index-found-step.is c.index-words-step.is c.both.ensures was.done was.left;
-      left = others_left both_columns c.args.found.now c.args.words.now c.loop-step.found c.loop-step.step c.both.result was.left;
+      left = others_left both_columns c.args.found.now c.args.words.now c.loop-step.found c.loop-step.step
+          c.both.result was.left;
       long = length-set c.loop-step.found c.loop-step.step c.both.result ∙ was.long;
     }
 
 pub returns : goal.returns
 returns g c = record {
-  both = joined_each both_columns c.args.found.now c.args.words.now c.loop-step.found c.loop-step.step c.loop-step-test.false
+  both = joined_each both_columns c.args.found.now c.args.words.now c.loop-step.found c.loop-step.step
+      c.loop-step-test.false
       c.loop-step.invariant.done;
   long = c.loop-step.invariant.long;
 }

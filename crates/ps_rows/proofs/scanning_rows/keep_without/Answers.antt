@@ -11,13 +11,15 @@ loop-step-preserved g c =
       done = joined_one columns_without c.args.found.now c.args.words.now c.loop-step.found c.loop-step.step
           c.index-found-step.result c.index-words-step.result c.without.result c.loop-step-test.true c.requires was.long
           c.index-found-step.is c.index-words-step.is c.without.ensures was.done was.left;
-      left = others_left columns_without c.args.found.now c.args.words.now c.loop-step.found c.loop-step.step c.without.result was.left;
+      left = others_left columns_without c.args.found.now c.args.words.now c.loop-step.found c.loop-step.step
+          c.without.result was.left;
       long = length-set c.loop-step.found c.loop-step.step c.without.result ∙ was.long;
     }
 
 pub returns : goal.returns
 returns g c = record {
-  without = joined_each columns_without c.args.found.now c.args.words.now c.loop-step.found c.loop-step.step c.loop-step-test.false
+  without = joined_each columns_without c.args.found.now c.args.words.now c.loop-step.found c.loop-step.step
+      c.loop-step-test.false
       c.loop-step.invariant.done;
   long = c.loop-step.invariant.long;
 }

@@ -2,7 +2,8 @@ use Rattle.std.proofs.Common.{◌+◌, ◌*◌, ◌≤◌, ◌∙◌, ℕ, lengt
 use Rattle.ps_rows.proofs.PlaneCopies.{all_copied, planes_and_rest, planes_and_same, planes_then}
 use Rattle.ps_rows.proofs.PlaneCopies.{same_from}
 use Rattle.ps_rows.proofs.Passed.{next_enough, next_order, none_copied, own_order, planes_counted, planes_enough}
-use Rattle.ps_rows.proofs.Passed.{then_order, words_whole}
+use Rattle.ps_rows.proofs.Passed.{words_whole}
+use Rattle.ps_laws.proofs.common.Orders.{two_up}
 use Rattle.ps_rows.proofs.planes.Planes.copy_into.Goals.{then-is_unmarked_plane, else-is_unmarked_plane+then-most-plane}
 use Rattle.ps_rows.proofs.planes.Planes.copy_into.Goals.{else-is_unmarked_plane+else-most-plane}
 use Rattle.ps_rows.proofs.planes.Planes.copy_into.Goals as goal
@@ -43,7 +44,7 @@ returns-clause-words g c =
     let was = c.loop-plane.invariant in
     let marked : ℕ = c.planes_marked-marked.result in
     let order : c.loop-plane.first ≤ marked =
-    then_order c.loop-plane.first c.loop-plane.plane marked was.order c.loop-plane.auto.plane-end in
+    two_up c.loop-plane.first c.loop-plane.plane marked was.order c.loop-plane.auto.plane-end in
     let whole : length p.words.items ≤ p.index.len * p.height =
     words_whole p.index.len p.height p.words.len p.words.items p.words.ok.0 p.whole in
     let all : c.args.planes ≤ p.index.len = planes_counted p.height c.args.planes p.index.len p.words.len
@@ -51,7 +52,8 @@ returns-clause-words g c =
     all_copied p.height p.index.len p.words.items o.words.items c.copy_planes-2.new.other.words.items
     p.some_row whole
     (sym c.copy_planes-2.new.other.words.ok.0 ∙ c.copy_planes-2.ensures.count ∙ was.count ∙ p.words.ok.0)
-    (planes_and_rest p.height c.args.planes p.index.len p.words.items o.words.items c.copy_planes-2.new.other.words.items
+    (planes_and_rest p.height c.args.planes p.index.len p.words.items o.words.items
+    c.copy_planes-2.new.other.words.items
     all
     (λ plane from below. same_from p.height c.args.planes p.words.items o.words.items c.requires.rest plane from)
     (planes_and_rest p.height marked c.args.planes p.words.items o.words.items c.copy_planes-2.new.other.words.items
@@ -94,7 +96,7 @@ pub copy_planes-requires : goal.copy_planes-requires
 copy_planes-requires g c =
     let p = c.args.self.now in
     let plane : ℕ = c.loop-plane.plane in
-    let order : plane ≤ c.args.planes = then_order plane c.planes_marked-marked.result c.args.planes
+    let order : plane ≤ c.args.planes = two_up plane c.planes_marked-marked.result c.args.planes
     c.loop-plane.auto.plane-end c.planes_marked-marked.ensures.few in
     record {
       order = c.loop-plane.invariant.order;
@@ -108,7 +110,7 @@ pub copy_planes-requires-then-most-plane : goal.copy_planes-requires-then-most-p
 copy_planes-requires-then-most-plane g c =
     let p = c.args.self.now in
     let plane : ℕ = c.loop-plane.plane in
-    let order : plane ≤ c.args.planes = then_order plane c.planes_marked-marked.result c.args.planes
+    let order : plane ≤ c.args.planes = two_up plane c.planes_marked-marked.result c.args.planes
     c.loop-plane.auto.plane-end c.planes_marked-marked.ensures.few in
     record {
       order = c.loop-plane.invariant.order;
@@ -125,7 +127,7 @@ copy_planes-requires-2 g c =
     let marked : ℕ = c.planes_marked-marked.result in
     let few = c.planes_marked-marked.ensures.few in
     record {
-      order = then_order c.loop-plane.first c.loop-plane.plane marked was.order c.loop-plane.auto.plane-end;
+      order = two_up c.loop-plane.first c.loop-plane.plane marked was.order c.loop-plane.auto.plane-end;
       height = was.height;
       here = planes_enough p.height marked c.args.planes p.words.len p.words.len few c.requires.within refl;
       there = planes_enough p.height marked c.args.planes p.words.len c.loop-plane.other.words.len few

@@ -10,7 +10,8 @@ invariant_of-result-clause-whole g c =
     let b = c.args.self.now in
     copied_whole b.members.table.items c.in_ok-members.members.table.items b.width b.width b.planes.height
     c.in_ok-planes.planes.height b.layers b.layers b.planes.words.items c.in_ok-planes.planes.words.items
-    c.in_ok-members.ensures.table refl c.in_ok-planes.ensures.height refl c.in_ok-planes.ensures.words b.planes.words.len
+    c.in_ok-members.ensures.table refl c.in_ok-planes.ensures.height refl c.in_ok-planes.ensures.words
+    b.planes.words.len
     c.in_ok-planes.planes.words.len c.in_ok-planes.planes.words.ok.0 (sym b.planes.words.ok.0) b.whole
 
 pub invariant_of-result-clause-objects : goal.invariant_of-result-clause-objects
