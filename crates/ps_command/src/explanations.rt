@@ -175,7 +175,7 @@ const EXPLANATIONS: [(FaultKind, &str); 45] = [
     ),
 ];
 
-/// The causes with their sentences.
+/// The causes with their sentences. The table is named here alone: each function that names it is long to prove.
 fn explanations() -> &'static [(FaultKind, &'static str)] {
     &EXPLANATIONS
 }
