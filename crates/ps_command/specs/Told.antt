@@ -6,7 +6,7 @@ use Rattle.ps_model.specs.game.Games.{game}
 use Rattle.ps_model.specs.game.Headline.{Ends, RunsRightly}
 use Rattle.ps_model.specs.game.Tellings.{ReaderState, WriterState}
 use Rattle.ps_check.specs.Checks.{check_line, named_line}
-use Rattle.ps_devices.specs.Devices.{Grows}
+use Rattle.ps_devices.specs.Devices.{Grows, Loses}
 use Rattle.ps_run.specs.Answering.{answer_of}
 use Rattle.ps_run.specs.declared.faults.RunFault.{RunFault}
 use Rattle.ps_command.specs.declared.stops.Stop.{Stop}
@@ -25,6 +25,13 @@ pub record GrowsBy (line : List ℕ) (before after : Option (List ℕ)) : Type 0
 -- of some text that is a game its line is told, and nothing else
 pub record TellsOfGame (before after : Option (List ℕ)) : Type 0 where
   pub text : List ℕ
+  pub accepted : is_some (game text) ≡ true
+  pub wrote : Grows before after (check_line text)
+
+-- of what a reader has given, a text that is a game, its line is told, and nothing else
+pub record TellsOfGiven (had left : Option (List ℕ)) (before after : Option (List ℕ)) : Type 0 where
+  pub text : List ℕ
+  pub given : Loses had left text
   pub accepted : is_some (game text) ≡ true
   pub wrote : Grows before after (check_line text)
 
@@ -62,3 +69,8 @@ pub record EndsRightly (text : List ℕ) (before after : WriterState) : Type 0 w
   pub keys : ReaderState
   pub left : ReaderState
   pub rightly : RunsRightly text keys left before after (Ends ending)
+
+-- some text's game was played to an end, with some keys
+pub record PlaysToAnEnd (before after : WriterState) : Type 0 where
+  pub text : List ℕ
+  pub ended : EndsRightly text before after

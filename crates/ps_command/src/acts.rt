@@ -1,9 +1,9 @@
 //! What is done for a command line.
 
-ghost use Rattle.std.specs.Prelude.{◌≡◌, ◌+◌, ◌<◌, ◌≤◌, false, true, IfOk, IfSome, OnOk, is_some, length, map};
+ghost use Rattle.std.specs.Prelude.{◌≡◌, ◌+◌, ◌<◌, ◌≤◌, false, true, IfOk, IfSome, OnOk, codes, is_some, length, map};
 ghost use Rattle.ps_model.specs.game.Games.{game};
 ghost use Rattle.ps_check.specs.Checks.{check_line, named_line};
-ghost use Rattle.ps_command.specs.Told.{GrowsBy, TellsOf, TellsOfGame, TellsOfGames};
+ghost use Rattle.ps_command.specs.Told.{GrowsBy, TellsOf, TellsOfGame, TellsOfGames, TellsOfGiven};
 ghost use Rattle.ps_devices.specs.Devices.{Grows};
 
 use crate::command::{Asked, read_command};
@@ -70,7 +70,10 @@ fn check_text<R: Files + AllocGlobal, I: ByteReader, O: ByteWriter>(
 ) -> Result<(), Stop>
     requires heard { (I.state input.old).has_failed ≡ false }
     requires well { (O.state screen.old).has_failed ≡ false }
-    ensures { OnOk result (TellsOfGame (O.state screen.old).contents (O.state screen.new).contents) }
+    ensures told { OnOk result (TellsOfGame (O.state screen.old).contents (O.state screen.new).contents) }
+    ensures given { path.now ≡ codes "-" → OnOk result
+        (TellsOfGiven (I.state input.old).remaining (I.state input.new).remaining
+        (O.state screen.old).contents (O.state screen.new).contents) }
 {
     let text = read_text(rt, path, input)?;
     if check_alone(rt.alloc(), &text, detail, screen)? {

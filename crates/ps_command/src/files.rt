@@ -1,6 +1,8 @@
 //! The texts of games.
 
-ghost use Rattle.std.specs.Prelude.{◌≡◌, false, OnOk};
+ghost use Rattle.std.specs.Prelude.{◌≡◌, ◌≢◌, ◌+◌, ◌<◌, false, IfOk, OnOk, codes, length};
+ghost use Rattle.ps_model.specs.declared.limits.TheConstants.{TEXT_LIMIT};
+ghost use Rattle.ps_devices.specs.Devices.{IsSpent, Loses};
 
 use crate::stops::{Stop, stop_for};
 use ps_devices::ByteReader;
@@ -29,6 +31,10 @@ pub fn read_game_file<R: Files + AllocGlobal>(rt: &R, path: &str) -> io::Result<
 pub fn read_input<I: ByteReader>(alloc: Global, input: &mut I) -> Result<Vec<u8>, Stop>
     requires heard { (I.state input.old).has_failed ≡ false }
     ensures heard { OnOk result ((I.state input.new).has_failed ≡ false) }
+    ensures read { IfOk result (λ text.
+        Loses (I.state input.old).remaining (I.state input.new).remaining text.items) }
+    ensures whole { IfOk result (λ text.
+        length text.items < TEXT_LIMIT + 1 → IsSpent (I.state input.new).remaining) }
 {
     let mut text = Vec::new(alloc);
     let mut piece = [0u8; CALL_LIMIT];
@@ -50,6 +56,11 @@ pub fn read_text<R: Files + AllocGlobal, I: ByteReader>(
 ) -> Result<Vec<u8>, Stop>
     requires heard { (I.state input.old).has_failed ≡ false }
     ensures heard { OnOk result ((I.state input.new).has_failed ≡ false) }
+    ensures read { path.now ≡ codes "-" → IfOk result (λ text.
+        Loses (I.state input.old).remaining (I.state input.new).remaining text.items) }
+    ensures whole { path.now ≡ codes "-" → IfOk result (λ text.
+        length text.items < TEXT_LIMIT + 1 → IsSpent (I.state input.new).remaining) }
+    ensures unasked { path.now ≢ codes "-" → input.new ≡ input.old }
 {
     if path == STANDARD_INPUT {
         return read_input(rt.alloc(), input);

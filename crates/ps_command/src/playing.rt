@@ -3,7 +3,7 @@
 ghost use Rattle.std.specs.Prelude.{◌≡◌, false, IfErr, None, OnOk};
 ghost use Rattle.ps_model.specs.declared.play.Ending.{Ending};
 ghost use Rattle.ps_model.specs.game.Headline.{Ends, RunsRightly};
-ghost use Rattle.ps_command.specs.Told.{EndsRightly, StopsRightly};
+ghost use Rattle.ps_command.specs.Told.{EndsRightly, PlaysToAnEnd, StopsRightly};
 
 use crate::command::Play;
 use crate::files::read_text;
@@ -26,6 +26,7 @@ pub fn play_asked<R: Files + AllocGlobal, I: ByteReader, O: ByteWriter>(
 ) -> Result<(), Stop>
     requires heard { (I.state keys.old).has_failed ≡ false }
     requires well { (O.state screen.old).has_failed ≡ false }
+    ensures ended { asked.entry.size ≡ None → OnOk result (PlaysToAnEnd (O.state screen.old) (O.state screen.new)) }
 {
     let text = read_text(rt, asked.game, keys)?;
     match asked.size {

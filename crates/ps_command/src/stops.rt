@@ -1,6 +1,9 @@
 //! Why the program ends in place of a run's end, and how that is told.
 
-ghost use Rattle.std.specs.Prelude.{◌≤◌};
+ghost use Rattle.std.specs.IoError.{error_kind};
+ghost use Rattle.std.specs.Prelude.{◌≡◌, ◌≢◌, ◌≤◌};
+ghost use Rattle.std.specs.declared.io.ErrorKind.TheVariants.{OutOfMemory};
+ghost use Rattle.ps_command.specs.Statuses.{IsStatusOf, IsStatusOfLine};
 
 use clap::error::ErrorKind;
 use ps_check::CheckFault;
@@ -35,24 +38,42 @@ pub enum Stop {
 }
 
 impl From<Memory> for Stop {
+    ghost use Rattle.ps_command.specs.declared.stops.Stop.TheVariants.{Run};
+    ghost use Rattle.ps_run.specs.declared.faults.RunFault.TheVariants.{Memory};
+
+    ghost from_gives = { λ _ stop. stop ≡ Run Memory };
+
     fn from(_error: Memory) -> Stop {
         Stop::Run(RunFault::Memory)
     }
 }
 
 impl From<AllocError> for Stop {
+    ghost use Rattle.ps_command.specs.declared.stops.Stop.TheVariants.{Run};
+    ghost use Rattle.ps_run.specs.declared.faults.RunFault.TheVariants.{Memory};
+
+    ghost from_gives = { λ _ stop. stop ≡ Run Memory };
+
     fn from(_error: AllocError) -> Stop {
         Stop::Run(RunFault::Memory)
     }
 }
 
 impl From<RunFault> for Stop {
+    ghost use Rattle.ps_command.specs.declared.stops.Stop.TheVariants.{Run};
+
+    ghost from_gives = { λ fault stop. stop ≡ Run fault };
+
     fn from(fault: RunFault) -> Stop {
         Stop::Run(fault)
     }
 }
 
 impl From<CheckFault> for Stop {
+    ghost use Rattle.ps_command.specs.Statuses.{stop_of_check};
+
+    ghost from_gives = { λ fault stop. stop ≡ stop_of_check fault };
+
     fn from(fault: CheckFault) -> Stop {
         match fault {
             CheckFault::Memory => Stop::Run(RunFault::Memory),
@@ -62,6 +83,10 @@ impl From<CheckFault> for Stop {
 }
 
 impl From<clap::Error> for Stop {
+    ghost use Rattle.ps_command.specs.Statuses.{IsStopOfLine};
+
+    ghost from_gives = { λ error stop. IsStopOfLine error stop };
+
     fn from(error: clap::Error) -> Stop {
         if error.kind() == ErrorKind::OutOfMemory {
             Stop::Run(RunFault::Memory)
@@ -72,7 +97,10 @@ impl From<clap::Error> for Stop {
 }
 
 /// `other`, where the error isn't that memory ran out.
-pub fn stop_for(error: io::Error, other: Stop) -> Stop {
+pub fn stop_for(error: io::Error, other: Stop) -> Stop
+    ensures memory { error_kind error ≡ OutOfMemory → result ≡ Stop.Run RunFault.Memory }
+    ensures other { error_kind error ≢ OutOfMemory → result ≡ other }
+{
     if error.kind() == io::ErrorKind::OutOfMemory {
         Stop::Run(RunFault::Memory)
     } else {
@@ -83,7 +111,8 @@ pub fn stop_for(error: io::Error, other: Stop) -> Stop {
 /// Says why the program ends, and gives its status: 0 after help or the version, 2 for a bad command line, 1 for a
 /// fault. What standard error doesn't take is lost.
 pub fn tell<R: Print + Eprint>(rt: &R, stop: Stop) -> u8
-    ensures { result ≤ 2 }
+    ensures status { IsStatusOf stop result }
+    ensures few { result ≤ 2 }
 {
     match stop {
         Stop::CommandLine(error) => return tell_command_line(rt, &error),
@@ -112,7 +141,8 @@ pub fn tell<R: Print + Eprint>(rt: &R, stop: Stop) -> u8
 
 /// Says what is wrong with a command line, or the help or the version that it asks for, and gives the status.
 fn tell_command_line<R: Print + Eprint>(rt: &R, error: &clap::Error) -> u8
-    ensures { result ≤ 2 }
+    ensures status { IsStatusOfLine error.now result }
+    ensures few { result ≤ 2 }
 {
     if error.use_stderr() {
         let _ = rt.eprint(error);

@@ -1,7 +1,7 @@
 -- Grids that differ in nothing that rules ask about: the rules have the same combinations on both.
 use Rattle.std.proofs.Common.{◌≡◌, ◌∙◌, ℕ, ◌<◌, ◌&&◌, inl, inr, Bool, true, false, not}
 use Rattle.std.proofs.Common.{Option}
-use Rattle.std.proofs.Common.{List, [], ◌∷◌, length, map, get_or, refl, sym, ap, ap₂, arith}
+use Rattle.std.proofs.Common.{List, [], ◌∷◌, length, map, get_or, refl, sym, ap, ap₂, subst, arith}
 use Rattle.std.specs.Prelude.{All, slice_get}
 use Rattle.std.specs.List.{list_all, list_any}
 use Rattle.std.proofs.lemmas.Bool.{cases_lt}
@@ -179,8 +179,12 @@ differ_back stirred g h differ = record {
 }
 
 -- a grid differs from itself in nothing
-pub differ_none : (stirred : List Bool) (g h : Grid) → g ≡ h → DifferOnlyAbout stirred g h
-differ_none stirred g h same = record {
-  objects = λ object none cell. ap (λ (k : Grid). is_held_in (cell_at k cell) object) same;
-  motions = λ test none cell. ap (λ (k : Grid). moves_as_asked (cell_at k cell) test) same;
+from_itself : (stirred : List Bool) (g : Grid) → DifferOnlyAbout stirred g g
+from_itself stirred g = record {
+  objects = λ object none cell. refl;
+  motions = λ test none cell. refl;
 }
+
+-- and from an equal one
+pub differ_none : (stirred : List Bool) (g h : Grid) → g ≡ h → DifferOnlyAbout stirred g h
+differ_none stirred g h same = subst (DifferOnlyAbout stirred g) same (from_itself stirred g)

@@ -7,7 +7,7 @@ ghost use Rattle.ps_match.specs.InRoom.{meaning_of_mask};
 ghost use Rattle.ps_match.specs.ScannedRows.{AreRowsScanned};
 
 use crate::fitting::fits_cell;
-use ps_board::{Board, Columns};
+use ps_board::{Board, Columns, recall_shape};
 use ps_program::CellMask;
 
 /// The columns of a row of a board whose cells fit a mask.
@@ -30,7 +30,7 @@ pub fn scan_rows<B: Board>(board: &B, mask: &CellMask, first: u32, found: &mut [
     ensures found { AreRowsScanned (B.grid board.now) (meaning_of_mask (mask_shown mask.now)) first found.new }
     ensures long { length found.new ≡ length found.old }
 {
-    let (_width, _height) = board.size();
+    recall_shape(board);
     for step in 0..found.len() {
         found[step] = scan_row(board, mask, first + step as u32);
     }

@@ -101,7 +101,8 @@ applied-is ms r place =
       by false = refl
 
 pub either_first : (ms : List CellMeaning) (r : Rewritten) (cells others : List ℕ) → AreApart cells others →
-    AreApart others cells → applied_along ms (applied_along ms r cells) others ≡ applied_along ms (applied_along ms r others) cells
+    AreApart others cells →
+    applied_along ms (applied_along ms r cells) others ≡ applied_along ms (applied_along ms r others) cells
 either_first ms r cells others apart back =
     by (fits_along r.grid ms cells) (fits_along r.grid ms others) refl refl where
       first : Rewritten

@@ -213,7 +213,7 @@ fn find_on_row<B: Scan>(
     ensures rows { AreRowsBegun rows starts.new result }
     ensures long { length starts.new ≡ length starts.old }
 {
-    let (_width, _height) = board.size();
+    recall_shape(board);
     let columns = starts_on_row(board, axis, part, first);
     starts[first as usize] = columns;
     if columns.is_empty() {

@@ -398,5 +398,5 @@ rest_left height first rows source before after some are none place from =
           absurd (omega (arith, early, e, from))
       | inr more ↦ more
     ] in
-    at_place height place after ∙ are.behind (place / height) (place % height) low high ∙ sym (at_place height place before)
-    ∙ none place from
+    at_place height place after ∙ are.behind (place / height) (place % height) low high
+    ∙ sym (at_place height place before) ∙ none place from

@@ -328,8 +328,8 @@ pub both_reach : (height end more : ℕ) (first second : List (List Bool)) (diff
 both_reach height end more first second differences farther same both =
     record {
       forth = lead_reach height end more first second differences farther same both.forth;
-      back = lead_reach height end more second first differences farther (λ place from below. sym (same place from below))
-          both.back;
+      back = lead_reach height end more second first differences farther
+          (λ place from below. sym (same place from below)) both.back;
     }
 
 -- several planes are the same

@@ -68,20 +68,6 @@ plain_frame names g text plain =
     (sym (rows_part names g text plain.each 0 g.height (omega arith)
     ∙ ap (λ (m : ℕ). take (g.height * (g.width + 1)) (drop m text)) none))
 
--- a plain frame has the line feeds of one, and with them and its rows it is one
-pub has_ends : (names : Names) (g : Grid) (text : List ℕ) → IsPlainFrame names g text →
-    IsBlankFrame g.width g.height text
-has_ends names g text plain = record {
-  long = plain.long;
-  each = λ row under. (plain.each row under).end;
-  end =
-      plain.end;
-}
-
-pub frame_drawn : (names : Names) (g : Grid) (text : List ℕ) → IsBlankFrame g.width g.height text →
-    ((row : ℕ) → row < g.height → IsPlainRow names g row (row_start g.width row) text) → IsPlainFrame names g text
-frame_drawn names g text blank each = record { long = blank.long; each = each; end = blank.end }
-
 -- a row of a plain frame, of a board as wide and as high as another
 pub row_of : (names : Names) (g h : Grid) (text : List ℕ) → h.width ≡ g.width → h.height ≡ g.height →
     IsPlainFrame names h text → (row : ℕ) → row < g.height →
@@ -201,3 +187,17 @@ blank_frame width height text longer all is =
           get_or-append text last 0 (row_start width row + width) (omega (arith, ends, all.long)) ∙ all.each row under;
       end = at_end text last (row_start width height) all.long;
     }
+
+-- a plain frame has the line feeds of one, and with them and its rows it is one
+pub has_ends : (names : Names) (g : Grid) (text : List ℕ) → IsPlainFrame names g text →
+    IsBlankFrame g.width g.height text
+has_ends names g text plain = record {
+  long = plain.long;
+  each = λ row under. (plain.each row under).end;
+  end =
+      plain.end;
+}
+
+pub frame_drawn : (names : Names) (g : Grid) (text : List ℕ) → IsBlankFrame g.width g.height text →
+    ((row : ℕ) → row < g.height → IsPlainRow names g row (row_start g.width row) text) → IsPlainFrame names g text
+frame_drawn names g text blank each = record { long = blank.long; each = each; end = blank.end }

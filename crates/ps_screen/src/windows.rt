@@ -17,7 +17,7 @@ use crate::cells::{CellSpace, cell_character};
 use crate::frame_texts::FrameText;
 use crate::look::Look;
 use crate::output_text::OutputText;
-use ps_board::Board;
+use ps_board::{Board, recall_shape};
 use ps_model::{Memory, Window};
 
 /// So many bytes of a text, from a place on.
@@ -126,7 +126,7 @@ fn add_whole_rows<B: Board>(
     ensures added { OnOk result (output.new ≡ output.old ++ window_frame look.now (B.grid board.now) window) }
     ensures front { OnErr result (take (length output.old) output.new ≡ output.old) }
 {
-    let (_width, _height) = board.size();
+    recall_shape(board);
     let bytes_of_row = window.columns as usize + 1;
     let start = window.first_row as usize * bytes_of_row;
     output.add(stretch(text, start, window.rows as usize * bytes_of_row))?;
@@ -180,7 +180,7 @@ fn add_window_of_rows<B: Board>(
     ensures added { OnOk result (output.new ≡ output.old ++ window_frame look.now (B.grid board.now) window) }
     ensures front { OnErr result (take (length output.old) output.new ≡ output.old) }
 {
-    let (_width, _height) = board.size();
+    recall_shape(board);
     for step in 0..window.rows {
         let row = window.first_row + step;
         let text = &texts[row as usize];

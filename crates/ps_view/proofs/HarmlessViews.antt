@@ -10,7 +10,7 @@ use Rattle.ps_view.specs.HarmlessTexts.{harmless_text}
 use Rattle.ps_view.specs.LineKinds.{kind_of}
 use Rattle.ps_view.specs.Rows.{cut, wrapped}
 use Rattle.ps_view.specs.Corners.{frame_part}
-use Rattle.ps_view.specs.Screens.{Told, keys_line, news_rows, rows_below, screen_of}
+use Rattle.ps_view.specs.Screens.{LinesBelow, keys_line, news_rows, rows_below, screen_of}
 use Rattle.ps_view.specs.Views.{View, Step, blank_view, quietly, drawn, with_news}
 use Rattle.ps_view.specs.Views.{with_frame}
 use Rattle.ps_view.specs.Views.{with_byte, go_on, line_told, byte_step, view_behind}
@@ -30,7 +30,7 @@ news_are_harmless size news =
     shortened_are_harmless (size.rows - 6) (wrapped size.columns (harmless_text news))
     (wrapped_is_harmless size.columns (harmless_text news) (text_is_harmless news))
 
-below_is_harmless : (size : Size) (told : Told) → AreHarmlessRows (rows_below size told)
+below_is_harmless : (size : Size) (told : LinesBelow) → AreHarmlessRows (rows_below size told)
 below_is_harmless size told =
     let line : List ℕ → List ℕ = λ bytes. cut size.columns (harmless_text bytes) in
     let news : List (List ℕ) = news_rows size told.news in
@@ -41,8 +41,8 @@ below_is_harmless size told =
     (news_are_harmless size told.news)))
 
 -- a screen of a harmless frame
-screen_is_harmless : (size : Size) (corner : Corner) (frame : List (List ℕ)) (told : Told) → AreHarmlessRows frame →
-    AreHarmlessRows (screen_of size corner frame told)
+screen_is_harmless : (size : Size) (corner : Corner) (frame : List (List ℕ)) (told : LinesBelow) →
+    AreHarmlessRows frame → AreHarmlessRows (screen_of size corner frame told)
 screen_is_harmless size corner frame told are =
     let below : List (List ℕ) = rows_below size told in
     All-append IsHarmlessRow (frame_part (size.rows - length below) size.columns corner frame) below

@@ -9,7 +9,7 @@ use Rattle.ps_view.specs.declared.sizes.Size.{Size}
 use Rattle.ps_view.specs.HarmlessTexts.{harmless_text}
 use Rattle.ps_view.specs.Rows.{shortened, wrapped}
 use Rattle.ps_view.specs.Corners.{part_from, frame_part}
-use Rattle.ps_view.specs.Screens.{Told, rows_below, news_rows}
+use Rattle.ps_view.specs.Screens.{LinesBelow, rows_below, news_rows}
 use Rattle.ps_view.specs.Bounds.{ScreensFit}
 
 -- rows that are shortened are as few as they may be
@@ -25,7 +25,7 @@ frame_few : (rows columns : ℕ) (corner : Corner) (frame : List (List ℕ)) →
     length (frame_part rows columns corner frame) ≤ rows
 frame_few rows columns corner frame some = rw length-map (part_few rows corner.top _ [] frame some)
 
-below_few : (size : Size) (told : Told) → length (rows_below size told) + 3 ≤ size.rows
+below_few : (size : Size) (told : LinesBelow) → length (rows_below size told) + 3 ≤ size.rows
 below_few size told =
     let few : length (news_rows size told.news) ≤ size.rows - 6 =
     shortened_few (size.rows - 6) (wrapped size.columns (harmless_text told.news)) (omega (arith, size.tall)) in

@@ -3,7 +3,7 @@ use Rattle.std.specs.Prelude.{◌≡◌, ℕ, ◌+◌, ◌≤◌, false, List, [
 use Rattle.ps_view.specs.declared.corners.Corner.{Corner}
 use Rattle.ps_view.specs.declared.sizes.Size.{Size}
 use Rattle.ps_view.specs.HarmlessTexts.{columns_of, is_order}
-use Rattle.ps_view.specs.Screens.{Told, screen_of}
+use Rattle.ps_view.specs.Screens.{LinesBelow, screen_of}
 use Rattle.ps_view.specs.Pieces.{Piece, view_behind_pieces}
 use Rattle.ps_view.specs.Views.{blank_view, view_behind}
 
@@ -26,7 +26,7 @@ ScreensOfPiecesAreHarmless = (size : Size) (pieces : List Piece) →
 
 -- a screen has no more rows than the terminal
 abbrev pub ScreensFit : Type 0
-ScreensFit = (size : Size) (corner : Corner) (frame : List (List ℕ)) (told : Told) →
+ScreensFit = (size : Size) (corner : Corner) (frame : List (List ℕ)) (told : LinesBelow) →
     length (screen_of size corner frame told) ≤ size.rows
 
 -- how many columns a row covers
@@ -36,5 +36,5 @@ covered (character ∷ others) = columns_of character + covered others
 
 -- and no row goes past the last column
 abbrev pub RowsFit : Type 0
-RowsFit = (size : Size) (corner : Corner) (frame : List (List ℕ)) (told : Told) →
+RowsFit = (size : Size) (corner : Corner) (frame : List (List ℕ)) (told : LinesBelow) →
     All (λ row. covered row ≤ size.columns) (screen_of size corner frame told)

@@ -13,7 +13,7 @@ use Rattle.ps_view.specs.Orders.{drawn_row}
 
 -- what is told beside the board: the line of the title, that of the level, and the last of all others. Each is empty
 -- until it comes
-pub record Told : Type 0 where
+pub record LinesBelow : Type 0 where
   pub title : List ℕ
   pub level : List ℕ
   pub news : List ℕ
@@ -27,13 +27,13 @@ abbrev pub news_rows : Size → List ℕ → List (List ℕ)
 news_rows size news = shortened (size.rows - 6) (wrapped size.columns (harmless_text news))
 
 -- the rows below a frame
-abbrev pub rows_below : Size → Told → List (List ℕ)
+abbrev pub rows_below : Size → LinesBelow → List (List ℕ)
 rows_below size told =
     cut size.columns (harmless_text told.title) ∷ cut size.columns (harmless_text told.level)
     ∷ cut size.columns (harmless_text keys_line) ∷ news_rows size told.news
 
 -- the rows of a terminal from the top, as far as they show something
-abbrev pub screen_of : Size → Corner → List (List ℕ) → Told → List (List ℕ)
+abbrev pub screen_of : Size → Corner → List (List ℕ) → LinesBelow → List (List ℕ)
 screen_of size corner frame told =
     let below : List (List ℕ) = rows_below size told in
     frame_part (size.rows - length below) size.columns corner frame ++ below

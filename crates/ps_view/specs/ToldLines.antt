@@ -1,7 +1,7 @@
 -- What the code keeps beside the board, seen as the lines that it tells.
-use Rattle.ps_view.specs.Screens.{Told}
+use Rattle.ps_view.specs.Screens.{LinesBelow}
 use Rattle.ps_view.specs.declared.screens.ToldLines.{ToldLines}
 
 -- the lines
-abbrev pub told_of : ToldLines → Told
+abbrev pub told_of : ToldLines → LinesBelow
 told_of lines = record { title = lines.title; level = lines.level; news = lines.news }

@@ -13,7 +13,7 @@ use Rattle.ps_view.specs.HarmlessTexts.{harmless_text}
 use Rattle.ps_view.specs.LineKinds.{kind_of}
 use Rattle.ps_view.specs.Orders.{opening_orders, at_row, closing_orders}
 use Rattle.ps_view.specs.Corners.{corner_moved, corner_showing, first_changed, changed_behind}
-use Rattle.ps_view.specs.Screens.{Told, screen_of, changes}
+use Rattle.ps_view.specs.Screens.{LinesBelow, screen_of, changes}
 
 -- a view: the size of the terminal; what is told beside the board; the rows of the last whole frame, as characters,
 -- the corner of the part of it that is shown, the cell that changed last, and the rows of the frame that has begun; the
@@ -21,7 +21,7 @@ use Rattle.ps_view.specs.Screens.{Told, screen_of, changes}
 -- ending was
 pub record View : Type 0 where
   pub size : Size
-  pub told : Told
+  pub told : LinesBelow
   pub frame : List (List ℕ)
   pub corner : Corner
   pub changed : Cell

@@ -13,4 +13,4 @@ mod slip_words;
 mod whys;
 mod wording;
 
-pub use whys::{Told, why};
+pub use whys::{Details, why};

@@ -14,7 +14,7 @@ use std::alloc::Global;
 
 /// What is told of a fault.
 #[derive(Drop)]
-pub struct Told {
+pub struct Details {
     /// The line that has the fault, behind its number, and below it a mark under the words that it is about, if there
     /// are such. Each line ends with a line feed. Of a text that is too long, nothing.
     pub line: String,
@@ -23,18 +23,18 @@ pub struct Told {
 }
 
 /// What is told of a fault that has that cause.
-fn told_by(alloc: Global, text: &[u8], fault: Fault, cause: Cause<'_>) -> Result<Told, Memory>
+fn told_by(alloc: Global, text: &[u8], fault: Fault, cause: Cause<'_>) -> Result<Details, Memory>
     requires { IsToldAt text.now fault.line cause }
     ensures { IfOk result (λ told. TellsTruth text.now fault.line (string_bytes told.sentence)) }
 {
     let line = line_shown(alloc, text, fault.line, marks_of(cause))?;
     let words = sentence(alloc, cause)?;
     let sentence = shown(alloc, &words)?;
-    Ok(Told { line, sentence })
+    Ok(Details { line, sentence })
 }
 
 /// What is told of a fault of a text that was read.
-fn told_of(alloc: Global, text: &[u8], source: &Source, fault: Fault) -> Result<Told, Memory>
+fn told_of(alloc: Global, text: &[u8], source: &Source, fault: Fault) -> Result<Details, Memory>
     requires { source.now ≡ text.now }
     ensures { IfOk result (λ told. TellsTruth text.now fault.line (string_bytes told.sentence)) }
 {
@@ -43,12 +43,12 @@ fn told_of(alloc: Global, text: &[u8], source: &Source, fault: Fault) -> Result<
 }
 
 /// What is told of a text that isn't UTF-8, or of one that is too long: of that nothing.
-fn broken_told(alloc: Global, text: &[u8], fault: Fault) -> Result<Told, Memory>
+fn broken_told(alloc: Global, text: &[u8], fault: Fault) -> Result<Details, Memory>
     ensures { IfOk result (λ told. TellsTruth text.now fault.line (string_bytes told.sentence)) }
 {
     let cause = broken_byte(text);
     if !cause.is_told() {
-        return Ok(Told {
+        return Ok(Details {
             line: String::new(alloc),
             sentence: String::new(alloc),
         });
@@ -61,7 +61,7 @@ fn broken_told(alloc: Global, text: &[u8], fault: Fault) -> Result<Told, Memory>
 /// # Errors
 ///
 /// `Memory` if a growth was refused.
-pub fn why(alloc: Global, text: &[u8], fault: Fault) -> Result<Told, Memory>
+pub fn why(alloc: Global, text: &[u8], fault: Fault) -> Result<Details, Memory>
     ensures { IfOk result (λ told. TellsTruth text.now fault.line (string_bytes told.sentence)) }
 {
     match Source::read(alloc, text) {

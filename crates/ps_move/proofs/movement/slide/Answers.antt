@@ -38,7 +38,8 @@ loop-passes-preserved g c =
       few = omega (arith, inv.few);
       room = λ s. inv.room c.pass.ensures.shape;
       still = c.pass.ensures.still;
-      outside = rows_still now c.rows_moving_any-rows-in-loop-passes.result c.rows_moving_any-rows-in-loop-passes.ensures;
+      outside =
+          rows_still now c.rows_moving_any-rows-in-loop-passes.result c.rows_moving_any-rows-in-loop-passes.ensures;
       table = c.pass.ensures.table ∙ inv.table;
     }
 

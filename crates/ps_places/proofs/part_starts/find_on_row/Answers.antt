@@ -20,7 +20,7 @@ returns-then-is_empty-clause-rows g c =
     let columns : List Bool = c.starts_on_row-columns.result in
     let within : first < length starts =
     within_sets c.args.first (g.B.Board.grid c.args.board.now).height (length c.args.starts.now) c.requires.row
-    c.size-width.ensures.shape.rows c.requires.room in
+    c.recall_shape.ensures.shape.rows c.requires.room in
     let here : columns_on (slice_set starts first columns) first ≡ columns =
     get_or-set_same starts first columns [] within in
     let off : (row : ℕ) → column_at c.none.result row ≡ false =
@@ -43,14 +43,14 @@ starts_on_row-columns-requires-clause-whole g c = c.requires.whole
 pub bounds-starts-first : goal.bounds-starts-first
 bounds-starts-first g c =
     within_sets c.args.first (g.B.Board.grid c.args.board.now).height (length c.args.starts.now) c.requires.row
-    c.size-width.ensures.shape.rows c.requires.room
+    c.recall_shape.ensures.shape.rows c.requires.room
 
 pub returns-then-is_empty-clause-begun : goal.returns-then-is_empty-clause-begun
 returns-then-is_empty-clause-begun g c =
     begun_one (g.B.Board.grid c.args.board.now) (g.B.Board.table c.args.board.now) c.args.axis c.args.part.now
     c.args.first (c.args.first + 1) c.args.starts.now c.starts_on_row-columns.result
     (within_sets c.args.first (g.B.Board.grid c.args.board.now).height (length c.args.starts.now) c.requires.row
-    c.size-width.ensures.shape.rows c.requires.room)
+    c.recall_shape.ensures.shape.rows c.requires.room)
     refl c.starts_on_row-columns.ensures
 
 pub returns-then-is_empty-clause-long : goal.returns-then-is_empty-clause-long
@@ -61,7 +61,7 @@ returns-clause-begun g c =
     begun_one (g.B.Board.grid c.args.board.now) (g.B.Board.table c.args.board.now) c.args.axis c.args.part.now
     c.args.first (c.args.first + 1) c.args.starts.now c.starts_on_row-columns.result
     (within_sets c.args.first (g.B.Board.grid c.args.board.now).height (length c.args.starts.now) c.requires.row
-    c.size-width.ensures.shape.rows c.requires.room)
+    c.recall_shape.ensures.shape.rows c.requires.room)
     refl c.starts_on_row-columns.ensures
 
 pub returns-clause-long : goal.returns-clause-long
@@ -74,7 +74,7 @@ returns-clause-rows g c =
     let columns : List Bool = c.starts_on_row-columns.result in
     let within : first < length starts =
     within_sets c.args.first (g.B.Board.grid c.args.board.now).height (length c.args.starts.now) c.requires.row
-    c.size-width.ensures.shape.rows c.requires.room in
+    c.recall_shape.ensures.shape.rows c.requires.room in
     let here : columns_on (slice_set starts first columns) first ≡ columns =
     get_or-set_same starts first columns [] within in
     record {
