@@ -30,7 +30,8 @@ PAUSE = 0.2
 @dataclasses.dataclass(frozen=True)
 class Task:
     """A run of the prover for a crate: a word for what it is, its command, and all crates below, which have to be proved before
-    it. At the top of the repository, or in the crate's folder. Whether it may have several jobs."""
+    it. At the top of the repository, or in the crate's folder. Whether it may have several jobs, and whether it goes on from what
+    earlier ones left in the crate's folder `out`: one that doesn't leaves the library there for others that begin meanwhile."""
 
     crate: str
     what: str
@@ -38,6 +39,7 @@ class Task:
     below: tuple
     at_top: bool = False
     with_jobs: bool = False
+    goes_on: bool = True
 
     def log(self):
         return TOP / "crates" / self.crate / "out" / f"{self.what}.log"
@@ -86,7 +88,10 @@ def begin(task, copy, jobs):
     out = out_of(TOP, task.crate)
     out.mkdir(exist_ok=True)
     shutil.rmtree(out_of(copy, task.crate), ignore_errors=True)
-    out.rename(out_of(copy, task.crate))
+    if task.goes_on:
+        out.rename(out_of(copy, task.crate))
+    else:
+        out_of(copy, task.crate).mkdir()
     for crate in task.below:
         lend(crate, copy)
     words = [*task.words, "--jobs", str(jobs)] if jobs > 1 else task.words
@@ -98,7 +103,11 @@ def begin(task, copy, jobs):
 
 def end(run):
     """Takes back what a run has left. Whether it ended well."""
-    out_of(run.copy, run.task.crate).rename(out_of(TOP, run.task.crate))
+    left = out_of(run.copy, run.task.crate)
+    if run.task.goes_on:
+        left.rename(out_of(TOP, run.task.crate))
+    else:
+        shutil.move(left / run.task.log().name, run.task.log())
     return run.process.returncode == 0
 
 
