@@ -1,6 +1,6 @@
--- Lines of games that are told one behind the other.
-use Rattle.std.proofs.Common.{◌≡◌, ◌∙◌, ℕ, ◌+◌, ◌-◌, ◌<◌, ◌++◌, ◌∷◌, inl, inr, List, [], Option, Some, None, length}
-use Rattle.std.proofs.Common.{Bor, zero, suc, map, take, true, get_or, refl, sym, ap, arith}
+-- Lines on texts that are told one behind the other.
+use Rattle.std.proofs.Common.{◌≡◌, ◌∙◌, ℕ, ◌+◌, ◌-◌, ◌<◌, ◌++◌, ◌∷◌, inl, inr, List, [], Option, length}
+use Rattle.std.proofs.Common.{Bool, Bor, zero, suc, map, take, true, get_or, refl, sym, ap, arith}
 use Rattle.std.specs.List.{concat}
 use Rattle.std.proofs.lemmas.Bool.{cases_lt}
 use Rattle.std.proofs.lemmas.List.{append-nil, get_or_append_left, get_or-append_right, length-append}
@@ -9,11 +9,13 @@ use Rattle.ps_check.specs.Checks.{named_line}
 use Rattle.ps_devices.specs.Devices.{Grows}
 use Rattle.ps_devices.proofs.Pieces.{grows_twice}
 use Rattle.ps_run.proofs.Rightly.{nothing_taken}
-use Rattle.ps_command.specs.Told.{TellsOf, TellsOfGames}
+use Rattle.ps_command.specs.Details.{TellsOn}
+use Rattle.ps_command.specs.Told.{AreLinesOnFile, IsLineOfGame, TellsInOrder, TellsOf, TellsOfFiles, TellsOfGames}
+use Rattle.ps_command.specs.declared.details.Detail.{Detail}
 
 -- none so far
-pub games_none : (before : Option (List ℕ)) → TellsOfGames [] before before
-games_none before =
+pub told_none : (Belongs : List ℕ → List ℕ → Type 0) (before : Option (List ℕ)) → TellsInOrder Belongs [] before before
+told_none Belongs before =
     record {
       lines = [];
       long = refl;
@@ -40,10 +42,10 @@ last lists list k is =
     ∙ ap (λ (i : ℕ). get_or (list ∷ []) i []) first
 
 -- one more
-pub games_more : (names : List (List ℕ)) (name : List ℕ) (before between after : Option (List ℕ)) →
-    TellsOfGames names before between → TellsOf name true between after → TellsOfGames (names ++ name ∷ []) before after
-games_more names name before between after was told =
-    let line : List ℕ = named_line name told.text in
+told_more : (Belongs : List ℕ → List ℕ → Type 0) (names : List (List ℕ)) (name line : List ℕ)
+    (before between after : Option (List ℕ)) → TellsInOrder Belongs names before between → Belongs name line →
+    Grows between after line → TellsInOrder Belongs (names ++ name ∷ []) before after
+told_more Belongs names name line before between after was belongs wrote =
     let long : length (was.lines ++ line ∷ []) ≡ length (names ++ name ∷ []) =
     length-append was.lines (line ∷ []) ∙ ap (λ (n : ℕ). n + 1) was.long ∙ sym (length-append names (name ∷ [])) in
     record {
@@ -64,9 +66,32 @@ games_more names name before between after was told =
               last names name (length names) refl,
               last was.lines line (length names) was.long,
             )
-            (record { text = told.text; accepted = sym told.is; is = refl })
+            belongs
       ];
-      wrote = grows_twice before between after (concat was.lines) line (concat (was.lines ++ line ∷ [])) was.wrote
-          (told.alone refl)
+      wrote = grows_twice before between after (concat was.lines) line (concat (was.lines ++ line ∷ [])) was.wrote wrote
           (concat-append was.lines (line ∷ []) ∙ ap (λ (rest : List ℕ). concat was.lines ++ rest) (append-nil line));
     }
+
+-- one more game
+pub games_more : (names : List (List ℕ)) (detail : Detail) (name : List ℕ) (before between after : Option (List ℕ)) →
+    TellsOfGames names before between → TellsOf detail name true between after →
+    TellsOfGames (names ++ name ∷ []) before after
+games_more names detail name before between after was told =
+    told_more IsLineOfGame names name (named_line name told.text) before between after was
+    (record { text = told.text; accepted = sym told.is; is = refl }) (told.alone refl)
+
+-- one more text
+pub files_more : (names : List (List ℕ)) (detail : Detail) (name : List ℕ) (accepted : Bool)
+    (before between after : Option (List ℕ)) → TellsOfFiles detail names before between →
+    TellsOf detail name accepted between after → TellsOfFiles detail (names ++ name ∷ []) before after
+files_more names detail name accepted before between after was told =
+    let here : TellsOn detail told.text (named_line name told.text) between after = told.wrote in
+    told_more (AreLinesOnFile detail) names name (named_line name told.text ++ here.more) before between after was
+    (inr (record { text = told.text; more = here.more; is = here.is; are = refl })) here.wrote
+
+-- one more file that can't be read
+pub files_unread : (names : List (List ℕ)) (detail : Detail) (name : List ℕ) (before between after : Option (List ℕ)) →
+    TellsOfFiles detail names before between → after ≡ between → TellsOfFiles detail (names ++ name ∷ []) before after
+files_unread names detail name before between after was same =
+    rw same (told_more (AreLinesOnFile detail) names name [] before between between was (inl refl)
+    (nothing_taken between))

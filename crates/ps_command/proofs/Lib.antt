@@ -1,1 +1,2 @@
+pub mod DetailsBelow
 pub mod GamesTold

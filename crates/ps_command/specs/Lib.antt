@@ -1,2 +1,3 @@
-pub mod Told
+pub mod Details
 pub mod Statuses
+pub mod Told

@@ -9,8 +9,8 @@ use Rattle.ps_run.specs.declared.faults.RunFault.TheVariants as fault
 use Rattle.ps_command.specs.declared.stops.Stop.{Stop}
 use Rattle.ps_command.specs.declared.stops.Stop.TheVariants as stop
 
--- of a command line that isn't obeyed: 2 where it isn't right; where it asks for help or the version, 0, or 1 where that
--- could not be told
+-- of a command line that isn't obeyed: 2 where it isn't right; where it asks for help or the version, 0, or 1 where
+-- that could not be told
 pub record IsStatusOfLine (error : Error) (status : ℕ) : Type 0 where
   pub wrong : kind_of error ≢ kind.DisplayHelp → kind_of error ≢ kind.DisplayVersion → status ≡ 2
   pub help : kind_of error ≡ kind.DisplayHelp → status ≤ 1

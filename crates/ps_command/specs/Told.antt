@@ -1,5 +1,6 @@
 -- What is told on the screen.
-use Rattle.std.specs.Prelude.{◌≡◌, ◌<◌, ℕ, Bool, true, Option, Err, List, [], ◌++◌, is_some, length, slice_index_or}
+use Rattle.std.specs.Prelude.{◌≡◌, ◌<◌, ◌⊎◌, ℕ, Bool, true, false, Option, Err, List, [], ◌++◌, is_some, length}
+use Rattle.std.specs.Prelude.{slice_index_or}
 use Rattle.std.specs.List.{concat}
 use Rattle.ps_model.specs.declared.play.Ending.{Ending}
 use Rattle.ps_model.specs.game.Games.{game}
@@ -9,24 +10,22 @@ use Rattle.ps_check.specs.Checks.{check_line, named_line}
 use Rattle.ps_devices.specs.Devices.{Grows, Loses}
 use Rattle.ps_run.specs.Answering.{answer_of}
 use Rattle.ps_run.specs.declared.faults.RunFault.{RunFault}
+use Rattle.ps_command.specs.Details.{IsDetail, TellsOn}
+use Rattle.ps_command.specs.declared.details.Detail.{Detail}
 use Rattle.ps_command.specs.declared.stops.Stop.{Stop}
 use Rattle.ps_command.specs.declared.stops.Stop.TheVariants.{Run}
-
--- a writer has taken something more, or nothing
-pub record GrowsOn (before after : Option (List ℕ)) : Type 0 where
-  pub more : List ℕ
-  pub wrote : Grows before after more
-
--- a writer has taken these bytes, and perhaps something more behind them
-pub record GrowsBy (line : List ℕ) (before after : Option (List ℕ)) : Type 0 where
-  pub more : List ℕ
-  pub wrote : Grows before after (line ++ more)
 
 -- of some text that is a game its line is told, and nothing else
 pub record TellsOfGame (before after : Option (List ℕ)) : Type 0 where
   pub text : List ℕ
   pub accepted : is_some (game text) ≡ true
   pub wrote : Grows before after (check_line text)
+
+-- of some text that is no game its line is told, and what stands below it
+pub record TellsOfRefused (detail : Detail) (before after : Option (List ℕ)) : Type 0 where
+  pub text : List ℕ
+  pub refused : is_some (game text) ≡ false
+  pub wrote : TellsOn detail text (check_line text) before after
 
 -- of what a reader has given, a text that is a game, its line is told, and nothing else
 pub record TellsOfGiven (had left : Option (List ℕ)) (before after : Option (List ℕ)) : Type 0 where
@@ -35,11 +34,11 @@ pub record TellsOfGiven (had left : Option (List ℕ)) (before after : Option (L
   pub accepted : is_some (game text) ≡ true
   pub wrote : Grows before after (check_line text)
 
--- of some text its line is told behind a name, and it is a game or isn't, as is answered
-pub record TellsOf (name : List ℕ) (accepted : Bool) (before after : Option (List ℕ)) : Type 0 where
+-- of some text its line is told behind a name, with what stands below it, and it is a game or isn't, as is answered
+pub record TellsOf (detail : Detail) (name : List ℕ) (accepted : Bool) (before after : Option (List ℕ)) : Type 0 where
   pub text : List ℕ
   pub is : accepted ≡ is_some (game text)
-  pub wrote : GrowsBy (named_line name text) before after
+  pub wrote : TellsOn detail text (named_line name text) before after
   pub alone : accepted ≡ true → Grows before after (named_line name text)
 
 -- a line that is told behind a name of some text, which is a game
@@ -48,13 +47,32 @@ pub record IsLineOfGame (name line : List ℕ) : Type 0 where
   pub accepted : is_some (game text) ≡ true
   pub is : line ≡ named_line name text
 
--- of some text for each of these names, in their order, its line is told behind the name, and nothing else; each text
--- is a game
-pub record TellsOfGames (names : List (List ℕ)) (before after : Option (List ℕ)) : Type 0 where
+-- for each of these names, in their order, something is told that belongs to it, and nothing else
+pub record TellsInOrder (Belongs : List ℕ → List ℕ → Type 0) (names : List (List ℕ)) (before after : Option (List ℕ)) :
+    Type 0 where
   pub lines : List (List ℕ)
   pub long : length lines ≡ length names
-  pub each : (k : ℕ) → k < length names → IsLineOfGame (slice_index_or names k []) (slice_index_or lines k [])
+  pub each : (k : ℕ) → k < length names → Belongs (slice_index_or names k []) (slice_index_or lines k [])
   pub wrote : Grows before after (concat lines)
+
+-- the line of some text for each of these names, each of which is a game
+abbrev pub TellsOfGames : List (List ℕ) → Option (List ℕ) → Option (List ℕ) → Type 0
+TellsOfGames names before after = TellsInOrder IsLineOfGame names before after
+
+-- lines on some text behind a name, with what stands below the first
+pub record AreLinesOnText (detail : Detail) (name lines : List ℕ) : Type 0 where
+  pub text : List ℕ
+  pub more : List ℕ
+  pub is : IsDetail detail text more
+  pub are : lines ≡ named_line name text ++ more
+
+-- the same, or nothing, for a file that can't be read
+abbrev pub AreLinesOnFile : Detail → List ℕ → List ℕ → Type 0
+AreLinesOnFile detail name lines = (lines ≡ []) ⊎ AreLinesOnText detail name lines
+
+-- for each of these names lines on some text, or nothing
+abbrev pub TellsOfFiles : Detail → List (List ℕ) → Option (List ℕ) → Option (List ℕ) → Type 0
+TellsOfFiles detail names before after = TellsInOrder (AreLinesOnFile detail) names before after
 
 -- a text's game was played until it stopped, and what stopped it is told
 pub record StopsRightly (text : List ℕ) (keys left : ReaderState) (before after : WriterState) (stop : Stop) : Type 0

@@ -1,9 +1,12 @@
 //! What is done for a command line.
 
-ghost use Rattle.std.specs.Prelude.{◌≡◌, ◌+◌, ◌<◌, ◌≤◌, false, true, IfOk, IfSome, OnOk, codes, is_some, length, map};
+ghost use Rattle.std.specs.Prelude.{◌≡◌, ◌≢◌, ◌+◌, ◌<◌, ◌≤◌, false, true, codes, is_some, length, map};
+ghost use Rattle.std.specs.Prelude.{Err, IfErr, IfOk, IfSome, None, Ok, OnOk};
 ghost use Rattle.ps_model.specs.game.Games.{game};
 ghost use Rattle.ps_check.specs.Checks.{check_line, named_line};
-ghost use Rattle.ps_command.specs.Told.{GrowsBy, TellsOf, TellsOfGame, TellsOfGames, TellsOfGiven};
+ghost use Rattle.ps_command.specs.Details.{TellsOn};
+ghost use Rattle.ps_command.specs.Told.{TellsOf, TellsOfFiles, TellsOfGame, TellsOfGames, TellsOfGiven, TellsOfRefused};
+ghost use Rattle.ps_command.specs.declared.stops.Stop.TheVariants as Stop;
 ghost use Rattle.ps_devices.specs.Devices.{Grows};
 
 use crate::command::{Asked, read_command};
@@ -74,6 +77,8 @@ fn check_text<R: Files + AllocGlobal, I: ByteReader, O: ByteWriter>(
     ensures given { path.now ≡ codes "-" → OnOk result
         (TellsOfGiven (I.state input.old).remaining (I.state input.new).remaining
         (O.state screen.old).contents (O.state screen.new).contents) }
+    ensures refused { result ≡ Err Stop.NotAccepted →
+        TellsOfRefused detail (O.state screen.old).contents (O.state screen.new).contents }
 {
     let text = read_text(rt, path, input)?;
     if check_alone(rt.alloc(), &text, detail, screen)? {
@@ -94,8 +99,9 @@ fn check_alone<O: ByteWriter>(
     ensures is { IfOk result (λ accepted. accepted ≡ is_some (game text.now)) }
     ensures accepted { IfOk result (λ accepted. accepted ≡ true
         → Grows (O.state screen.old).contents (O.state screen.new).contents (check_line text.now)) }
-    ensures told { OnOk result
-        (GrowsBy (check_line text.now) (O.state screen.old).contents (O.state screen.new).contents) }
+    ensures told { let line = check_line text.now in OnOk result
+        (TellsOn detail text.now line (O.state screen.old).contents (O.state screen.new).contents) }
+    ensures fault { IfErr result (λ stop. stop ≢ Stop.NotAccepted) }
 {
     if check(alloc, text, screen)? {
         return Ok(true);
@@ -124,8 +130,10 @@ fn check_texts<R: Files + AllocGlobal + Eprint, I: ByteReader, O: ByteWriter>(
 ) -> Result<(), Stop>
     requires heard { (I.state input.old).has_failed ≡ false }
     requires well { (O.state screen.old).has_failed ≡ false }
-    ensures { OnOk result (TellsOfGames (map (λ path. path.now) paths.now)
+    ensures games { OnOk result (TellsOfGames (map (λ path. path.now) paths.now)
         (O.state screen.old).contents (O.state screen.new).contents) }
+    ensures files { result ≡ Err Stop.NotAccepted → TellsOfFiles detail (map (λ path. path.now) paths.now)
+        (O.state screen.old).contents (O.state screen.new).contents }
 {
     let said = check_each(rt, paths, detail, input, screen)?;
     if said.faulty == 0 && said.unread == 0 {
@@ -151,6 +159,9 @@ fn check_each<R: Files + AllocGlobal + Eprint, I: ByteReader, O: ByteWriter>(
         (O.state screen.old).calls + (said.games + said.faulty) ≤ (O.state screen.new).calls) }
     ensures games { IfOk result (λ said. said.games ≡ length paths.now → TellsOfGames (map (λ path. path.now) paths.now)
         (O.state screen.old).contents (O.state screen.new).contents) }
+    ensures files { OnOk result (TellsOfFiles detail (map (λ path. path.now) paths.now)
+        (O.state screen.old).contents (O.state screen.new).contents) }
+    ensures fault { IfErr result (λ stop. stop ≢ Stop.NotAccepted) }
 {
     let mut games = 0;
     let mut faulty = 0;
@@ -185,8 +196,10 @@ fn check_one<R: Files + AllocGlobal + Eprint, I: ByteReader, O: ByteWriter>(
     ensures on { OnOk result ((O.state screen.old).calls ≤ (O.state screen.new).calls) }
     ensures written { IfOk result (λ said. IfSome said (λ _.
         (O.state screen.old).calls < (O.state screen.new).calls)) }
+    ensures unread { result ≡ Ok None → (O.state screen.new).contents ≡ (O.state screen.old).contents }
     ensures told { IfOk result (λ said. IfSome said (λ accepted.
-        TellsOf path.now accepted (O.state screen.old).contents (O.state screen.new).contents)) }
+        TellsOf detail path.now accepted (O.state screen.old).contents (O.state screen.new).contents)) }
+    ensures fault { IfErr result (λ stop. stop ≢ Stop.NotAccepted) }
 {
     if path == STANDARD_INPUT {
         let text = read_input(rt.alloc(), input)?;
@@ -217,10 +230,11 @@ fn check_bytes<O: ByteWriter>(
     ensures well { OnOk result ((O.state screen.new).has_failed ≡ false) }
     ensures written { OnOk result ((O.state screen.old).calls < (O.state screen.new).calls) }
     ensures accepted { IfOk result (λ accepted. accepted ≡ is_some (game text.now)) }
-    ensures told { OnOk result
-        (GrowsBy (named_line path.now text.now) (O.state screen.old).contents (O.state screen.new).contents) }
+    ensures told { let line = named_line path.now text.now in OnOk result
+        (TellsOn detail text.now line (O.state screen.old).contents (O.state screen.new).contents) }
     ensures alone { IfOk result (λ accepted. accepted ≡ true
         → Grows (O.state screen.old).contents (O.state screen.new).contents (named_line path.now text.now)) }
+    ensures fault { IfErr result (λ stop. stop ≢ Stop.NotAccepted) }
 {
     if check_named(alloc, path, text, screen)? {
         return Ok(true);
@@ -230,7 +244,9 @@ fn check_bytes<O: ByteWriter>(
 }
 
 /// Tells on standard error that one of several files can't be read, unless it can't for want of memory.
-fn tell_unread<R: AllocGlobal + Eprint>(rt: &R, path: &str, error: io::Error) -> Result<(), Stop> {
+fn tell_unread<R: AllocGlobal + Eprint>(rt: &R, path: &str, error: io::Error) -> Result<(), Stop>
+    ensures fault { IfErr result (λ stop. stop ≢ Stop.NotAccepted) }
+{
     if error.kind() == io::ErrorKind::OutOfMemory {
         return Err(Stop::Run(RunFault::Memory));
     }

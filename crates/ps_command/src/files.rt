@@ -1,7 +1,8 @@
 //! The texts of games.
 
-ghost use Rattle.std.specs.Prelude.{◌≡◌, ◌≢◌, ◌+◌, ◌<◌, false, IfOk, OnOk, codes, length};
+ghost use Rattle.std.specs.Prelude.{◌≡◌, ◌≢◌, ◌+◌, ◌<◌, false, IfErr, IfOk, OnOk, codes, length};
 ghost use Rattle.ps_model.specs.declared.limits.TheConstants.{TEXT_LIMIT};
+ghost use Rattle.ps_command.specs.declared.stops.Stop.TheVariants as Stop;
 ghost use Rattle.ps_devices.specs.Devices.{IsSpent, Loses};
 
 use crate::stops::{Stop, stop_for};
@@ -35,6 +36,7 @@ pub fn read_input<I: ByteReader>(alloc: Global, input: &mut I) -> Result<Vec<u8>
         Loses (I.state input.old).remaining (I.state input.new).remaining text.items) }
     ensures whole { IfOk result (λ text.
         length text.items < TEXT_LIMIT + 1 → IsSpent (I.state input.new).remaining) }
+    ensures fault { IfErr result (λ stop. stop ≢ Stop.NotAccepted) }
 {
     let mut text = Vec::new(alloc);
     let mut piece = [0u8; CALL_LIMIT];
@@ -61,6 +63,7 @@ pub fn read_text<R: Files + AllocGlobal, I: ByteReader>(
     ensures whole { path.now ≡ codes "-" → IfOk result (λ text.
         length text.items < TEXT_LIMIT + 1 → IsSpent (I.state input.new).remaining) }
     ensures unasked { path.now ≢ codes "-" → input.new ≡ input.old }
+    ensures fault { IfErr result (λ stop. stop ≢ Stop.NotAccepted) }
 {
     if path == STANDARD_INPUT {
         return read_input(rt.alloc(), input);

@@ -100,6 +100,7 @@ impl From<clap::Error> for Stop {
 pub fn stop_for(error: io::Error, other: Stop) -> Stop
     ensures memory { error_kind error ≡ OutOfMemory → result ≡ Stop.Run RunFault.Memory }
     ensures other { error_kind error ≢ OutOfMemory → result ≡ other }
+    ensures fault { other ≢ Stop.NotAccepted → result ≢ Stop.NotAccepted }
 {
     if error.kind() == io::ErrorKind::OutOfMemory {
         Stop::Run(RunFault::Memory)

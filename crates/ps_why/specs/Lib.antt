@@ -1,7 +1,12 @@
 pub mod GameWording
+pub mod Lines
+pub mod Marked
+pub mod Marks
 pub mod ObjectWording
+pub mod Page
 pub mod RuleWording
 pub mod SectionNames
 pub mod Shown
 pub mod SlipWords
+pub mod Told
 pub mod Wording

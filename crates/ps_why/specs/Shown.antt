@@ -1,10 +1,7 @@
--- What is shown of a text and of a fault: no character among it that a terminal takes as an order.
-use Rattle.std.specs.Prelude.{◌≡◌, ℕ, ◌==◌, nat_lt, nat_le, Bool, ◌&&◌, ◌||◌, not, if◌then◌else◌, List, encode_utf8}
+-- Texts as they are shown: without a character that a terminal takes as an order.
+use Rattle.std.specs.Prelude.{ℕ, ◌==◌, nat_lt, nat_le, Bool, ◌&&◌, ◌||◌, not, if◌then◌else◌, List, encode_utf8}
 use Rattle.std.specs.List.{flat_map}
 use Rattle.std.specs.Str.{chars}
-use Rattle.ps_causes.specs.declared.causes.Cause.{Cause}
-use Rattle.ps_causes.specs.Causes.{IsToldAt}
-use Rattle.ps_why.specs.Wording.{sentence}
 
 -- a terminal takes the character as an order: those below 32 but for the tab, 127, and U+0080 to U+009F
 abbrev pub is_order : ℕ → Bool
@@ -21,9 +18,3 @@ shown_characters characters = flat_map (λ character. encode_utf8 (shown_charact
 -- a text in which none is
 abbrev pub shown_text : List ℕ → List ℕ
 shown_text text = shown_characters (chars text)
-
--- words on a line are those of a cause that is true of the text
-pub record TellsTruth (text : List ℕ) (line : ℕ) (words : List ℕ) : Type 0 where
-  pub cause : Cause
-  pub is_true : IsToldAt text line cause
-  pub are_those : words ≡ shown_text (sentence cause)

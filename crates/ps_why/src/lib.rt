@@ -3,7 +3,10 @@
 //! [`why`] shows the line of the fault, marks the words that its cause speaks of, and says what the cause is.
 #![tactic(auto)]
 
+mod characters;
 mod game_wording;
+mod lines;
+mod marked;
 mod marks;
 mod object_wording;
 mod page;

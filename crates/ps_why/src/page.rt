@@ -1,181 +1,63 @@
-//! A line of a text as it is shown, with a mark below the words that a detail is about.
+//! A line of a text as it is shown, with marks below the words that a detail is about.
 
-ghost use Rattle.std.specs.Prelude.{◌≡◌, ◌≤◌, IfOk, length, string_bytes};
-ghost use Rattle.ps_why.specs.Shown.{is_order, shown_character, shown_characters, shown_text};
+ghost use Rattle.std.specs.Prelude.{◌≡◌, ◌<◌, ◌≤◌, ◌+◌, ◌^◌, ◌++◌, length, slice_range, take, IfOk, OnOk, Some};
+ghost use Rattle.std.specs.Prelude.{string_bytes};
+ghost use Rattle.std.specs.Str.{IsUtf8};
+ghost use Rattle.ps_why.specs.declared.lines.TheConstants.{MOST_SHOWN};
+ghost use Rattle.ps_why.specs.Page.{caret, carets, front_shown, line_shown, marks_shown, number_shown, part_shown};
+ghost use Rattle.ps_why.specs.Page.{valid_front};
 
-use ps_facts::characters_in;
+use crate::characters::shown;
+use crate::lines::{MOST_SHOWN, goes_on, line_bytes, shown_from};
+use crate::marks::Marks;
 use ps_model::Memory;
 use std::alloc::Global;
 
-/// How many bytes of a line are shown at most.
-const MOST_SHOWN: usize = 200;
-
-/// What a mark stands below: bytes of a text, from one to before another.
-#[derive(Clone, Copy)]
-pub struct Mark {
-    pub from: usize,
-    pub to: usize,
-}
-
-/// What the marks below a line stand below: one thing, and perhaps another before it.
-#[derive(Clone, Copy)]
-pub struct Marks {
-    pub mark: Mark,
-    pub other: Option<Mark>,
-}
-
-impl Mark {
-    /// Whether a mark stands below a place of the text.
-    fn has(&self, place: usize) -> bool {
-        place >= self.from && place < self.to
-    }
-}
-
-impl Marks {
-    /// Whether one of the marks stands below a place of the text.
-    fn have(&self, place: usize) -> bool {
-        match self.other {
-            Some(other) => self.mark.has(place) || other.has(place),
-            None => self.mark.has(place),
-        }
-    }
-}
-
-/// A line of a text: its bytes, from one to before another, without the line feed.
-#[derive(Clone, Copy)]
-struct LineBytes {
-    from: usize,
-    to: usize,
-}
-
-/// The place of the first line feed from a place on, or else the text's end.
-fn line_end(text: &[u8], from: usize) -> usize
-    requires { from ≤ length text.now }
-    ensures behind { from ≤ result }
-    ensures within { result ≤ length text.now }
-{
-    for at in from..text.len() {
-        if text[at] == b'\n' {
-            return at;
-        }
-    }
-    text.len()
-}
-
-/// The place behind so many line feeds, or else the text's end.
-fn line_start(text: &[u8], feeds: u32) -> usize
-    ensures { result ≤ length text.now }
-{
-    let mut left = feeds;
-    for at in 0..text.len() {
-        if left == 0 {
-            return at;
-        }
-        if text[at] == b'\n' {
-            left = left.saturating_sub(1);
-        }
-    }
-    text.len()
-}
-
-/// The bytes of the line of a number, from 1, without a byte order mark at the text's start.
-fn line_bytes(text: &[u8], line: u32) -> LineBytes
-    ensures order { result.from ≤ result.to }
-    ensures within { result.to ≤ length text.now }
-{
-    let start = line_start(text, line.saturating_sub(1));
-    let end = line_end(text, start);
-    if start == 0 && text.starts_with(b"\xef\xbb\xbf") && end >= 3 {
-        return LineBytes { from: 3, to: end };
-    }
-    LineBytes {
-        from: start,
-        to: end,
-    }
-}
-
-/// Whether a terminal takes the character as an order: those below 32 but for the tab, 127, and U+0080 to U+009F.
-fn is_order(character: char) -> bool
-    ensures { result ≡ is_order character }
-{
-    let code = character as u32;
-    (code < 32 && code != 9) || (code >= 127 && code < 160)
-}
-
-/// The character, or a point in place of one that a terminal takes as an order.
-fn shown_character(character: char) -> char
-    ensures { result ≡ shown_character character }
-{
-    if is_order(character) {
-        return '·';
-    }
-    character
-}
-
-/// The characters as a text in which none is an order.
-fn shown_characters(alloc: Global, characters: &[char]) -> Result<String, Memory>
-    ensures { IfOk result (λ shown. string_bytes shown ≡ shown_characters characters.now) }
-{
-    let mut made = String::new(alloc);
-    for at in 0..characters.len() {
-        made.push(shown_character(characters[at]))?;
-    }
-    Ok(made)
-}
-
-/// A text with points in place of characters that a terminal takes as orders.
-pub fn shown(alloc: Global, text: &str) -> Result<String, Memory>
-    ensures { IfOk result (λ made. string_bytes made ≡ shown_text text.now) }
-{
-    let characters = characters_in(alloc, text)?;
-    let made = shown_characters(alloc, &characters)?;
-    Ok(made)
-}
-
 /// The longest front of bytes that is UTF-8.
-fn valid_front(bytes: &[u8]) -> &str {
+fn valid_front(bytes: &[u8]) -> &str
+    ensures { result.now ≡ valid_front bytes.now }
+{
     match std::str::from_utf8(bytes) {
         Ok(text) => text,
-        Err(error) => valid_or_none(&bytes[..error.valid_up_to()]),
+        Err(error) => whole_text(&bytes[..error.valid_up_to()]),
     }
 }
 
-/// The bytes as a text, or else none of them.
-fn valid_or_none(bytes: &[u8]) -> &str {
+/// Bytes that are UTF-8 as a text.
+fn whole_text(bytes: &[u8]) -> &str
+    requires { IsUtf8 bytes.now }
+    ensures { result.now ≡ bytes.now }
+{
     match std::str::from_utf8(bytes) {
         Ok(text) => text,
         Err(_) => "",
     }
 }
 
-/// Puts the front of a line last, as it is shown, where it is UTF-8.
-fn push_front(alloc: Global, page: &mut String, line: &[u8]) -> Result<(), Memory> {
-    let front = &line[..line.len().min(MOST_SHOWN)];
-    let shown = shown(alloc, valid_front(front))?;
+/// A line's number, at the right of six columns, with two blanks behind it.
+fn number_shown(alloc: Global, line: u32) -> Result<String, Memory>
+    ensures { IfOk result (λ shown. string_bytes shown ≡ number_shown line) }
+{
+    let number = format!(in alloc; "{line:>6}  ")?;
+    Ok(number)
+}
+
+/// Puts bytes of a line last, as they are shown, as far as they are UTF-8: behind two points, where they aren't the
+/// line's front.
+fn push_front(alloc: Global, page: &mut String, line: &[u8], is_front: bool) -> Result<(), Memory>
+    ensures { OnOk result (string_bytes page.new ≡ string_bytes page.old ++ front_shown line.now is_front) }
+{
+    page.push_str(if is_front { "" } else { ".." })?;
+    let shown = shown(alloc, valid_front(line))?;
     page.push_str(&shown)?;
-    Ok(())
-}
-
-/// Whether the byte goes on with a character that has begun before it.
-fn goes_on(byte: u8) -> bool {
-    byte >= 128 && byte < 192
-}
-
-/// Puts carets last below the marked bytes of a line, of which the first stands at a place of the text, and blanks
-/// before them; one for each character.
-fn push_carets(page: &mut String, line: &[u8], start: usize, marks: Marks) -> Result<(), Memory> {
-    for at in 0..line.len().min(MOST_SHOWN) {
-        let place = start.saturating_add(at);
-        if place >= marks.mark.to {
-            return Ok(());
-        }
-        push_caret(page, line[at], marks.have(place))?;
-    }
+    page.push('\n')?;
     Ok(())
 }
 
 /// Puts a caret or a blank last below a byte that begins a character.
-fn push_caret(page: &mut String, byte: u8, is_marked: bool) -> Result<(), Memory> {
+fn push_caret(page: &mut String, byte: u8, is_marked: bool) -> Result<(), Memory>
+    ensures { OnOk result (string_bytes page.new ≡ string_bytes page.old ++ caret byte is_marked) }
+{
     if goes_on(byte) {
         return Ok(());
     }
@@ -187,43 +69,69 @@ fn push_caret(page: &mut String, byte: u8, is_marked: bool) -> Result<(), Memory
     Ok(())
 }
 
-/// How many bytes of a line stand before the end of a mark at most, where the line's front isn't shown.
-const MOST_BEFORE: usize = 100;
-
-/// The first place of a line from a place on at which a character begins, or else the line's end.
-fn begins_from(text: &[u8], line: LineBytes, from: usize) -> usize
-    requires order { line.from ≤ line.to }
-    requires within { line.to ≤ length text.now }
-    ensures behind { line.from ≤ result }
-    ensures within { result ≤ line.to }
+/// Puts carets last below the marked bytes of a line, of which the first stands at a place of the text, and blanks
+/// before them; one for each character.
+fn push_carets(page: &mut String, line: &[u8], start: usize, marks: Marks) -> Result<(), Memory>
+    requires { start + length line.now < 2 ^ 64 }
+    ensures { OnOk result (string_bytes page.new ≡ string_bytes page.old ++ carets marks start line.now) }
 {
-    for at in from.max(line.from)..line.to {
-        if !goes_on(text[at]) {
-            return at;
+    for at in 0..line.len() {
+        if start + at >= marks.mark.to {
+            return Ok(());
         }
+        push_caret(page, line[at], marks.have(start + at))?;
     }
-    line.to
+    Ok(())
 }
 
-/// Where a line is shown from: from its front, or else from a place that shows what is marked.
-fn shown_from(text: &[u8], line: LineBytes, marks: Option<Marks>) -> usize
-    requires order { line.from ≤ line.to }
-    requires within { line.to ≤ length text.now }
-    ensures behind { line.from ≤ result }
-    ensures within { result ≤ line.to }
+/// Puts a line of marks last, below bytes of a line of which the first stands at a place of the text.
+fn push_marks(
+    page: &mut String,
+    line: &[u8],
+    start: usize,
+    marks: Marks,
+    is_front: bool,
+) -> Result<(), Memory>
+    requires { start + length line.now < 2 ^ 64 }
+    ensures { let below = marks_shown line.now start is_front (Some marks) in
+        OnOk result (string_bytes page.new ≡ string_bytes page.old ++ below) }
 {
-    let Some(marks) = marks else {
-        return line.from;
-    };
-    let mark = marks.mark;
-    if mark.to.saturating_sub(line.from) <= MOST_SHOWN {
-        return line.from;
+    page.push_str(if is_front { "        " } else { "          " })?;
+    push_carets(page, line, start, marks)?;
+    page.push('\n')?;
+    Ok(())
+}
+
+/// Bytes of a text from one to before another, but no more than are shown.
+fn part_of(text: &[u8], from: usize, to: usize) -> &[u8]
+    requires order { from ≤ to }
+    requires within { to ≤ length text.now }
+    ensures part { result.now ≡ take MOST_SHOWN (slice_range text.now from to) }
+    ensures within { from + length result.now ≤ length text.now }
+{
+    let line = &text[from..to];
+    &line[..MOST_SHOWN.min(line.len())]
+}
+
+/// Puts bytes of a line last, of which the first stands at a place of the text, and below them the marks, if there are
+/// some.
+fn push_part(
+    alloc: Global,
+    page: &mut String,
+    line: &[u8],
+    start: usize,
+    is_front: bool,
+    marks: Option<Marks>,
+) -> Result<(), Memory>
+    requires { start + length line.now < 2 ^ 64 }
+    ensures { let part = part_shown line.now start is_front marks in
+        OnOk result (string_bytes page.new ≡ string_bytes page.old ++ part) }
+{
+    push_front(alloc, page, line, is_front)?;
+    match marks {
+        Some(marks) => push_marks(page, line, start, marks, is_front),
+        None => Ok(()),
     }
-    begins_from(
-        text,
-        line,
-        mark.from.min(mark.to.saturating_sub(MOST_BEFORE)),
-    )
 }
 
 /// A line of a text behind its number, and below it the marks, if there are some. Of a long line a part is shown, which
@@ -233,20 +141,13 @@ pub fn line_shown(
     text: &[u8],
     line: u32,
     marks: Option<Marks>,
-) -> Result<String, Memory> {
+) -> Result<String, Memory>
+    ensures { IfOk result (λ shown. string_bytes shown ≡ line_shown text.now line marks) }
+{
     let bytes = line_bytes(text, line);
     let from = shown_from(text, bytes, marks);
-    let raw = &text[from..bytes.to];
-    let is_front = from == bytes.from;
-    let mut page = format!(in alloc; "{line:>6}  ")?;
-    page.push_str(if is_front { "" } else { ".." })?;
-    push_front(alloc, &mut page, raw)?;
-    page.push('\n')?;
-    let Some(marks) = marks else {
-        return Ok(page);
-    };
-    page.push_str(if is_front { "        " } else { "          " })?;
-    push_carets(&mut page, raw, from, marks)?;
-    page.push('\n')?;
+    let part = part_of(text, from, bytes.to);
+    let mut page = number_shown(alloc, line)?;
+    push_part(alloc, &mut page, part, from, from == bytes.from, marks)?;
     Ok(page)
 }

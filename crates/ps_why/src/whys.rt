@@ -1,14 +1,16 @@
 //! What is told of a fault of a text.
 
-ghost use Rattle.std.specs.Prelude.{◌≡◌, IfOk, string_bytes};
+ghost use Rattle.std.specs.Prelude.{◌≡◌, ◌≤◌, length, IfOk, string_bytes};
+ghost use Rattle.ps_model.specs.declared.limits.TheConstants.{TEXT_LIMIT};
 ghost use Rattle.ps_causes.specs.Causes.{IsToldAt};
-ghost use Rattle.ps_why.specs.Shown.{TellsTruth};
+ghost use Rattle.ps_why.specs.Told.{TellsTruth};
 
-use crate::marks::marks_of;
-use crate::page::{line_shown, shown};
+use crate::characters::shown;
+use crate::marked::marks_of;
+use crate::page::line_shown;
 use crate::wording::sentence;
 use ps_causes::{Cause, broken_byte, cause_of};
-use ps_model::{Fault, Memory, Refusal};
+use ps_model::{Fault, Memory, Refusal, TEXT_LIMIT};
 use ps_text::Source;
 use std::alloc::Global;
 
@@ -24,8 +26,10 @@ pub struct Details {
 
 /// What is told of a fault that has that cause.
 fn told_by(alloc: Global, text: &[u8], fault: Fault, cause: Cause<'_>) -> Result<Details, Memory>
-    requires { IsToldAt text.now fault.line cause }
-    ensures { IfOk result (λ told. TellsTruth text.now fault.line (string_bytes told.sentence)) }
+    requires short { length text.now ≤ TEXT_LIMIT }
+    requires cause { IsToldAt text.now fault.line cause }
+    ensures { IfOk result (λ told.
+        TellsTruth text.now fault.line (string_bytes told.line) (string_bytes told.sentence)) }
 {
     let line = line_shown(alloc, text, fault.line, marks_of(cause))?;
     let words = sentence(alloc, cause)?;
@@ -35,38 +39,34 @@ fn told_by(alloc: Global, text: &[u8], fault: Fault, cause: Cause<'_>) -> Result
 
 /// What is told of a fault of a text that was read.
 fn told_of(alloc: Global, text: &[u8], source: &Source, fault: Fault) -> Result<Details, Memory>
-    requires { source.now ≡ text.now }
-    ensures { IfOk result (λ told. TellsTruth text.now fault.line (string_bytes told.sentence)) }
+    requires short { length text.now ≤ TEXT_LIMIT }
+    requires source { source.now ≡ text.now }
+    ensures { IfOk result (λ told.
+        TellsTruth text.now fault.line (string_bytes told.line) (string_bytes told.sentence)) }
 {
     let cause = cause_of(alloc, text, source, fault)?;
     told_by(alloc, text, fault, cause)
 }
 
-/// What is told of a text that isn't UTF-8, or of one that is too long: of that nothing.
-fn broken_told(alloc: Global, text: &[u8], fault: Fault) -> Result<Details, Memory>
-    ensures { IfOk result (λ told. TellsTruth text.now fault.line (string_bytes told.sentence)) }
-{
-    let cause = broken_byte(text);
-    if !cause.is_told() {
-        return Ok(Details {
-            line: String::new(alloc),
-            sentence: String::new(alloc),
-        });
-    }
-    told_by(alloc, text, fault, cause)
-}
-
-/// What is told of a fault of a text. The sentence is that of a cause that is true of the text.
+/// What is told of a fault of a text. The sentence is that of a cause that is true of the text, and the marks stand
+/// below what that cause speaks of.
 ///
 /// # Errors
 ///
 /// `Memory` if a growth was refused.
 pub fn why(alloc: Global, text: &[u8], fault: Fault) -> Result<Details, Memory>
-    ensures { IfOk result (λ told. TellsTruth text.now fault.line (string_bytes told.sentence)) }
+    ensures { IfOk result (λ told.
+        TellsTruth text.now fault.line (string_bytes told.line) (string_bytes told.sentence)) }
 {
+    if text.len() > TEXT_LIMIT {
+        return Ok(Details {
+            line: String::new(alloc),
+            sentence: String::new(alloc),
+        });
+    }
     match Source::read(alloc, text) {
         Ok(source) => told_of(alloc, text, &source, fault),
         Err(Refusal::Memory) => Err(Memory),
-        Err(Refusal::Refused(_)) => broken_told(alloc, text, fault),
+        Err(Refusal::Refused(_)) => told_by(alloc, text, fault, broken_byte(text)),
     }
 }
