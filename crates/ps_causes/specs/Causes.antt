@@ -24,12 +24,14 @@ use Rattle.ps_causes.specs.declared.causes.Cause.TheVariants.{Slashes, LikeHeade
 use Rattle.ps_causes.specs.declared.causes.Cause.TheVariants.{InRule, InLoop, InWhole, InObject, OnlyCommas, BrokenByte}
 use Rattle.ps_facts.specs.declared.names.Named.{Named}
 use Rattle.ps_facts.specs.declared.slips.Slip as slips
-use Rattle.ps_causes.specs.Clues.{IsClue, IsNoHeader}
+use Rattle.ps_causes.specs.Clues.{IsClue}
+use Rattle.ps_causes.specs.LikeHeaders.{header_word, IsLikeHeaderOf}
 use Rattle.ps_facts.specs.Declarations.{is_declared, IsDeclaredAt}
 use Rattle.ps_facts.specs.KeyWords.{is_key_word}
 use Rattle.ps_facts.specs.LayerWords.{is_in_layers}
 use Rattle.ps_facts.specs.LineWords.{IsWordOf, texts_of}
 use Rattle.ps_facts.specs.NamesShown.{is_own}
+use Rattle.ps_facts.specs.Near.{IsNear}
 use Rattle.ps_causes.specs.ObjectCauses.{IsToldOfObject}
 use Rattle.ps_causes.specs.Loops.{IsToldOfLoop}
 use Rattle.ps_causes.specs.RuleCauses.{IsToldOfRule}
@@ -47,7 +49,7 @@ joins_names word = list_any (bytes_eq (folded word)) (codes "and" ∷ codes "or"
 -- what is told of a word is true
 abbrev pub IsHint : List ℕ → List ℕ → Hint → Type 0
 IsHint text word Nothing = ⊤
-IsHint text word (Near named) = IsDeclaredAt text named.line named.name.now
+IsHint text word (Near named) = IsDeclaredAt text named.line named.name.now × IsNear word named.name.now
 IsHint text word (Strange character like) = IsAmong (chars word) character × (128 ≤ character)
 IsHint text word Joins = joins_names word ≡ true
 
@@ -113,7 +115,7 @@ begins section line = line.is_header && nat_eq (rank section) (rank line.section
 -- no line is a header of the section
 pub record IsMissing (text : List ℕ) (section : Section) (clue : Clue) : Type 0 where
   pub missing : has_section (header_lines (lines_of text)) section ≡ false
-  pub true_clue : IsClue text clue
+  pub true_clue : IsClue text section clue
 
 -- the byte at that place, from 1, is the first in no whole character
 pub record IsBrokenByte (text : List ℕ) (place byte : ℕ) : Type 0 where
@@ -133,10 +135,10 @@ pub record IsSlashes (text : List ℕ) (line : ℕ) (word : Word) : Type 0 where
   pub stands : IsWordOf text line word
   pub slashes : starts_with nat_eq word.text.now (47 ∷ 47 ∷ []) ≡ true
 
--- a word of a line that is no header, where no line is a header of the section
+-- a word of a line that is no header, but written much like that of a section, where no line is a header of it
 pub record IsLikeHeader (text : List ℕ) (line : ℕ) (word : Word) (section : Section) : Type 0 where
   pub stands : IsWordOf text line word
-  pub no_header : IsNoHeader text line
+  pub like : IsLikeHeaderOf text (header_word section) line
   pub missing : has_section (header_lines (lines_of text)) section ≡ false
 
 -- a word of a line of its section that stands where it can't

@@ -4,6 +4,7 @@ use Rattle.std.specs.Prelude.{◌≡◌, ◌≤◌, ◌+◌, ◌-◌, ℕ, ⊤, 
 use Rattle.std.specs.Prelude.{◌∷◌, drop, slice_get}
 use Rattle.std.specs.List.{list_any}
 use Rattle.std.specs.Option.{is_none}
+use Rattle.ps_model.specs.declared.texts.Section.{Section}
 use Rattle.ps_model.specs.declared.texts.Section.TheVariants.{Prelude}
 use Rattle.ps_model.specs.text.LineNumbers.{line_at, HasLine}
 use Rattle.ps_model.specs.text.Lines.{Line, depth_behind, is_line_feed}
@@ -11,10 +12,7 @@ use Rattle.ps_model.specs.text.Sections.{is_of}
 use Rattle.ps_model.specs.text.TextFaults.{line_of_place}
 use Rattle.ps_causes.specs.declared.causes.Clue.{Clue}
 use Rattle.ps_causes.specs.declared.causes.Clue.TheVariants.{Nothing, Like, Open, Returns}
-
--- a line of the text is no header
-abbrev pub IsNoHeader : List ℕ → ℕ → Type 0
-IsNoHeader text line = HasLine text line × ((line_at text line).is_header ≡ false)
+use Rattle.ps_causes.specs.LikeHeaders.{header_word, IsLikeHeaderOf}
 
 -- comments that are open so often before bytes are closed by none of them
 abbrev pub never_closes : ℕ → List ℕ → Bool
@@ -36,9 +34,9 @@ pub record IsOpenAt (text : List ℕ) (line : ℕ) : Type 0 where
   pub unclosed : never_closes 1 (drop (place + 1) text) ≡ true
 
 -- what is told of a section that isn't there
-abbrev pub IsClue : List ℕ → Clue → Type 0
-IsClue text Nothing = ⊤
-IsClue text (Like line) = IsNoHeader text line
-IsClue text (Open line) = IsOpenAt text line
-IsClue text (Returns place) =
+abbrev pub IsClue : List ℕ → Section → Clue → Type 0
+IsClue text section Nothing = ⊤
+IsClue text section (Like line) = IsLikeHeaderOf text (header_word section) line
+IsClue text section (Open line) = IsOpenAt text line
+IsClue text section (Returns place) =
     (list_any is_line_feed text ≡ false) × ((1 ≤ place) × (slice_get text (place - 1) ≡ Some 13))

@@ -1,11 +1,13 @@
 //! Headers out of order, and sections that aren't there.
 
-ghost use Rattle.std.specs.Prelude.{◌≡◌, true, false, ℕ, IfOk, IfSome};
+ghost use Rattle.std.specs.Prelude.{◌≡◌, ◌++◌, true, false, ℕ, IfOk, IfSome, OnOk, map, string_bytes};
 ghost use Rattle.ps_model.specs.text.LineNumbers.{HasLine, line_at};
 ghost use Rattle.ps_model.specs.text.Lines.{lines_of};
 ghost use Rattle.ps_model.specs.text.Sections.{rank, header_lines, has_section};
 ghost use Rattle.ps_causes.specs.Causes.{IsToldAt, IsLaterHeader, begins};
-ghost use Rattle.ps_causes.specs.Clues.{IsNoHeader, IsClue};
+ghost use Rattle.ps_causes.specs.Clues.{IsClue};
+ghost use Rattle.ps_causes.specs.LikeHeaders.{AreLike, IsLikeHeaderOf, header_word, letter, letters, letters_of};
+ghost use Rattle.ps_text.specs.WordViews.{text_of};
 
 use crate::causes::{Cause, Clue};
 use crate::comments::open_comment;
@@ -89,7 +91,9 @@ fn missing_section(source: &Source) -> Option<Section>
 const MOST_WORDS: usize = 4;
 
 /// The word of a section's header.
-fn header_of(section: Section) -> &'static str {
+fn header_of(section: Section) -> &'static str
+    ensures { result.now ≡ header_word section }
+{
     match section {
         Section::Prelude => "",
         Section::Objects => "objects",
@@ -102,28 +106,42 @@ fn header_of(section: Section) -> &'static str {
     }
 }
 
-/// Puts the ASCII letters of a word last.
-fn push_letters(letters: &mut String, word: &str) -> Result<(), Memory> {
-    for byte in word.as_bytes() {
-        if byte.is_ascii_alphabetic() {
-            letters.push(byte.to_ascii_lowercase() as char)?;
-        }
+/// Puts a byte last in lower case, if it is an ASCII letter.
+fn push_letter(made: &mut String, byte: u8) -> Result<(), Memory>
+    ensures { OnOk result (string_bytes made.new ≡ string_bytes made.old ++ letter byte) }
+{
+    if byte.is_ascii_alphabetic() {
+        made.push(byte.to_ascii_lowercase() as char)?;
     }
     Ok(())
 }
 
-/// The ASCII letters of words, one behind the other.
-fn letters_of(alloc: Global, words: &[Word<'_>]) -> Result<String, Memory> {
-    let mut letters = String::new(alloc);
-    for word in words {
-        push_letters(&mut letters, word.text())?;
+/// Puts the ASCII letters of a word last, in lower case.
+fn push_letters(made: &mut String, word: &[u8]) -> Result<(), Memory>
+    ensures { OnOk result (string_bytes made.new ≡ string_bytes made.old ++ letters word.now) }
+{
+    for at in 0..word.len() {
+        push_letter(made, word[at])?;
     }
-    Ok(letters)
+    Ok(())
+}
+
+/// The ASCII letters of words, one behind the other, in lower case.
+fn letters_of(alloc: Global, words: &[Word<'_>]) -> Result<String, Memory>
+    ensures { IfOk result (λ made. string_bytes made ≡ letters_of (map text_of words.now)) }
+{
+    let mut made = String::new(alloc);
+    for at in 0..words.len() {
+        push_letters(&mut made, words[at].text().as_bytes())?;
+    }
+    Ok(made)
 }
 
 /// Whether words are written much like a header: its word with others behind it, or words whose letters one edit makes
 /// the header's.
-fn are_like(alloc: Global, words: &[Word<'_>], header: &str) -> Result<bool, Memory> {
+fn are_like(alloc: Global, words: &[Word<'_>], header: &str) -> Result<bool, Memory>
+    ensures { IfOk result (λ are. are ≡ true → AreLike (map text_of words.now) header.now) }
+{
     if words.is_empty() || words.len() > MOST_WORDS {
         return Ok(false);
     }
@@ -137,7 +155,7 @@ fn are_like(alloc: Global, words: &[Word<'_>], header: &str) -> Result<bool, Mem
 /// Whether a line is no header, but written much like one of that word.
 fn is_like(alloc: Global, source: &Source, line: u32, header: &str) -> Result<bool, Memory>
     requires { HasLine source.now line }
-    ensures { IfOk result (λ is. is ≡ true → IsNoHeader source.now line) }
+    ensures { IfOk result (λ is. is ≡ true → IsLikeHeaderOf source.now header.now line) }
 {
     if source.is_header(line) {
         return Ok(false);
@@ -148,7 +166,7 @@ fn is_like(alloc: Global, source: &Source, line: u32, header: &str) -> Result<bo
 
 /// The first line that is no header, but written much like one of that word.
 fn first_like(alloc: Global, source: &Source, header: &str) -> Result<Option<u32>, Memory>
-    ensures { IfOk result (λ like. IfSome like (IsNoHeader source.now)) }
+    ensures { IfOk result (λ like. IfSome like (IsLikeHeaderOf source.now header.now)) }
 {
     for line in 1..source.lines() + 1 {
         if is_like(alloc, source, line, header)? {
@@ -161,7 +179,7 @@ fn first_like(alloc: Global, source: &Source, header: &str) -> Result<Option<u32
 /// What the missing of a section may come from.
 fn clue_of(alloc: Global, text: &[u8], source: &Source, section: Section) -> Result<Clue, Memory>
     requires { source.now ≡ text.now }
-    ensures { IfOk result (λ clue. IsClue source.now clue) }
+    ensures { IfOk result (λ clue. IsClue source.now section clue) }
 {
     if let Some(line) = open_comment(text, source) {
         return Ok(Clue::Open(line));

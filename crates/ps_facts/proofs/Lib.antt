@@ -1,6 +1,7 @@
 pub mod KeyWordsSought
 pub mod LayerLines
 mod LineWords
+pub mod Nearness
 pub mod ObjectNames
 pub mod OwnLines
 pub mod RowsBelow

@@ -6,6 +6,7 @@ pub mod KeyWords
 pub mod LayerWords
 pub mod LineWords
 pub mod NamesShown
+pub mod Near
 pub mod Objects
 pub mod Places
 pub mod Signs

@@ -1,7 +1,9 @@
 //! Names that are written much like a word.
 
-ghost use Rattle.std.specs.Prelude.{◌≤◌, length, IfSome};
+ghost use Rattle.std.specs.Prelude.{◌≡◌, ◌≤◌, drop, length, take, true, IfSome};
 ghost use Rattle.std.specs.List.{IsAmong};
+ghost use Rattle.ps_model.specs.text.Lines.{folded};
+ghost use Rattle.ps_facts.specs.Near.{AreWithinOne, AreWithinTwo, IsNear};
 
 use crate::names::Named;
 
@@ -16,6 +18,7 @@ enum Distance {
 fn same_front(a: &[u8], b: &[u8]) -> usize
     ensures first { result ≤ length a.now }
     ensures second { result ≤ length b.now }
+    ensures same { take result (folded a.now) ≡ take result (folded b.now) }
 {
     let shorter = a.len().min(b.len());
     for at in 0..shorter {
@@ -26,32 +29,54 @@ fn same_front(a: &[u8], b: &[u8]) -> usize
     shorter
 }
 
+/// The bytes behind so many, the first ones.
+fn behind(bytes: &[u8], count: usize) -> &[u8]
+    requires { count ≤ length bytes.now }
+    ensures { result.now ≡ drop count bytes.now }
+{
+    &bytes[count..]
+}
+
 /// The bytes behind the first; of none, none.
-fn behind_first(bytes: &[u8]) -> &[u8] {
+fn behind_first(bytes: &[u8]) -> &[u8]
+    ensures { result.now ≡ drop 1 bytes.now }
+{
     if bytes.is_empty() {
         return bytes;
     }
-    &bytes[1..]
+    behind(bytes, 1)
 }
 
 /// Whether an edit at most makes one of the other.
-pub fn are_within_one(a: &[u8], b: &[u8]) -> bool {
-    let front = same_front(a, b);
-    let a = &a[front..];
-    let b = &b[front..];
-    let c = behind_first(a);
-    let d = behind_first(b);
-    c.eq_ignore_ascii_case(d) || c.eq_ignore_ascii_case(b) || a.eq_ignore_ascii_case(d)
+pub fn are_within_one(word: &[u8], other: &[u8]) -> bool
+    ensures { result ≡ true → AreWithinOne (folded word.now) (folded other.now) }
+{
+    let front = same_front(word, other);
+    let rest = behind(word, front);
+    let other_rest = behind(other, front);
+    if behind_first(rest).eq_ignore_ascii_case(behind_first(other_rest)) {
+        return true;
+    }
+    if behind_first(rest).eq_ignore_ascii_case(other_rest) {
+        return true;
+    }
+    rest.eq_ignore_ascii_case(behind_first(other_rest))
 }
 
 /// Whether two edits at most make one of the other.
-fn are_within_two(a: &[u8], b: &[u8]) -> bool {
-    let front = same_front(a, b);
-    let a = &a[front..];
-    let b = &b[front..];
-    let c = behind_first(a);
-    let d = behind_first(b);
-    are_within_one(c, d) || are_within_one(c, b) || are_within_one(a, d)
+fn are_within_two(word: &[u8], other: &[u8]) -> bool
+    ensures { result ≡ true → AreWithinTwo (folded word.now) (folded other.now) }
+{
+    let front = same_front(word, other);
+    let rest = behind(word, front);
+    let other_rest = behind(other, front);
+    if are_within_one(behind_first(rest), behind_first(other_rest)) {
+        return true;
+    }
+    if are_within_one(behind_first(rest), other_rest) {
+        return true;
+    }
+    are_within_one(rest, behind_first(other_rest))
 }
 
 /// How many bytes a word has at least that is compared with names which one edit makes of it, and two.
@@ -59,19 +84,40 @@ const LEAST_FOR_ONE: usize = 3;
 
 const LEAST_FOR_TWO: usize = 5;
 
+/// Whether one edit at most makes a name of a word that is long enough for that.
+fn is_one_away(word: &str, name: &str) -> bool
+    ensures { result ≡ true → IsNear word.now name.now }
+{
+    if word.len() < LEAST_FOR_ONE {
+        return false;
+    }
+    are_within_one(word.as_bytes(), name.as_bytes())
+}
+
+/// Whether two edits at most make a name of a word that is long enough for that.
+fn is_two_away(word: &str, name: &str) -> bool
+    ensures { result ≡ true → IsNear word.now name.now }
+{
+    if word.len() < LEAST_FOR_TWO {
+        return false;
+    }
+    are_within_two(word.as_bytes(), name.as_bytes())
+}
+
 /// Whether a name is so near to a word.
-fn is_within(distance: Distance, word: &str, name: &str) -> bool {
+fn is_within(distance: Distance, word: &str, name: &str) -> bool
+    ensures { result ≡ true → IsNear word.now name.now }
+{
     match distance {
-        Distance::One => word.len() >= LEAST_FOR_ONE
-            && are_within_one(word.as_bytes(), name.as_bytes()),
-        Distance::Two => word.len() >= LEAST_FOR_TWO
-            && are_within_two(word.as_bytes(), name.as_bytes()),
+        Distance::One => is_one_away(word, name),
+        Distance::Two => is_two_away(word, name),
     }
 }
 
 /// The first of the names that is so near to a word.
 fn first_within<'a>(distance: Distance, names: &[Named<'a>], word: &str) -> Option<Named<'a>>
-    ensures { IfSome result (IsAmong names.now) }
+    ensures among { IfSome result (IsAmong names.now) }
+    ensures near { IfSome result (λ named. IsNear word.now named.name.now) }
 {
     for at in 0..names.len() {
         let named = names[at];
@@ -84,7 +130,8 @@ fn first_within<'a>(distance: Distance, names: &[Named<'a>], word: &str) -> Opti
 
 /// The first of the names that one edit makes of a word of three bytes at least, or else two of a word of five.
 pub fn nearest<'a>(names: &[Named<'a>], word: &str) -> Option<Named<'a>>
-    ensures { IfSome result (IsAmong names.now) }
+    ensures among { IfSome result (IsAmong names.now) }
+    ensures near { IfSome result (λ named. IsNear word.now named.name.now) }
 {
     let nearest = first_within(Distance::One, names, word);
     if nearest.is_some() {

@@ -1,5 +1,5 @@
-use Rattle.std.proofs.Common.{◌≡◌, ◌+◌, ◌∙◌, ℕ, List, sym, arith, rules, true, false, drop}
-use Rattle.ps_model.specs.text.Lines.{Line, lines_of}
+use Rattle.std.proofs.Common.{◌≡◌, ◌+◌, ◌∙◌, ℕ, List, arith, rules, true, false}
+use Rattle.ps_model.specs.text.Lines.{lines_of}
 use Rattle.ps_model.specs.text.LineNumbers.{line_at}
 use Rattle.ps_facts.specs.LayerWords.{is_layer, layer_lines}
 use Rattle.ps_facts.proofs.LayerLines.{first-there, others-behind, layer-first, layer-other, layers_from}
