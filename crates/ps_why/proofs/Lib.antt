@@ -1,2 +1,3 @@
+pub mod LineTexts
 pub mod Numbers
 pub mod Pages

@@ -1,6 +1,7 @@
 -- Where a line of a text stands, and which part of it is shown.
 use Rattle.std.specs.Prelude.{ℕ, suc, ◌-◌, ◌==◌, nat_le, nat_lt, min, max, Bool, ◌&&◌, if◌then◌else◌}
-use Rattle.std.specs.Prelude.{Option, Some, None, List, [], ◌∷◌, drop}
+use Rattle.std.specs.Prelude.{Option, Some, None, List, [], ◌∷◌, drop, slice_index_or}
+use Rattle.std.specs.List.{slice_split}
 use Rattle.ps_model.specs.text.Lines.{is_line_feed, mark_length}
 use Rattle.ps_why.specs.declared.lines.LineBytes.{LineBytes}
 use Rattle.ps_why.specs.declared.lines.TheConstants.{MOST_BEFORE, MOST_SHOWN}
@@ -29,6 +30,11 @@ line_start text line = let start = behind_feeds 0 (line - 1) text in if start ==
 abbrev pub line_bytes : List ℕ → ℕ → LineBytes
 line_bytes text line =
     record { from = line_start text line; to = line_end (line_start text line) (drop (line_start text line) text) }
+
+-- the text of that line, which stands between two line feeds
+abbrev pub line_text : List ℕ → ℕ → List ℕ
+line_text text line =
+    slice_index_or (slice_split is_line_feed (drop (mark_length text) text)) (line - 1) []
 
 -- the place of the first byte with which a character begins, of bytes of which the first has this place, or their end
 abbrev pub begins_from : ℕ → List ℕ → ℕ

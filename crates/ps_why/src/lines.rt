@@ -1,8 +1,9 @@
 //! Where a line of a text stands, and which part of it is shown.
 
-ghost use Rattle.std.specs.Prelude.{◌≡◌, ◌≤◌, length, drop, take};
+ghost use Rattle.std.specs.Prelude.{◌≡◌, ◌≤◌, length, drop, slice_range, take};
 ghost use Rattle.ps_model.specs.text.Lines.{mark_length};
-ghost use Rattle.ps_why.specs.Lines.{begins_from, behind_feeds, goes_on, line_bytes, line_end, shown_from};
+ghost use Rattle.ps_why.specs.Lines.{begins_from, behind_feeds, goes_on, line_bytes, line_end, line_start, line_text};
+ghost use Rattle.ps_why.specs.Lines.{shown_from};
 
 use crate::marks::Marks;
 
@@ -69,14 +70,26 @@ fn mark_length(text: &[u8]) -> usize
     0
 }
 
+/// Where the line of a number begins, from 1: behind the line feeds before it, and behind a byte order mark.
+fn line_start(text: &[u8], line: u32) -> usize
+    ensures place { result ≡ line_start text.now line }
+    ensures within { result ≤ length text.now }
+{
+    let start = behind_feeds(text, (line as usize).saturating_sub(1));
+    if start == 0 {
+        return mark_length(text);
+    }
+    start
+}
+
 /// The bytes of the line of a number, from 1, without a byte order mark at the text's start.
 pub fn line_bytes(text: &[u8], line: u32) -> LineBytes
     ensures bytes { result ≡ line_bytes text.now line }
+    ensures line { slice_range text.now result.from result.to ≡ line_text text.now line }
     ensures order { result.from ≤ result.to }
     ensures within { result.to ≤ length text.now }
 {
-    let start = behind_feeds(text, (line as usize).saturating_sub(1));
-    let from = if start == 0 { mark_length(text) } else { start };
+    let from = line_start(text, line);
     LineBytes {
         from,
         to: line_end(text, from),
