@@ -27,6 +27,14 @@ pub record TellsOfRefused (detail : Detail) (before after : Option (List ℕ)) :
   pub refused : is_some (game text) ≡ false
   pub wrote : TellsOn detail text (check_line text) before after
 
+-- of what a reader has given, a text that is no game, its line is told, and what stands below it
+pub record TellsOfRefusedGiven (detail : Detail) (had left : Option (List ℕ)) (before after : Option (List ℕ)) : Type 0
+  where
+    pub text : List ℕ
+    pub given : Loses had left text
+    pub refused : is_some (game text) ≡ false
+    pub wrote : TellsOn detail text (check_line text) before after
+
 -- of what a reader has given, a text that is a game, its line is told, and nothing else
 pub record TellsOfGiven (had left : Option (List ℕ)) (before after : Option (List ℕ)) : Type 0 where
   pub text : List ℕ

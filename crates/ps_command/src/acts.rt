@@ -6,6 +6,7 @@ ghost use Rattle.ps_model.specs.game.Games.{game};
 ghost use Rattle.ps_check.specs.Checks.{check_line, named_line};
 ghost use Rattle.ps_command.specs.Details.{TellsOn};
 ghost use Rattle.ps_command.specs.Told.{TellsOf, TellsOfFiles, TellsOfGame, TellsOfGames, TellsOfGiven, TellsOfRefused};
+ghost use Rattle.ps_command.specs.Told.{TellsOfRefusedGiven};
 ghost use Rattle.ps_command.specs.declared.stops.Stop.TheVariants as Stop;
 ghost use Rattle.ps_devices.specs.Devices.{Grows};
 
@@ -79,6 +80,9 @@ fn check_text<R: Files + AllocGlobal, I: ByteReader, O: ByteWriter>(
         (O.state screen.old).contents (O.state screen.new).contents) }
     ensures refused { result ≡ Err Stop.NotAccepted →
         TellsOfRefused detail (O.state screen.old).contents (O.state screen.new).contents }
+    ensures refused_given { path.now ≡ codes "-" → result ≡ Err Stop.NotAccepted →
+        TellsOfRefusedGiven detail (I.state input.old).remaining (I.state input.new).remaining
+        (O.state screen.old).contents (O.state screen.new).contents }
 {
     let text = read_text(rt, path, input)?;
     if check_alone(rt.alloc(), &text, detail, screen)? {
