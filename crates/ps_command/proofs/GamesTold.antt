@@ -8,7 +8,7 @@ use Rattle.std.proofs.lemmas.List.Folds.{concat-append}
 use Rattle.ps_check.specs.Checks.{named_line}
 use Rattle.ps_devices.specs.Devices.{Grows}
 use Rattle.ps_devices.proofs.Pieces.{grows_twice}
-use Rattle.ps_run.proofs.Rightly.{nothing_taken}
+use Rattle.ps_devices.proofs.Unmoved.{nothing_taken}
 use Rattle.ps_command.specs.Details.{TellsOn}
 use Rattle.ps_command.specs.Told.{AreLinesOnFile, IsLineOfGame, TellsInOrder, TellsOf, TellsOfFiles, TellsOfGames}
 use Rattle.ps_command.specs.declared.details.Detail.{Detail}

@@ -5,7 +5,7 @@ use Rattle.clap.specs.declared.error.Error.{Error}
 use Rattle.clap.specs.declared.error.kind.ErrorKind.TheVariants as kind
 use Rattle.ps_check.specs.declared.faults.CheckFault.{CheckFault}
 use Rattle.ps_check.specs.declared.faults.CheckFault.TheVariants as check
-use Rattle.ps_run.specs.declared.faults.RunFault.TheVariants as fault
+use Rattle.ps_devices.specs.declared.players.RunFault.TheVariants as fault
 use Rattle.ps_command.specs.declared.stops.Stop.{Stop}
 use Rattle.ps_command.specs.declared.stops.Stop.TheVariants as stop
 

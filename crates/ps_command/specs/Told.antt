@@ -7,9 +7,9 @@ use Rattle.ps_model.specs.game.Games.{game}
 use Rattle.ps_model.specs.game.Headline.{Ends, RunsRightly}
 use Rattle.ps_model.specs.game.Tellings.{ReaderState, WriterState}
 use Rattle.ps_check.specs.Checks.{check_line, named_line}
+use Rattle.ps_devices.specs.Answers.{answer_of}
 use Rattle.ps_devices.specs.Devices.{Grows, Loses}
-use Rattle.ps_run.specs.Answering.{answer_of}
-use Rattle.ps_run.specs.declared.faults.RunFault.{RunFault}
+use Rattle.ps_devices.specs.declared.players.RunFault.{RunFault}
 use Rattle.ps_command.specs.Details.{IsDetail, TellsOn}
 use Rattle.ps_command.specs.declared.details.Detail.{Detail}
 use Rattle.ps_command.specs.declared.stops.Stop.{Stop}

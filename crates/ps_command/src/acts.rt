@@ -17,33 +17,35 @@ use crate::files::{STANDARD_INPUT, read_game_file, read_input, read_text};
 use crate::playing::play_asked;
 use crate::stops::{Stop, stop_for, tell};
 use ps_check::{check, check_named};
-use ps_devices::{ByteReader, ByteWriter};
-use ps_run::RunFault;
+use ps_devices::{ByteReader, ByteWriter, Player, RunFault};
 use std::alloc::Global;
 use std::rt::{Env, Files};
 use std::{env, io};
 
 /// Does what the command line asks for, with keys from `keys`, unless it names a file of keys, and frames to `screen`.
-/// Gives the status to end with: 0 where a run ended, a text was accepted or what was asked for was told, 1 at a
-/// fault, and 2 at a bad command line. A fault and a bad command line are told on standard error.
+/// Games are played by `player`. Gives the status to end with: 0 where a run ended, a text was accepted or what was
+/// asked for was told, 1 at a fault, and 2 at a bad command line. A fault and a bad command line are told on standard
+/// error.
 pub fn run_command_line<
     R: Env + Files + AllocGlobal + Print + Eprint,
+    P: Player,
     I: ByteReader,
     O: ByteWriter,
->(rt: &R, keys: &mut I, screen: &mut O) -> u8
+>(rt: &R, player: &P, keys: &mut I, screen: &mut O) -> u8
     requires heard { (I.state keys.old).has_failed ≡ false }
     requires well { (O.state screen.old).has_failed ≡ false }
     ensures { result ≤ 2 }
 {
-    match act(rt, keys, screen) {
+    match act(rt, player, keys, screen) {
         Ok(()) => 0,
         Err(stop) => tell(rt, stop),
     }
 }
 
 /// Does what the command line asks for: plays a game, checks one, or says what a fault is.
-fn act<R: Env + Files + AllocGlobal + Print + Eprint, I: ByteReader, O: ByteWriter>(
+fn act<R: Env + Files + AllocGlobal + Print + Eprint, P: Player, I: ByteReader, O: ByteWriter>(
     rt: &R,
+    player: &P,
     keys: &mut I,
     screen: &mut O,
 ) -> Result<(), Stop>
@@ -60,7 +62,7 @@ fn act<R: Env + Files + AllocGlobal + Print + Eprint, I: ByteReader, O: ByteWrit
         Asked::CheckWhy(path) => check_text(rt, path, Detail::Why, keys, screen),
         Asked::CheckAll(paths) => check_texts(rt, &paths, Detail::Line, keys, screen),
         Asked::CheckAllWhy(paths) => check_texts(rt, &paths, Detail::Why, keys, screen),
-        Asked::Play(asked) => play_asked(rt, asked, keys, screen),
+        Asked::Play(asked) => play_asked(rt, player, asked, keys, screen),
     }
 }
 

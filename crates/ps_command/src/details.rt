@@ -9,9 +9,8 @@ ghost use Rattle.ps_command.specs.declared.stops.Stop.TheVariants as Stop;
 use crate::explanations::sentence_of;
 use crate::stops::Stop;
 use ps_check::first_fault;
-use ps_devices::{ByteWriter, write_whole};
+use ps_devices::{ByteWriter, RunFault, write_whole};
 use ps_model::{Fault, Memory};
-use ps_run::RunFault;
 use ps_why::why;
 use std::alloc::Global;
 

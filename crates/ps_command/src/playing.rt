@@ -9,17 +9,18 @@ use crate::command::Play;
 use crate::files::read_text;
 use crate::sizes::FileSizes;
 use crate::stops::{Stop, stop_for};
-use ps_devices::{ByteReader, ByteWriter, FromStd};
-use ps_run::{RunFault, run};
+use ps_devices::{ByteReader, ByteWriter, FromStd, Player, RunFault};
 use ps_view::{Lent, Size, SizeTeller, Viewed};
+use std::alloc::Global;
 use std::fs;
 use std::rt::Files;
 
 /// Plays a game: on the screen as it is, or in a view of that size, or of another one that a file tells meanwhile, in
 /// which the board stays in place. Where its text comes from standard input, the keys are what stands behind it there,
 /// unless a file has them.
-pub fn play_asked<R: Files + AllocGlobal, I: ByteReader, O: ByteWriter>(
+pub fn play_asked<R: Files + AllocGlobal, P: Player, I: ByteReader, O: ByteWriter>(
     rt: &R,
+    player: &P,
     asked: Play<'_>,
     keys: &mut I,
     screen: &mut O,
@@ -30,17 +31,18 @@ pub fn play_asked<R: Files + AllocGlobal, I: ByteReader, O: ByteWriter>(
 {
     let text = read_text(rt, asked.game, keys)?;
     match asked.size {
-        None => play_from(rt, &text, asked.keys, keys, screen),
+        None => play_from(rt, player, &text, asked.keys, keys, screen),
         Some(size) => {
             let sizes = FileSizes::new(rt, asked.sizes);
-            play_in_view(rt, &text, asked.keys, size, sizes, keys, screen)
+            play_in_view(rt, player, &text, asked.keys, size, sizes, keys, screen)
         }
     }
 }
 
 /// Plays a game in a view.
-fn play_in_view<R: Files + AllocGlobal, S: SizeTeller, I: ByteReader, O: ByteWriter>(
+fn play_in_view<R: Files + AllocGlobal, P: Player, S: SizeTeller, I: ByteReader, O: ByteWriter>(
     rt: &R,
+    player: &P,
     text: &[u8],
     file: Option<&str>,
     size: Size,
@@ -52,7 +54,7 @@ fn play_in_view<R: Files + AllocGlobal, S: SizeTeller, I: ByteReader, O: ByteWri
     requires well { (O.state screen.old).has_failed ≡ false }
 {
     let mut view = Viewed::new(rt.alloc(), size, sizes, Lent::new(screen));
-    let played = play_from(rt, text, file, keys, &mut view);
+    let played = play_from(rt, player, text, file, keys, &mut view);
     if view.wants_memory() {
         return Err(Stop::Run(RunFault::Memory));
     }
@@ -61,8 +63,9 @@ fn play_in_view<R: Files + AllocGlobal, S: SizeTeller, I: ByteReader, O: ByteWri
 
 /// Plays a game with keys from a file, which is opened once the game's text was read; or from a reader, where no file
 /// is named.
-fn play_from<R: Files + AllocGlobal, I: ByteReader, O: ByteWriter>(
+fn play_from<R: Files + AllocGlobal, P: Player, I: ByteReader, O: ByteWriter>(
     rt: &R,
+    player: &P,
     text: &[u8],
     file: Option<&str>,
     keys: &mut I,
@@ -75,16 +78,17 @@ fn play_from<R: Files + AllocGlobal, I: ByteReader, O: ByteWriter>(
         (I.state keys.new) (O.state screen.old) (O.state screen.new) stop) }
 {
     let Some(file) = file else {
-        return play(rt, text, keys, screen);
+        return play(rt.alloc(), player, text, keys, screen);
     };
     let file = fs::open(rt, file).map_err(|error| stop_for(error, Stop::Run(RunFault::Read)))?;
     let mut keys = FromStd::new(file);
-    play(rt, text, &mut keys, screen)
+    play(rt.alloc(), player, text, &mut keys, screen)
 }
 
 /// Plays a game with keys from a reader.
-fn play<R: AllocGlobal, I: ByteReader, O: ByteWriter>(
-    rt: &R,
+fn play<P: Player, I: ByteReader, O: ByteWriter>(
+    alloc: Global,
+    player: &P,
     text: &[u8],
     keys: &mut I,
     screen: &mut O,
@@ -96,7 +100,7 @@ fn play<R: AllocGlobal, I: ByteReader, O: ByteWriter>(
     ensures stopped { IfErr result (λ stop. StopsRightly text.now (I.state keys.old) (I.state keys.new)
         (O.state screen.old) (O.state screen.new) stop) }
 {
-    match run(rt.alloc(), text, keys, screen) {
+    match player.play(alloc, text, keys, screen) {
         Ok(_ending) => Ok(()),
         Err(fault) => Err(Stop::Run(fault)),
     }

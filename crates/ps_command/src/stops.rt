@@ -7,8 +7,8 @@ ghost use Rattle.ps_command.specs.Statuses.{IsStatusOf, IsStatusOfLine};
 
 use clap::error::ErrorKind;
 use ps_check::CheckFault;
+use ps_devices::RunFault;
 use ps_model::Memory;
-use ps_run::RunFault;
 use std::alloc::AllocError;
 use std::io;
 
@@ -39,7 +39,7 @@ pub enum Stop {
 
 impl From<Memory> for Stop {
     ghost use Rattle.ps_command.specs.declared.stops.Stop.TheVariants.{Run};
-    ghost use Rattle.ps_run.specs.declared.faults.RunFault.TheVariants.{Memory};
+    ghost use Rattle.ps_devices.specs.declared.players.RunFault.TheVariants.{Memory};
 
     ghost from_gives = { λ _ stop. stop ≡ Run Memory };
 
@@ -50,7 +50,7 @@ impl From<Memory> for Stop {
 
 impl From<AllocError> for Stop {
     ghost use Rattle.ps_command.specs.declared.stops.Stop.TheVariants.{Run};
-    ghost use Rattle.ps_run.specs.declared.faults.RunFault.TheVariants.{Memory};
+    ghost use Rattle.ps_devices.specs.declared.players.RunFault.TheVariants.{Memory};
 
     ghost from_gives = { λ _ stop. stop ≡ Run Memory };
 

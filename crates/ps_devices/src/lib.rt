@@ -1,12 +1,15 @@
 //! Where the keys come from and where the frames go: the two traits that a run is generic over, the
-//! system's own streams behind them, and devices in memory which tell all that they gave and took.
+//! system's own streams behind them, and devices in memory which tell all that they gave and took; and the trait of
+//! what plays games on such devices.
 #![tactic(auto)]
 
 mod from_std;
 mod in_memory;
+mod players;
 mod stream;
 mod traits;
 
 pub use from_std::FromStd;
 pub use in_memory::{MemoryReader, MemoryWriter};
+pub use players::{Player, RunFault};
 pub use traits::{ByteReader, ByteWriter, Failed, write_whole};

@@ -15,7 +15,7 @@ use Rattle.ps_model.specs.game.Headline.{IsWholeBefore, texts_of, StopsForMemory
 use Rattle.ps_model.specs.game.Tellings.{ReaderCalls, Unasked, Asked, Told, read, read_before}
 use Rattle.ps_laws.specs.AlikeScripts.{SameRuns}
 use Rattle.ps_laws.proofs.keys.KeysInPieces.{keys_of-append}
-use Rattle.ps_run.specs.declared.faults.RunFault.TheVariants as fault
+use Rattle.ps_devices.specs.declared.players.RunFault.TheVariants as fault
 use Rattle.ps_run.specs.Runs.{StopsInPlay}
 use Rattle.ps_run.specs.Answering.{AnswersCarryOver}
 use Rattle.ps_run.proofs.Telling.{whole_is}

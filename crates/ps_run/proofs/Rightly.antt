@@ -13,22 +13,15 @@ use Rattle.ps_model.specs.game.Headline.{IsTrueOfText}
 use Rattle.ps_model.specs.game.Tellings.{ReaderState, WriterState, Unasked, Tells}
 use Rattle.ps_laws.specs.AlikeScripts.{SameRuns}
 use Rattle.ps_devices.specs.Devices.{Grows, Loses}
-use Rattle.ps_run.specs.declared.faults.RunFault.{RunFault}
-use Rattle.ps_run.specs.declared.faults.RunFault.TheVariants as fault
+use Rattle.ps_devices.specs.declared.players.RunFault.{RunFault}
+use Rattle.ps_devices.specs.declared.players.RunFault.TheVariants as fault
+use Rattle.ps_devices.specs.Answers.{answer_of}
+use Rattle.ps_devices.proofs.Unmoved.{nothing_given, nothing_taken}
 use Rattle.ps_run.specs.Faults.{fault_of}
-use Rattle.ps_run.specs.Answering.{answer_of}
 use Rattle.ps_run.specs.Played.{HasCounted}
 use Rattle.ps_run.specs.Runs.{ComesOrStops}
 use Rattle.ps_run.proofs.Answering.{answers_carry_over}
 use Rattle.ps_run.proofs.Telling.{told_of, tells_of}
-
-nothing_given : (left : Option (List ℕ)) → Loses left left []
-nothing_given None = refl
-nothing_given (Some known) = refl
-
-pub nothing_taken : (contents : Option (List ℕ)) → Grows contents contents []
-nothing_taken None = refl
-nothing_taken (Some known) = rw (append-nil known) refl
 
 -- a writer that wasn't called has counted nothing
 uncalled : (before : WriterState) → HasCounted before before [] 0

@@ -25,7 +25,7 @@ use Rattle.ps_devices.proofs.Pieces.{loses_twice}
 use Rattle.ps_run.specs.Faults.{run_fault_of}
 use Rattle.ps_run.specs.declared.faults.PieceFault.{PieceFault}
 use Rattle.ps_run.specs.declared.faults.PieceFault.TheVariants as piece
-use Rattle.ps_run.specs.declared.faults.RunFault.TheVariants as fault
+use Rattle.ps_devices.specs.declared.players.RunFault.TheVariants as fault
 use Rattle.ps_run.specs.Played.{HavePlayed, HasTaken, StopsAs, StopsAtText}
 use Rattle.ps_run.specs.Runs.{IsAsked, Stands, Comes, call_count}
 use Rattle.ps_run.proofs.Playing.{taken_twice, taken_and_failed, taken_no_more, cut_off_behind}

@@ -1,8 +1,8 @@
 -- Faults of a run by what they come from.
 use Rattle.ps_model.specs.declared.refusal.Refusal.{Refusal}
 use Rattle.ps_model.specs.declared.refusal.Refusal.TheVariants.{Refused, Memory}
-use Rattle.ps_run.specs.declared.faults.RunFault.{RunFault}
-use Rattle.ps_run.specs.declared.faults.RunFault.TheVariants as run
+use Rattle.ps_devices.specs.declared.players.RunFault.{RunFault}
+use Rattle.ps_devices.specs.declared.players.RunFault.TheVariants as run
 use Rattle.ps_run.specs.declared.faults.PieceFault.{PieceFault}
 use Rattle.ps_run.specs.declared.faults.PieceFault.TheVariants as piece
 

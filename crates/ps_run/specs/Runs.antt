@@ -13,8 +13,8 @@ use Rattle.ps_model.specs.game.Tellings.{ReaderState, WriterState, Gives, Fails,
 use Rattle.ps_model.specs.game.Tellings.{Tells, read, read_before, last_behind}
 use Rattle.ps_laws.specs.Fronts.{whole_front}
 use Rattle.ps_devices.specs.Devices.{Loses}
-use Rattle.ps_run.specs.declared.faults.RunFault.{RunFault}
-use Rattle.ps_run.specs.declared.faults.RunFault.TheVariants as fault
+use Rattle.ps_devices.specs.declared.players.RunFault.{RunFault}
+use Rattle.ps_devices.specs.declared.players.RunFault.TheVariants as fault
 use Rattle.ps_run.specs.Played.{HavePlayed}
 
 -- a call gave a piece, and the game had gone on behind what the calls before it gave

@@ -3,25 +3,8 @@
 ghost use Rattle.std.specs.Prelude.{◌≡◌};
 ghost use Rattle.ps_run.specs.Faults.{fault_of, run_fault_of};
 
-use ps_model::{Fault, Memory, Refusal};
-use thiserror::Error;
-
-/// Why a run didn't come to its end.
-#[derive(Clone, Copy, PartialEq, Eq, Debug, Error)]
-pub enum RunFault {
-    /// The text is refused, and nothing was read or written.
-    #[error("{0}")]
-    Refused(Fault),
-    /// A growth was refused.
-    #[error("out of memory")]
-    Memory,
-    /// The reader failed, or had more to give than a run reads.
-    #[error("cannot read keys")]
-    Read,
-    /// The writer failed, or took nothing of what it was given.
-    #[error("cannot write")]
-    Write,
-}
+use ps_devices::RunFault;
+use ps_model::{Memory, Refusal};
 
 /// Why the keys of a piece weren't all played.
 #[derive(Clone, Copy, PartialEq, Eq, Debug)]
@@ -30,16 +13,6 @@ pub enum PieceFault {
     Memory,
     /// The writer failed, or took nothing of what it was given.
     Write,
-}
-
-impl From<Memory> for RunFault {
-    ghost use Rattle.ps_run.specs.declared.faults.RunFault.TheVariants.{Memory};
-
-    ghost from_gives = { λ _ fault. fault ≡ Memory };
-
-    fn from(_error: Memory) -> RunFault {
-        RunFault::Memory
-    }
 }
 
 impl From<Memory> for PieceFault {

@@ -6,10 +6,9 @@ ghost use Rattle.ps_stage.specs.Playable.{EntriesFit};
 ghost use Rattle.ps_run.specs.GamesInPlay.{script_on};
 ghost use Rattle.ps_run.specs.Runs.{ComesOrStops};
 
-use crate::faults::RunFault;
 use crate::game_play::GamePlay;
 use crate::play::{Play, write_output};
-use ps_devices::{ByteReader, ByteWriter};
+use ps_devices::{ByteReader, ByteWriter, RunFault};
 use ps_keys::Keys;
 use ps_model::{Ending, Memory};
 use ps_program::CompiledSection;

@@ -6,12 +6,13 @@ mod game_play;
 mod game_run;
 mod laws;
 mod play;
+mod player;
 mod row_play;
 mod sized_play;
 mod text_run;
 
-pub use faults::RunFault;
 pub use laws::answers_carry_over;
-pub use ps_devices::{ByteReader, ByteWriter};
+pub use player::GamePlayer;
+pub use ps_devices::{ByteReader, ByteWriter, Player, RunFault};
 pub use ps_model::{Ending, Fault, FaultKind};
 pub use text_run::run;

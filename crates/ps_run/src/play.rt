@@ -8,9 +8,9 @@ ghost use Rattle.ps_run.specs.GamesInPlay.{script_in};
 ghost use Rattle.ps_run.specs.Runs.{Comes};
 ghost use Rattle.ps_run.specs.Played.{HasTaken, HavePlayed, StopsAs, StopsAtText};
 
-use crate::faults::{PieceFault, RunFault, fault_of_piece};
+use crate::faults::{PieceFault, fault_of_piece};
 use crate::game_play::GamePlay;
-use ps_devices::{ByteReader, ByteWriter, write_whole};
+use ps_devices::{ByteReader, ByteWriter, RunFault, write_whole};
 use ps_keys::Keys;
 use ps_model::{CALL_LIMIT, Ending, Key, Memory, READ_LIMIT};
 use ps_screen::OutputText;

@@ -6,13 +6,13 @@ ghost use Rattle.ps_model.specs.game.Games.{Game as GameRead, game as game_in};
 ghost use Rattle.ps_model.specs.session.RoomSizes.{HasRoomSize};
 ghost use Rattle.ps_model.specs.game.Headline.{RunsRightly, IsTrueOfText};
 ghost use Rattle.ps_rulebook.specs.PlayedGames.{AreCompiled, parts_of};
-ghost use Rattle.ps_run.specs.Answering.{answer_of};
+ghost use Rattle.ps_devices.specs.Answers.{answer_of};
 ghost use Rattle.ps_stage.specs.Playable.{ArePlayable, EntriesFit};
 
-use crate::faults::{RunFault, fault_of_refusal};
+use crate::faults::fault_of_refusal;
 use crate::game_run::run_game;
 use ps_compile::{CompiledPrograms, compile};
-use ps_devices::{ByteReader, ByteWriter};
+use ps_devices::{ByteReader, ByteWriter, RunFault};
 use ps_game::{Game, read_game};
 use ps_model::Ending;
 use ps_stage::SessionGame;

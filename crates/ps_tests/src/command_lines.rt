@@ -6,95 +6,26 @@ use crate::watched::Watched;
 use ps_command::run_command_line;
 use ps_devices::{MemoryReader, MemoryWriter};
 use ps_model::CALL_LIMIT;
+use ps_run::GamePlayer;
 use std::process::Abort;
 
-/// What a command line asks for.
-#[derive(Clone, Copy, PartialEq, Eq, Debug)]
-enum Asked<'w> {
-    /// That the game in this file be played, with keys from standard input.
-    Play(&'w str),
-    /// That the game in this file be played, with keys from that file.
-    PlayFrom(&'w str, &'w str),
-    /// That the game in this file be played in place, on a terminal of 24 rows and 80 columns.
-    View(&'w str),
-    /// Whether the text in this file is a game.
-    Check(&'w str),
-    /// What the fault of this code is.
-    Explanation(&'w str),
+/// What must come of a command line.
+struct Told {
+    /// What standard input has.
+    input: &'static [u8],
+    /// How often it is asked.
+    reads: usize,
+    status: u8,
+    /// What is written to the screen.
+    shown: &'static str,
+    /// What standard output gets besides.
+    printed: &'static str,
+    /// What standard error gets.
+    complained: &'static str,
 }
 
-/// The words of a command line that asks for something, and what they ask for.
-const LINES: [(&[&str], Asked<'static>); 13] = [
-    (&["ps_play", "a.game"], Asked::Play("a.game")),
-    (&["ps_play", "long.game"], Asked::Play("long.game")),
-    (
-        &["ps_play", "long.game", "--keys", "a.keys"],
-        Asked::PlayFrom("long.game", "a.keys"),
-    ),
-    (
-        &["ps_play", "--check", "long.game"],
-        Asked::Check("long.game"),
-    ),
-    (&["ps_play", "--", "--explain"], Asked::Play("--explain")),
-    (
-        &["ps_play", "a.game", "--keys", "a.keys"],
-        Asked::PlayFrom("a.game", "a.keys"),
-    ),
-    (
-        &["ps_play", "--keys=a.keys", "a.game"],
-        Asked::PlayFrom("a.game", "a.keys"),
-    ),
-    (&["ps_play", "a.game", "--check"], Asked::Check("a.game")),
-    (&["ps_play", "--check", "a.game"], Asked::Check("a.game")),
-    (
-        &["ps_play", "a.game", "--keys", "a.keys", "--check"],
-        Asked::Check("a.game"),
-    ),
-    (&["ps_play", "--explain", "RU7"], Asked::Explanation("RU7")),
-    (
-        &["ps_play", "a.game", "--view", "24x80"],
-        Asked::View("a.game"),
-    ),
-    (
-        &["ps_play", "--view=24x80", "long.game"],
-        Asked::View("long.game"),
-    ),
-];
-
-/// The words of command lines that aren't right.
-const BAD_LINES: [&[&str]; 21] = [
-    &["ps_play", "--check"],
-    &["ps_play", "--keys", "a.keys"],
-    &["ps_play", "a.game", "--keys"],
-    &["ps_play", "a.game", "--check", "--check"],
-    &["ps_play", "a.game", "--keys", "a.keys", "--keys", "a.keys"],
-    &["ps_play", "--explain", "RU7", "--check"],
-    &["ps_play", "--explain", "RU7", "--keys", "a.keys"],
-    &["ps_play"],
-    &["ps_play", "a.game", "b.game"],
-    &["ps_play", "--explain"],
-    &["ps_play", "--explain", "RU7", "a.game"],
-    &["ps_play", "--other", "a.game"],
-    &["ps_play", "a.game", "--view"],
-    &["ps_play", "a.game", "--view", "24"],
-    &["ps_play", "a.game", "--view", "7x80"],
-    &["ps_play", "a.game", "--view", "24x15"],
-    &["ps_play", "a.game", "--view", "24x80", "--view", "24x80"],
-    &["ps_play", "--explain", "RU7", "--view", "24x80"],
-    &["ps_play", "a.game", "--sizes", "small.size"],
-    &["ps_play", "a.game", "--view", "24x80", "--sizes"],
-    &["ps_play", "--explain", "RU7", "--sizes", "small.size"],
-];
-
-/// The words of command lines on files that hold no game, and the fault of each.
-const REFUSED_LINES: [(&[&str], &str); 6] = [
-    (&["ps_play", "cut.game"], CUT),
-    (&["ps_play", "cut.game", "--keys", "a.keys"], CUT),
-    (&["ps_play", "cut.game", "--check"], CUT),
-    (&["ps_play", "too-long.game"], TOO_LONG),
-    (&["ps_play", "--keys=a.keys", "too-long.game"], TOO_LONG),
-    (&["ps_play", "--check", "too-long.game"], TOO_LONG),
-];
+/// The words of a command line, and the files that are opened for it, each in a line.
+type Line = (&'static [&'static str], &'static str);
 
 /// The fault of the text that ends before its levels: its last line is the eleventh.
 const CUT: &str = "line 11: GM2 NoSection\n";
@@ -124,28 +55,405 @@ const CHECKED: &str = "ok: objects 9, layers 4, rules 1, levels 1\n";
 const UNBOUND: &str =
     "Nothing on the left decides which is meant by a property, or by a word of several moves, on the right.\n";
 
+/// The words of command lines that aren't right.
+const BAD_LINES: [&[&str]; 21] = [
+    &["ps_play", "--check"],
+    &["ps_play", "--keys", "a.keys"],
+    &["ps_play", "a.game", "--keys"],
+    &["ps_play", "a.game", "--check", "--check"],
+    &["ps_play", "a.game", "--keys", "a.keys", "--keys", "a.keys"],
+    &["ps_play", "--explain", "RU7", "--check"],
+    &["ps_play", "--explain", "RU7", "--keys", "a.keys"],
+    &["ps_play"],
+    &["ps_play", "a.game", "b.game"],
+    &["ps_play", "--explain"],
+    &["ps_play", "--explain", "RU7", "a.game"],
+    &["ps_play", "--other", "a.game"],
+    &["ps_play", "a.game", "--view"],
+    &["ps_play", "a.game", "--view", "24"],
+    &["ps_play", "a.game", "--view", "7x80"],
+    &["ps_play", "a.game", "--view", "24x15"],
+    &["ps_play", "a.game", "--view", "24x80", "--view", "24x80"],
+    &["ps_play", "--explain", "RU7", "--view", "24x80"],
+    &["ps_play", "a.game", "--sizes", "small.size"],
+    &["ps_play", "a.game", "--view", "24x80", "--sizes"],
+    &["ps_play", "--explain", "RU7", "--sizes", "small.size"],
+];
+
+/// Command lines that ask for a game to be played, and what must come of each.
+const PLAYS: [(Told, &[Line]); 8] = [
+    // A game is won by the key from standard input.
+    (
+        Told {
+            input: b"d",
+            reads: 1,
+            status: 0,
+            shown: PUSHED,
+            printed: "",
+            complained: "",
+        },
+        &[
+            (&["ps_play", "a.game"], "a.game\n"),
+            (&["ps_play", "long.game"], "long.game\n"),
+            (&["ps_play", "--", "--explain"], "--explain\n"),
+        ],
+    ),
+    // It is quit by the key of a file.
+    (
+        Told {
+            input: b"d",
+            reads: 0,
+            status: 0,
+            shown: QUIT,
+            printed: "",
+            complained: "",
+        },
+        &[
+            (
+                &["ps_play", "long.game", "--keys", "a.keys"],
+                "long.game\na.keys\n",
+            ),
+            (
+                &["ps_play", "a.game", "--keys", "a.keys"],
+                "a.game\na.keys\n",
+            ),
+            (&["ps_play", "--keys=a.keys", "a.game"], "a.game\na.keys\n"),
+        ],
+    ),
+    // It is won in a view, of the size that is given where no file tells another one.
+    (
+        Told {
+            input: b"d",
+            reads: 1,
+            status: 0,
+            shown: VIEWED,
+            printed: "",
+            complained: "",
+        },
+        &[
+            (&["ps_play", "a.game", "--view", "24x80"], "a.game\n"),
+            (&["ps_play", "--view=24x80", "long.game"], "long.game\n"),
+            (
+                &[
+                    "ps_play",
+                    "a.game",
+                    "--view",
+                    "24x80",
+                    "--sizes",
+                    "lost.size",
+                ],
+                "a.game\nlost.size\nlost.size\n",
+            ),
+            (
+                &["ps_play", "a.game", "--view", "24x80", "--sizes", "a.keys"],
+                "a.game\na.keys\na.keys\n",
+            ),
+        ],
+    ),
+    // It is won in a view of the size that a file tells.
+    (
+        Told {
+            input: b"d",
+            reads: 1,
+            status: 0,
+            shown: VIEWED_SMALL,
+            printed: "",
+            complained: "",
+        },
+        &[
+            (
+                &[
+                    "ps_play",
+                    "a.game",
+                    "--view",
+                    "24x80",
+                    "--sizes",
+                    "small.size",
+                ],
+                "a.game\nsmall.size\nsmall.size\n",
+            ),
+            (
+                &["ps_play", "--sizes=small.size", "--view=24x80", "long.game"],
+                "long.game\nsmall.size\nsmall.size\n",
+            ),
+        ],
+    ),
+    // The fault of a text is told, and no key is asked for.
+    (
+        Told {
+            input: b"d",
+            reads: 0,
+            status: 1,
+            shown: "",
+            printed: "",
+            complained: CUT,
+        },
+        &[
+            (&["ps_play", "cut.game"], "cut.game\n"),
+            (
+                &["ps_play", "cut.game", "--keys", "a.keys"],
+                "cut.game\na.keys\n",
+            ),
+        ],
+    ),
+    // So is that of a text which is too long.
+    (
+        Told {
+            input: b"d",
+            reads: 0,
+            status: 1,
+            shown: "",
+            printed: "",
+            complained: TOO_LONG,
+        },
+        &[
+            (&["ps_play", "too-long.game"], "too-long.game\n"),
+            (
+                &["ps_play", "--keys=a.keys", "too-long.game"],
+                "too-long.game\na.keys\n",
+            ),
+        ],
+    ),
+    // A game on standard input is read to its end, byte by byte, and then keys are.
+    (
+        Told {
+            input: PUSHING,
+            reads: PUSHING.len() + 2,
+            status: 0,
+            shown: "= T\n# level 1\n#P*O#\n\n* end of keys\n",
+            printed: "",
+            complained: "",
+        },
+        &[(&["ps_play", "-"], "")],
+    ),
+    // Where a file has the keys, nothing behind the game is read.
+    (
+        Told {
+            input: PUSHING,
+            reads: PUSHING.len() + 1,
+            status: 0,
+            shown: QUIT,
+            printed: "",
+            complained: "",
+        },
+        &[(&["ps_play", "-", "--keys", "a.keys"], "a.keys\n")],
+    ),
+];
+
+/// Command lines that ask for a check, and what must come of each.
+const CHECKS: [(Told, &[Line]); 8] = [
+    // A game is checked, and no key is asked for.
+    (
+        Told {
+            input: b"d",
+            reads: 0,
+            status: 0,
+            shown: CHECKED,
+            printed: "",
+            complained: "",
+        },
+        &[
+            (&["ps_play", "--check", "long.game"], "long.game\n"),
+            (&["ps_play", "a.game", "--check"], "a.game\n"),
+            (&["ps_play", "--check", "a.game"], "a.game\n"),
+            (
+                &["ps_play", "a.game", "--keys", "a.keys", "--check"],
+                "a.game\n",
+            ),
+        ],
+    ),
+    // The fault of a text is shown.
+    (
+        Told {
+            input: b"d",
+            reads: 0,
+            status: 1,
+            shown: CUT,
+            printed: "",
+            complained: "",
+        },
+        &[(&["ps_play", "cut.game", "--check"], "cut.game\n")],
+    ),
+    // So is that of a text which is too long.
+    (
+        Told {
+            input: b"d",
+            reads: 0,
+            status: 1,
+            shown: TOO_LONG,
+            printed: "",
+            complained: "",
+        },
+        &[(&["ps_play", "--check", "too-long.game"], "too-long.game\n")],
+    ),
+    // Several files are checked one after the other.
+    (
+        Told {
+            input: b"d",
+            reads: 0,
+            status: 0,
+            shown: "a.game: ok: objects 9, layers 4, rules 1, levels 1\n\
+            long.game: ok: objects 9, layers 4, rules 1, levels 1\n",
+            printed: "",
+            complained: "",
+        },
+        &[(
+            &["ps_play", "--check", "a.game", "long.game"],
+            "a.game\nlong.game\n",
+        )],
+    ),
+    // So they are behind one that holds no game.
+    (
+        Told {
+            input: b"d",
+            reads: 0,
+            status: 1,
+            shown: "a.game: ok: objects 9, layers 4, rules 1, levels 1\n\
+            cut.game: line 11: GM2 NoSection\n\
+            b.game: ok: objects 9, layers 4, rules 1, levels 1\n",
+            printed: "",
+            complained: "",
+        },
+        &[(
+            &["ps_play", "a.game", "cut.game", "b.game", "--check"],
+            "a.game\ncut.game\nb.game\n",
+        )],
+    ),
+    // So they are behind one that can't be read.
+    (
+        Told {
+            input: b"d",
+            reads: 0,
+            status: 1,
+            shown: "a.game: ok: objects 9, layers 4, rules 1, levels 1\n",
+            printed: "",
+            complained: "lost.game: cannot read game\n",
+        },
+        &[(
+            &["ps_play", "--check", "lost.game", "a.game"],
+            "lost.game\na.game\n",
+        )],
+    ),
+    // A game on standard input is checked.
+    (
+        Told {
+            input: PUSHING,
+            reads: PUSHING.len() + 1,
+            status: 0,
+            shown: CHECKED,
+            printed: "",
+            complained: "",
+        },
+        &[(&["ps_play", "--check", "-"], "")],
+    ),
+    // It is checked behind another one.
+    (
+        Told {
+            input: PUSHING,
+            reads: PUSHING.len() + 1,
+            status: 0,
+            shown: "a.game: ok: objects 9, layers 4, rules 1, levels 1\n\
+            -: ok: objects 9, layers 4, rules 1, levels 1\n",
+            printed: "",
+            complained: "",
+        },
+        &[(&["ps_play", "--check", "a.game", "-"], "a.game\n")],
+    ),
+];
+
+/// Command lines that ask what a fault is, and what must come of each.
+const EXPLANATIONS: [(Told, &[Line]); 5] = [
+    // The sentence of a fault is printed, by its code alone.
+    (
+        Told {
+            input: b"d",
+            reads: 0,
+            status: 0,
+            shown: "",
+            printed: "The text isn't UTF-8.\n",
+            complained: "",
+        },
+        &[(&["ps_play", "--explain", "TX1"], "")],
+    ),
+    // The code of a fault of LEVELS.
+    (
+        Told {
+            input: b"d",
+            reads: 0,
+            status: 0,
+            shown: "",
+            printed: "LEVELS has no level; messages are none.\n",
+            complained: "",
+        },
+        &[(&["ps_play", "--explain", "LV4"], "")],
+    ),
+    // That of a fault of names, in whatever letters.
+    (
+        Told {
+            input: b"d",
+            reads: 0,
+            status: 0,
+            shown: "",
+            printed: "Nothing declares `Player`.\n",
+            complained: "",
+        },
+        &[
+            (&["ps_play", "--explain", "NA11"], ""),
+            (&["ps_play", "--explain", "na11"], ""),
+        ],
+    ),
+    // That of a fault of rules.
+    (
+        Told {
+            input: b"d",
+            reads: 0,
+            status: 0,
+            shown: "",
+            printed: UNBOUND,
+            complained: "",
+        },
+        &[(&["ps_play", "--explain", "RU7"], "")],
+    ),
+    // No fault has such a code.
+    (
+        Told {
+            input: b"d",
+            reads: 0,
+            status: 2,
+            shown: "",
+            printed: "",
+            complained: "error: no fault has this code\n",
+        },
+        &[
+            (&["ps_play", "--explain", ""], ""),
+            (&["ps_play", "--explain", "RU"], ""),
+            (&["ps_play", "--explain", "RU15"], ""),
+            (&["ps_play", "--explain", "ru"], ""),
+            (&["ps_play", "--explain", "RU7 "], ""),
+            (&["ps_play", "--explain", "RU7 Unbound"], ""),
+            (&["ps_play", "--explain", "Unbound"], ""),
+            (&["ps_play", "--explain", "XX1"], ""),
+        ],
+    ),
+];
+
 /// What came of a command line.
 #[derive(Drop)]
 struct Outcome {
     status: u8,
     kept: Kept,
-    /// How often a key was asked for.
+    /// How often standard input was asked.
     reads: u32,
     screen: MemoryWriter,
 }
 
-/// Does what a command line asks for, with the key `d` from standard input.
-fn obey(rt: &(impl Abort + AllocGlobal), words: &[&str]) -> Outcome {
-    obey_with(rt, words, b"d")
-}
-
-/// Does what a command line asks for, with these bytes from standard input.
-fn obey_with(rt: &(impl Abort + AllocGlobal), words: &[&str], input: &[u8]) -> Outcome {
+/// Does what a command line asks for, with these bytes from standard input, one at a time.
+fn obey(rt: &(impl Abort + AllocGlobal), words: &[&str], input: &[u8]) -> Outcome {
     let machine = Machine::new(rt.alloc(), words);
     let mut keys = Watched::new(MemoryReader::new(input, 1, None));
     let screen = MemoryWriter::new(rt.alloc(), 1000, CALL_LIMIT);
     let mut screen = screen.expect(rt, "memory for the screen");
-    let status = run_command_line(&machine, &mut keys, &mut screen);
+    let status = run_command_line(&machine, &GamePlayer, &mut keys, &mut screen);
     Outcome {
         status,
         kept: machine.kept(),
@@ -154,27 +462,39 @@ fn obey_with(rt: &(impl Abort + AllocGlobal), words: &[&str], input: &[u8]) -> O
     }
 }
 
-/// What a command line has asked for, as what was done for it tells.
-fn done_for(outcome: &Outcome) -> Option<Asked<'_>> {
-    let opened = outcome.kept.opened.as_str();
-    let printed = outcome.kept.printed.as_str();
-    let shown = outcome.screen.bytes();
-    if outcome.status != 0 || !outcome.kept.complained.is_empty() {
-        return None;
-    }
-    let mut lines = opened.lines();
-    match (lines.next(), lines.next(), outcome.reads) {
-        (Some(path), None, 1..) if shown == PUSHED.as_bytes() => Some(Asked::Play(path)),
-        (Some(path), None, 1..) if shown == VIEWED.as_bytes() => Some(Asked::View(path)),
-        (Some(path), None, 0) if shown == CHECKED.as_bytes() => Some(Asked::Check(path)),
-        (Some(path), Some(file), 0) if shown == QUIT.as_bytes() => {
-            Some(Asked::PlayFrom(path, file))
+/// Looks at all that came of a command line but for the files that were opened.
+fn expect(rt: &impl Abort, outcome: &Outcome, told: &Told) {
+    assert_eq!(rt; outcome.status, told.status);
+    assert_eq!(rt; outcome.reads as usize, told.reads);
+    assert_eq!(rt; outcome.screen.bytes(), told.shown.as_bytes());
+    assert_eq!(rt; outcome.kept.printed.as_str(), told.printed);
+    assert_eq!(rt; outcome.kept.complained.as_str(), told.complained);
+}
+
+/// Does what command lines ask for, and looks at all that comes of each.
+fn expect_each(rt: &(impl Abort + AllocGlobal), asked: &[(Told, &[Line])]) {
+    for (told, lines) in asked {
+        for (words, opened) in *lines {
+            let outcome = obey(rt, *words, told.input);
+            expect(rt, &outcome, told);
+            assert_eq!(rt; outcome.kept.opened.as_str(), *opened);
         }
-        (None, None, 0) if shown.is_empty() && printed == UNBOUND => {
-            Some(Asked::Explanation("RU7"))
-        }
-        _ => None,
     }
+}
+
+#[test]
+fn plays_what_is_asked_for(rt: HostRuntime) {
+    expect_each(&rt, &PLAYS);
+}
+
+#[test]
+fn checks_what_is_asked_for(rt: HostRuntime) {
+    expect_each(&rt, &CHECKS);
+}
+
+#[test]
+fn explains_what_is_asked_for(rt: HostRuntime) {
+    expect_each(&rt, &EXPLANATIONS);
 }
 
 /// Whether no file was opened for a command line, no key asked for, and nothing shown.
@@ -182,18 +502,11 @@ fn is_idle(outcome: &Outcome) -> bool {
     outcome.kept.opened.is_empty() && outcome.reads == 0 && outcome.screen.bytes().is_empty()
 }
 
-#[test]
-fn knows_what_is_asked_for(rt: HostRuntime) {
-    for (words, wanted) in &LINES {
-        assert_eq!(rt; done_for(&obey(&rt, *words)), Some(*wanted));
-    }
-}
-
 /// Nothing is done for a command line that isn't right but to tell what is wrong with it.
 #[test]
 fn refuses_bad_lines(rt: HostRuntime) {
     for words in &BAD_LINES {
-        let outcome = obey(&rt, *words);
+        let outcome = obey(&rt, *words, b"d");
         assert_eq!(rt; outcome.status, 2);
         assert!(rt; is_idle(&outcome));
         assert!(rt; outcome.kept.printed.is_empty());
@@ -209,7 +522,7 @@ fn refuses_bad_lines(rt: HostRuntime) {
 
 /// What is printed for a command line that asks for help or the version, and for which nothing else is done.
 fn printed_for(rt: &(impl Abort + AllocGlobal), option: &str) -> String {
-    let outcome = obey(rt, &["ps_play", option]);
+    let outcome = obey(rt, &["ps_play", option], b"d");
     assert_eq!(rt; outcome.status, 0);
     assert!(rt; is_idle(&outcome));
     assert!(rt; outcome.kept.complained.is_empty());
@@ -222,184 +535,4 @@ fn prints_help_and_the_version(rt: HostRuntime) {
     assert!(rt; help.contains("Usage: ps_play"));
     let version = printed_for(&rt, "--version");
     assert!(rt; version.starts_with("ps_play "));
-}
-
-/// Looks at the status of a command line, at what it has shown and at what it has told on standard error; it has
-/// printed nothing.
-fn expect_told(rt: &impl Abort, outcome: &Outcome, status: u8, shown: &str, complained: &str) {
-    assert_eq!(rt; outcome.status, status);
-    assert_eq!(rt; outcome.screen.bytes(), shown.as_bytes());
-    assert_eq!(rt; outcome.kept.complained.as_str(), complained);
-    assert!(rt; outcome.kept.printed.is_empty());
-}
-
-/// A fault is told on standard error where a game is played, and on the screen where a text is checked; no key is asked
-/// for, and the status is 1.
-#[test]
-fn tells_the_fault_of_a_file(rt: HostRuntime) {
-    for (words, fault) in &REFUSED_LINES {
-        let outcome = obey(&rt, *words);
-        let (shown, complained) = if words.contains(&"--check") {
-            (*fault, "")
-        } else {
-            ("", *fault)
-        };
-        assert_eq!(rt; outcome.reads, 0);
-        expect_told(&rt, &outcome, 1, shown, complained);
-    }
-}
-
-/// The words of command lines on several files, what is told of them on the screen and on standard error, and the
-/// status.
-const MANY_FILES: [(&[&str], &str, &str, u8); 3] = [
-    (
-        &["ps_play", "--check", "a.game", "long.game"],
-        "a.game: ok: objects 9, layers 4, rules 1, levels 1\n\
-        long.game: ok: objects 9, layers 4, rules 1, levels 1\n",
-        "",
-        0,
-    ),
-    (
-        &["ps_play", "a.game", "cut.game", "b.game", "--check"],
-        "a.game: ok: objects 9, layers 4, rules 1, levels 1\n\
-        cut.game: line 11: GM2 NoSection\n\
-        b.game: ok: objects 9, layers 4, rules 1, levels 1\n",
-        "",
-        1,
-    ),
-    (
-        &["ps_play", "--check", "lost.game", "a.game"],
-        "a.game: ok: objects 9, layers 4, rules 1, levels 1\n",
-        "lost.game: cannot read game\n",
-        1,
-    ),
-];
-
-/// Several files are checked one after the other, also behind one that can't be read or holds no game.
-#[test]
-fn checks_many_files(rt: HostRuntime) {
-    for (words, shown, complained, status) in &MANY_FILES {
-        let outcome = obey(&rt, *words);
-        assert_eq!(rt; outcome.reads, 0);
-        expect_told(&rt, &outcome, *status, *shown, *complained);
-    }
-}
-
-/// The words of command lines that name standard input as the text of a game, what is shown where that is the game of
-/// the other tests, the files that are opened, and how often standard input is asked for keys behind the text.
-const INPUT_LINES: [(&[&str], &str, &str, usize); 4] = [
-    (&["ps_play", "--check", "-"], CHECKED, "", 0),
-    (
-        &["ps_play", "-"],
-        "= T\n# level 1\n#P*O#\n\n* end of keys\n",
-        "",
-        1,
-    ),
-    (&["ps_play", "-", "--keys", "a.keys"], QUIT, "a.keys\n", 0),
-    (
-        &["ps_play", "--check", "a.game", "-"],
-        "a.game: ok: objects 9, layers 4, rules 1, levels 1\n-: ok: objects 9, layers 4, rules 1, levels 1\n",
-        "a.game\n",
-        0,
-    ),
-];
-
-/// Of a game that stands on standard input all of it is read before keys are: byte by byte, and once more for its end.
-#[test]
-fn reads_a_game_from_standard_input(rt: HostRuntime) {
-    for (words, shown, opened, keys) in &INPUT_LINES {
-        let outcome = obey_with(&rt, *words, PUSHING);
-        assert_eq!(rt; outcome.kept.opened.as_str(), *opened);
-        assert_eq!(rt; outcome.reads as usize, PUSHING.len() + 1 + *keys);
-        expect_told(&rt, &outcome, 0, *shown, "");
-    }
-}
-
-/// The words of command lines with a file that tells the terminal's size, the files that are opened first, and what the
-/// terminal is handed: where the file isn't there, or has no size, it keeps the one that it was given.
-const SIZED_LINES: [(&[&str], &str, &str); 4] = [
-    (
-        &[
-            "ps_play",
-            "a.game",
-            "--view",
-            "24x80",
-            "--sizes",
-            "small.size",
-        ],
-        "a.game\nsmall.size\n",
-        VIEWED_SMALL,
-    ),
-    (
-        &["ps_play", "--sizes=small.size", "--view=24x80", "long.game"],
-        "long.game\nsmall.size\n",
-        VIEWED_SMALL,
-    ),
-    (
-        &[
-            "ps_play",
-            "a.game",
-            "--view",
-            "24x80",
-            "--sizes",
-            "lost.size",
-        ],
-        "a.game\nlost.size\n",
-        VIEWED,
-    ),
-    (
-        &["ps_play", "a.game", "--view", "24x80", "--sizes", "a.keys"],
-        "a.game\na.keys\n",
-        VIEWED,
-    ),
-];
-
-/// A view has the size that a file tells.
-#[test]
-fn follows_the_size_that_a_file_tells(rt: HostRuntime) {
-    for (words, opened, handed) in &SIZED_LINES {
-        let outcome = obey(&rt, *words);
-        assert!(rt; outcome.kept.opened.as_str().starts_with(*opened));
-        expect_told(&rt, &outcome, 0, *handed, "");
-    }
-}
-
-/// What is printed for a code, or nothing, where it is told that no fault has it.
-fn explained(rt: &(impl Abort + AllocGlobal), code: &str) -> Option<String> {
-    let outcome = obey(rt, &["ps_play", "--explain", code]);
-    let status = outcome.status;
-    let kept = outcome.kept;
-    if status == 0 {
-        assert!(rt; kept.complained.is_empty());
-        return Some(kept.printed);
-    }
-    assert_eq!(rt; status, 2);
-    assert!(rt; kept.printed.is_empty());
-    assert_eq!(rt; kept.complained.as_str(), "error: no fault has this code\n");
-    None
-}
-
-#[test]
-fn explains_codes_alone(rt: HostRuntime) {
-    for (code, sentence) in [
-        ("TX1", "The text isn't UTF-8.\n"),
-        ("LV4", "LEVELS has no level; messages are none.\n"),
-        ("NA11", "Nothing declares `Player`.\n"),
-        ("na11", "Nothing declares `Player`.\n"),
-    ] {
-        let printed = explained(&rt, code);
-        assert_eq!(rt; printed.as_ref().map(|text| text.as_str()), Some(sentence));
-    }
-    for code in [
-        "",
-        "RU",
-        "RU15",
-        "ru",
-        "RU7 ",
-        "RU7 Unbound",
-        "Unbound",
-        "XX1",
-    ] {
-        assert!(rt; explained(&rt, code).is_none());
-    }
 }
