@@ -15,7 +15,7 @@ import sys
 import time
 
 from command_line import stop
-from crates import TOP
+from crates import TOP, minutes_of, read_minutes
 
 # The copies, in a folder that git passes by. A check takes up to some gigabytes, so memory decides how many there are.
 ROOM = TOP / "out" / "copies"
@@ -25,6 +25,8 @@ KILLED = (-signal.SIGKILL, 256 - signal.SIGKILL)
 # What the prover reads of a crate, and its tests and programs.
 UNREAD = shutil.ignore_patterns("out", "wrong-bodies", "__pycache__")
 PAUSE = 0.2
+# By how much the priority is lower of what nothing waits for as long as for another: it gets a third of a processor's time then.
+MAKES_WAY = 5
 
 
 @dataclasses.dataclass(frozen=True)
@@ -83,8 +85,27 @@ def lend(crate, copy):
         shutil.copytree(library, lent, copy_function=os.link)
 
 
-def begin(task, copy, jobs):
-    """Begins a task in a copy, with what the crate has in its folder `out` and the libraries below it."""
+def link_or_copy(file, other):
+    """Gives a file a further name, or copies it to another disk."""
+    try:
+        os.link(file, other)
+    except OSError:
+        shutil.copy2(file, other)
+
+
+def take_over(crates, checkout):
+    """Gives crates that have nothing proved what another checkout has of them, as further names of its files."""
+    other = pathlib.Path(checkout).resolve()
+    if not (other / "crates.txt").is_file():
+        stop(f"{checkout} is no checkout of a repository")
+    for crate in crates:
+        if (out_of(other, crate) / "rlib").is_dir() and not (out_of(TOP, crate) / "incremental").is_dir():
+            shutil.copytree(out_of(other, crate), out_of(TOP, crate), copy_function=link_or_copy, dirs_exist_ok=True)
+
+
+def begin(task, copy, jobs, leads):
+    """Begins a task in a copy, with what the crate has in its folder `out` and the libraries below it. It comes before others
+    where it leads, and makes way where it doesn't."""
     out = out_of(TOP, task.crate)
     out.mkdir(exist_ok=True)
     shutil.rmtree(out_of(copy, task.crate), ignore_errors=True)
@@ -95,6 +116,7 @@ def begin(task, copy, jobs):
     for crate in task.below:
         lend(crate, copy)
     words = [*task.words, "--jobs", str(jobs)] if jobs > 1 else task.words
+    words = words if leads else ["nice", "-n", str(MAKES_WAY), *words]
     folder = copy if task.at_top else copy / "crates" / task.crate
     with open(out_of(copy, task.crate) / task.log().name, "w") as log:
         process = subprocess.Popen(words, cwd=folder, stdin=subprocess.DEVNULL, stdout=log, stderr=log, start_new_session=True)
@@ -111,18 +133,12 @@ def end(run):
     return run.process.returncode == 0
 
 
-def size_of(crate):
-    """How many bytes are proved of a crate, by which is guessed how long that takes."""
-    parts = [TOP / "crates" / crate / part for part in ("src", "specs", "proofs")]
-    return sum(file.stat().st_size for part in parts for file in part.rglob("*.*t"))
-
-
 def work_behind(tasks):
-    """Of each task how much is to be proved by the longest chain that begins with it: the longest is begun first."""
-    behind = dict.fromkeys(tasks, 0)
+    """Of each task how many minutes the longest chain takes that begins with it: the longest is begun first."""
+    known, behind = read_minutes(), dict.fromkeys(tasks, 0)
     proofs = [task for task in tasks if task.what == "proof"]
     for task in reversed(proofs):
-        behind[task] = size_of(task.crate) + max((behind[other] for other in proofs if task.crate in other.below), default=0)
+        behind[task] = minutes_of(task.crate, known) + max((behind[other] for other in proofs if task.crate in other.below), default=0)
     return behind
 
 
@@ -160,8 +176,8 @@ class Runner:
             copy_sources(crates, copy)
 
     def begin_next(self):
-        """Begins as many tasks as there are processors for. The one that most of the work waits for gets as many jobs as there
-        are processors, though others go on beside it, since nothing is done sooner than the longest chain."""
+        """Begins as many tasks as there are processors for. The one with which the longest chain begins gets as many jobs as
+        there are processors, and comes before those that go on beside it, since nothing is done sooner than that chain."""
         free = max(0, self.most - len(self.running))
         longest = max((self.behind[run.task] for run in self.running), default=0)
         begun = sorted(ready(self.left, self.running, self.proved), key=lambda task: -self.behind[task])[:free]
@@ -169,7 +185,7 @@ class Runner:
             leads = number == 0 and self.behind[task] > longest
             jobs = self.most if leads else max(1, free // len(begun))
             self.left.remove(task)
-            self.running.append(begin(task, self.idle.pop(), jobs if task.with_jobs else 1))
+            self.running.append(begin(task, self.idle.pop(), jobs if task.with_jobs else 1, leads))
 
     def take_ended(self):
         """Takes back what those have left that have ended, and tells of them. One that was killed beside others, as it is where

@@ -4,14 +4,14 @@ ghost use Rattle.std.specs.Prelude.{◌≡◌, true, IfOk, IfSome, Some, option_
 ghost use Rattle.ps_model.specs.names.Names.{is_among, members_if};
 ghost use Rattle.ps_model.specs.names.Meanings.{is_property};
 ghost use Rattle.ps_names.specs.Shown.{meaning_shown};
-ghost use Rattle.ps_game.specs.SectionPlaces.{AreSections};
+ghost use Rattle.ps_sections.specs.SectionPlaces.{AreSections};
 ghost use Rattle.ps_causes.specs.Meant.{names_in, meant, is_aggregate_at, is_property_at, is_one_property, has_object};
 ghost use Rattle.ps_causes.specs.Meant.{lies_on, are_alike};
 
 use ps_facts::is_key_word;
-use ps_game::{Sections, read_sections};
 use ps_model::{Memory, ObjectId, Refusal};
 use ps_names::{Meaning, Names, read_names};
+use ps_sections::{Sections, read_sections};
 use ps_text::{Source, Text, same_name};
 use std::alloc::Global;
 

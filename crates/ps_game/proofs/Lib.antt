@@ -1,9 +1,3 @@
-pub mod FewDigits
-pub mod HeadingsTold
 pub mod ImpossibleRules
-pub mod LineSteps
-pub mod SectionEnds
-pub mod SectionLines
-pub mod SectionsTold
-pub mod WholeGame
 pub mod Refusals
+pub mod WholeGame

@@ -7,19 +7,18 @@ ghost use Rattle.ps_model.specs.game.Games.{game, faults, game_of_lines, line_fa
 ghost use Rattle.ps_model.specs.text.Lines.{lines_of};
 ghost use Rattle.ps_model.specs.rules.ReadingFaults.{faults_of_readings, reading_faults};
 ghost use Rattle.ps_levels.specs.Sized.{IsSizedEntry};
+ghost use Rattle.ps_sections.specs.SectionPlaces.{AreSections};
 ghost use Rattle.ps_game.specs.Finds.{Finds};
-ghost use Rattle.ps_game.specs.SectionPlaces.{AreSections};
 
 use crate::counts::first_too_many;
 use crate::occurrences::occurrences_of;
 use crate::parts::{entries_of, names_of, rules_of, wins_of};
 use crate::possible::first_impossible;
-use crate::prelude::{read_options, read_title};
-use crate::sections::{Sections, read_sections};
 use ps_levels::{Entry, Win};
 use ps_model::{Options, Refusal};
 use ps_names::Names;
 use ps_rules::{Occurrences, RuleText};
+use ps_sections::{Sections, read_options, read_sections, read_title};
 use ps_text::{Source, Text};
 use std::alloc::Global;
 use std::marker::Model;

@@ -15,13 +15,13 @@ ghost use Rattle.ps_model.specs.board.WinLines.{wins_read, win_faults};
 ghost use Rattle.ps_levels.specs.EntriesShown.{entries_shown};
 ghost use Rattle.ps_levels.specs.Sized.{IsSizedEntry};
 ghost use Rattle.ps_levels.specs.WinsShown.{wins_shown};
-ghost use Rattle.ps_game.specs.SectionPlaces.{AreSections};
+ghost use Rattle.ps_sections.specs.SectionPlaces.{AreSections};
 
-use crate::sections::Sections;
 use ps_levels::{Entry, Win, read_levels, read_wins};
 use ps_model::Refusal;
 use ps_names::{Names, read_names};
 use ps_rules::{RuleText, read_rules};
+use ps_sections::Sections;
 use ps_text::Source;
 use std::alloc::Global;
 

@@ -1,9 +1,0 @@
-use Rattle.std.proofs.Common.{◌≡◌}
-use Rattle.std.specs.Prelude.{codes, find}
-use Rattle.ps_model.specs.text.LineNumbers.{lines_between}
-use Rattle.ps_model.specs.text.Preludes.{begins_with}
-use Rattle.ps_game.proofs.prelude.read_title.Given as goal
-
-abbrev pub invariant-loop-line : goal.invariant-loop-line
-invariant-loop-line l = find (begins_with (codes "title")) (lines_between l.source l.line l.fn.lines.end) ≡ find
-    (begins_with (codes "title")) (lines_between l.source l.fn.lines.start l.fn.lines.end)

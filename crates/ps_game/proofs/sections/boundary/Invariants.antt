@@ -1,7 +1,0 @@
-use Rattle.std.proofs.Common.{◌≤◌}
-use Rattle.ps_model.specs.text.Sections.{rank}
-use Rattle.ps_game.specs.SectionPlaces.{boundary}
-use Rattle.ps_game.proofs.sections.boundary.Given as goal
-
-abbrev pub invariant-loop-line : goal.invariant-loop-line
-invariant-loop-line l = l.line ≤ boundary l.source (rank l.section)
