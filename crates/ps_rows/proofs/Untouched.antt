@@ -1,17 +1,24 @@
 -- What isn't marked has no cell to take away.
-use Rattle.std.proofs.Common.{◌≡◌, ◌∙◌, ℕ, ◌+◌, ◌*◌, ◌/◌, ◌%◌, ◌<◌, ◌≤◌, ◌||◌, Bool, true, false, None, List, refl, arith}
+use Rattle.std.proofs.Common.{◌≡◌, ◌≢◌, ◌∙◌, ℕ, ◌+◌, ◌*◌, ◌/◌, ◌%◌, ◌<◌, ◌≤◌, ◌||◌, Bool, true, false, None, Some, List}
+use Rattle.std.proofs.Common.{refl, arith}
 use Rattle.std.proofs.Common.{inl, inr, sym, ap}
 use Rattle.std.specs.Prelude.{nat_eq, slice_set, if◌then◌else◌}
-use Rattle.std.proofs.lemmas.Bool.{cases_eq, or_parts}
-use Rattle.std.proofs.lemmas.List.{set-get_or}
+use Rattle.std.proofs.lemmas.Bool.{cases_eq, ne_eqb, or_parts}
+use Rattle.std.proofs.lemmas.Bool.Decides.{nat_tests}
+use Rattle.std.proofs.lemmas.Nat.{mod_below, same_from_place}
+use Rattle.std.proofs.lemmas.Option.{none-some, same_Some}
+use Rattle.std.proofs.lemmas.List.{get_or-set_other, set-get_or}
 use Rattle.ps_model.specs.declared.limits.TheConstants.{SIDE_LIMIT}
 use Rattle.ps_board.specs.ColumnSets.{column_at, either_columns, no_columns, with_column}
 use Rattle.ps_board.proofs.ColumnLaws.{columns-agree}
-use Rattle.ps_model.specs.declared.pieces.Motion.TheVariants.{Still}
+use Rattle.ps_model.specs.declared.pieces.Direction.TheVariants.{Up, Down, Left, Right}
+use Rattle.ps_model.specs.declared.pieces.Motion.{Motion}
+use Rattle.ps_model.specs.declared.pieces.Motion.TheVariants.{Still, Going, Acting}
+use Rattle.ps_model.specs.board.Movement.{is_number}
 use Rattle.ps_rows.specs.Planes.{has_cell, row_of, with_cell, with_cell_in}
 use Rattle.ps_rows.specs.RowIndex.{AreRowsMarked}
 use Rattle.ps_rows.specs.RowTests.{five_rows}
-use Rattle.ps_rows.specs.Showing.{first_motion, motion_planes}
+use Rattle.ps_rows.specs.Showing.{first_motion, motion_plane, motion_planes}
 use Rattle.ps_rows.proofs.Sets.{either_at, none_at}
 
 off_by : (own off : Bool) → off ≡ false → (if own then false else off) ≡ false
@@ -115,6 +122,95 @@ five_stay height cell first words blank =
       stays (first + 2) (omega arith) (omega arith),
       stays (first + 3) (omega arith) (omega arith),
       stays (first + 4) (omega arith) (omega arith),
+    ) refl
+
+-- a plane that isn't the chosen one, whose row has no columns, stays as it is
+other_stays : (height cell chosen plane : ℕ) (words : List (List Bool)) → plane ≢ chosen →
+    row_of words (plane * height + cell % height) ≡ no_columns →
+    with_cell height words cell plane (is_number (Some chosen) plane) ≡ words
+other_stays height cell chosen plane words apart blank =
+    let off : nat_eq chosen plane ≡ false = ne_eqb chosen plane (λ e. apart (sym e)) in
+    ap (with_cell height words cell plane) off
+    ∙ sym (cell_set height cell plane (cell % height) (cell / height) words false refl refl)
+    ∙ blank_stays words (plane * height + cell % height) (cell / height) blank
+
+-- also behind a change of the chosen one
+row_apart : (height cell chosen plane : ℕ) (words : List (List Bool)) → 0 < height → plane ≢ chosen →
+    row_of (with_cell height words cell chosen true) (plane * height + cell % height)
+    ≡ row_of words (plane * height + cell % height)
+unfolding with_cell
+row_apart height cell chosen plane words some apart =
+    let under : cell % height < height = mod_below cell height some in
+    let row : List Bool = row_of words (chosen * height + cell % height) in
+    get_or-set_other words (chosen * height + cell % height) (plane * height + cell % height)
+    (with_column row (cell / height) true) no_columns
+    (λ e. apart ((same_from_place plane (cell % height) chosen (cell % height) height under under e).0))
+
+other_stays_behind : (height cell chosen plane : ℕ) (words : List (List Bool)) → 0 < height → plane ≢ chosen →
+    row_of words (plane * height + cell % height) ≡ no_columns →
+    with_cell height (with_cell height words cell chosen true) cell plane (is_number (Some chosen) plane)
+    ≡ with_cell height words cell chosen true
+other_stays_behind height cell chosen plane words some apart blank =
+    other_stays height cell chosen plane (with_cell height words cell chosen true) apart
+    (row_apart height cell chosen plane words some apart ∙ blank)
+
+chosen_on : (height cell chosen : ℕ) (words : List (List Bool)) →
+    with_cell height words cell chosen (is_number (Some chosen) chosen) ≡ with_cell height words cell chosen true
+chosen_on height cell chosen words =
+    let on : nat_eq chosen chosen ≡ true = grind (arith, nat_tests) in ap (with_cell height words cell chosen) on
+
+-- so that of five planes without columns in the row no more is changed than the motion's
+pub five_alone : (height cell first : ℕ) (motion : Motion) (plane : ℕ) (words : List (List Bool)) → 0 < height →
+    motion_plane first motion ≡ Some plane →
+    ((plane : ℕ) → first ≤ plane → plane ≤ first + 4 → row_of words (plane * height + cell % height) ≡ no_columns) →
+    with_cell height words cell plane true
+    ≡ with_cell_in height cell (motion_plane first motion) words (motion_planes first)
+unfolding with_cell_in
+five_alone height cell first Still plane words some is blank = absurd (none-some plane is)
+five_alone height cell first (Going Up) plane words some is blank =
+    rw (
+      ← same_Some first plane is,
+      chosen_on height cell first words,
+      other_stays_behind height cell first (first + 1) words some (omega arith) (blank (first + 1) (omega arith) (omega arith)),
+      other_stays_behind height cell first (first + 2) words some (omega arith) (blank (first + 2) (omega arith) (omega arith)),
+      other_stays_behind height cell first (first + 3) words some (omega arith) (blank (first + 3) (omega arith) (omega arith)),
+      other_stays_behind height cell first (first + 4) words some (omega arith) (blank (first + 4) (omega arith) (omega arith)),
+    ) refl
+five_alone height cell first (Going Down) plane words some is blank =
+    rw (
+      ← same_Some (first + 1) plane is,
+      other_stays height cell (first + 1) first words (omega arith) (blank first (omega arith) (omega arith)),
+      chosen_on height cell (first + 1) words,
+      other_stays_behind height cell (first + 1) (first + 2) words some (omega arith) (blank (first + 2) (omega arith) (omega arith)),
+      other_stays_behind height cell (first + 1) (first + 3) words some (omega arith) (blank (first + 3) (omega arith) (omega arith)),
+      other_stays_behind height cell (first + 1) (first + 4) words some (omega arith) (blank (first + 4) (omega arith) (omega arith)),
+    ) refl
+five_alone height cell first (Going Left) plane words some is blank =
+    rw (
+      ← same_Some (first + 2) plane is,
+      other_stays height cell (first + 2) first words (omega arith) (blank first (omega arith) (omega arith)),
+      other_stays height cell (first + 2) (first + 1) words (omega arith) (blank (first + 1) (omega arith) (omega arith)),
+      chosen_on height cell (first + 2) words,
+      other_stays_behind height cell (first + 2) (first + 3) words some (omega arith) (blank (first + 3) (omega arith) (omega arith)),
+      other_stays_behind height cell (first + 2) (first + 4) words some (omega arith) (blank (first + 4) (omega arith) (omega arith)),
+    ) refl
+five_alone height cell first (Going Right) plane words some is blank =
+    rw (
+      ← same_Some (first + 3) plane is,
+      other_stays height cell (first + 3) first words (omega arith) (blank first (omega arith) (omega arith)),
+      other_stays height cell (first + 3) (first + 1) words (omega arith) (blank (first + 1) (omega arith) (omega arith)),
+      other_stays height cell (first + 3) (first + 2) words (omega arith) (blank (first + 2) (omega arith) (omega arith)),
+      chosen_on height cell (first + 3) words,
+      other_stays_behind height cell (first + 3) (first + 4) words some (omega arith) (blank (first + 4) (omega arith) (omega arith)),
+    ) refl
+five_alone height cell first Acting plane words some is blank =
+    rw (
+      ← same_Some (first + 4) plane is,
+      other_stays height cell (first + 4) first words (omega arith) (blank first (omega arith) (omega arith)),
+      other_stays height cell (first + 4) (first + 1) words (omega arith) (blank (first + 1) (omega arith) (omega arith)),
+      other_stays height cell (first + 4) (first + 2) words (omega arith) (blank (first + 2) (omega arith) (omega arith)),
+      other_stays height cell (first + 4) (first + 3) words (omega arith) (blank (first + 3) (omega arith) (omega arith)),
+      chosen_on height cell (first + 4) words,
     ) refl
 
 -- a cell in a row without columns

@@ -1,7 +1,8 @@
 //! The five planes of a layer's motions.
 
-ghost use Rattle.std.specs.Prelude.{◌≡◌, ◌+◌, ◌*◌, ◌/◌, ◌^◌, ◌<◌, ◌≤◌, vec_len};
-ghost use Rattle.ps_rows.specs.Planes.{has_cell, with_cell_in};
+ghost use Rattle.std.specs.Prelude.{◌≡◌, ◌+◌, ◌*◌, ◌/◌, ◌%◌, ◌^◌, ◌<◌, ◌≤◌, ℕ, vec_len};
+ghost use Rattle.ps_board.specs.ColumnSets.{no_columns};
+ghost use Rattle.ps_rows.specs.Planes.{has_cell, row_of, with_cell_in};
 ghost use Rattle.ps_rows.specs.Showing.{first_motion, motion_plane, motion_planes};
 
 use crate::planes::Planes;
@@ -51,7 +52,25 @@ pub fn first_motion<W: ColumnWords>(planes: &Planes<W>, cell: u32, first: u32) -
     Motion::Still
 }
 
-/// Gives a cell this motion alone. Rest is given to a row without motions by leaving it as it is.
+/// Gives a cell this motion, whose row has no motion.
+fn add_motion<W: ColumnWords>(planes: &mut Planes<W>, cell: u32, first: u32, motion: Motion)
+    requires column { cell / planes.old.height < W.limit }
+    requires few { first + 4 < 2 ^ 32 }
+    requires planes { (first + 5) * planes.old.height ≤ vec_len planes.old.words }
+    requires rest { let p = planes.old in (plane : ℕ) → first ≤ plane → plane ≤ first + 4 →
+        row_of p.words.items (plane * p.height + cell % p.height) ≡ no_columns }
+    ensures words { let p = planes.old in
+        planes.new.words.items ≡
+        with_cell_in p.height cell (motion_plane first motion) p.words.items (motion_planes first) }
+    ensures height { planes.new.height ≡ planes.old.height }
+    ensures count { vec_len planes.new.words ≡ vec_len planes.old.words }
+{
+    if let Some(plane) = motion_plane(first, motion) {
+        planes.put_cell(cell, plane);
+    }
+}
+
+/// Gives a cell this motion alone. Where the row is known to have no motion, no plane but the motion's is looked at.
 pub fn choose_motion<W: ColumnWords>(planes: &mut Planes<W>, cell: u32, first: u32, motion: Motion)
     requires column { cell / planes.old.height < W.limit }
     requires few { first + 4 < 2 ^ 32 }
@@ -62,7 +81,9 @@ pub fn choose_motion<W: ColumnWords>(planes: &mut Planes<W>, cell: u32, first: u
     ensures height { planes.new.height ≡ planes.old.height }
     ensures count { vec_len planes.new.words ≡ vec_len planes.old.words }
 {
-    if matches!(motion, Motion::Still) && planes.is_unmarked(first, cell % planes.height) {
+    let row = cell % planes.height;
+    if planes.is_unmarked(first, row) {
+        add_motion(planes, cell, first, motion);
         return;
     }
     let motions = [first, first + 1, first + 2, first + 3, first + 4];

@@ -237,6 +237,17 @@ impl<W: ColumnWords> Planes<W> {
         self.set_row(plane, row, word);
     }
 
+    /// Puts a cell into a plane.
+    pub fn put_cell(&mut self, cell: u32, plane: u32)
+        requires column { cell / self.old.height < W.limit }
+        requires plane { (plane + 1) * self.old.height ≤ vec_len self.old.words }
+        ensures words { let p = self.old in self.new.words.items ≡ with_cell p.height p.words.items cell plane true }
+        ensures height { self.new.height ≡ self.old.height }
+        ensures count { vec_len self.new.words ≡ vec_len self.old.words }
+    {
+        self.set_cell(cell % self.height, cell / self.height, plane, true);
+    }
+
     /// Puts a cell into the chosen one of these planes, if one is chosen, and takes it away from the others.
     pub fn choose_plane(&mut self, cell: u32, planes: &[u32], chosen: Option<u32>)
         requires column { cell / self.old.height < W.limit }
