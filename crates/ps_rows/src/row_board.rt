@@ -388,7 +388,7 @@ impl<W: ColumnWords> Board for RowBoard<W> {
             layers: self.layers,
             members,
             planes,
-            may_move: self.may_move,
+            may_move: !self.rests(),
         })
     }
 

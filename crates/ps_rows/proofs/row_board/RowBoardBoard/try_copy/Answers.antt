@@ -1,4 +1,4 @@
-use Rattle.std.proofs.Common.{◌∙◌, ap, refl, sym, Some}
+use Rattle.std.proofs.Common.{◌∙◌, ap, refl, rules, sym, Some}
 use Rattle.ps_rows.proofs.Whole.{copied_grid, copied_motions, copied_objects, copied_rest, copied_whole}
 use Rattle.ps_rows.proofs.row_board.RowBoardBoard.try_copy.Goals as goal
 
@@ -34,7 +34,7 @@ invariant_of-result-clause-rest g c = λ still.
     copied_rest b.members.table.items c.in_ok-members.members.table.items b.width b.width b.planes.height
     c.in_ok-planes.planes.height b.layers b.layers b.planes.words.items c.in_ok-planes.planes.words.items
     c.in_ok-members.ensures.table refl c.in_ok-planes.ensures.height refl c.in_ok-planes.ensures.words
-    (b.rest still)
+    (c.rests.ensures (search rules))
 
 pub returns-clause-grid : goal.returns-clause-grid
 returns-clause-grid g c =
