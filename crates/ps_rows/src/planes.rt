@@ -18,7 +18,7 @@ use ps_model::Memory;
 use std::alloc::Global;
 
 /// How many rows of planes are copied in one go: a few kilobytes, which is the length that processors copy best.
-const MOST_SETS: u32 = 256;
+const MOST_SETS: u32 = 500;
 
 /// Planes of one height. A plane has the columns of each of its rows, the highest row first.
 ///
@@ -358,9 +358,32 @@ impl<W: ColumnWords> Planes<W> {
         copy_sets(self.index.as_slice(), first, end, index);
     }
 
+    /// Makes so many planes of others, the first ones, the same. Those without columns on both sides are passed over,
+    /// and of those between two such ones so many are copied in one go as have at most `MOST_SETS` rows together.
+    fn copy_pieces(&self, other: &mut Planes<W>, planes: usize, most: usize)
+        requires height { other.old.height ≡ self.now.height }
+        requires here { planes * self.now.height ≤ vec_len self.now.words }
+        requires count { vec_len other.old.words ≡ vec_len self.now.words }
+        ensures words { let p = self.now in
+            ArePlanesOf p.height 0 planes p.words.items other.old.words.items other.new.words.items }
+        ensures height { other.new.height ≡ self.now.height }
+        ensures count { vec_len other.new.words ≡ vec_len self.now.words }
+    {
+        let mut first = 0;
+        for plane in 0..planes {
+            if self.is_unmarked_plane(other, plane) {
+                self.copy_planes(other, first, plane);
+                first = plane + 1;
+            } else if most <= plane - first {
+                self.copy_planes(other, first, plane);
+                first = plane;
+            }
+        }
+        self.copy_planes(other, first, planes);
+    }
+
     /// Makes other planes, as many of the same height, the same, of which so many, the first ones, aren't known to be
-    /// so. Those without columns on both sides are passed over, and of those between two such ones so many are copied
-    /// in one go as have at most `MOST_SETS` rows together.
+    /// so. Where they are few, all of them are copied in one go, up to the last with a column on either side.
     pub fn copy_into(&self, other: &mut Planes<W>, planes: usize)
         requires height { other.old.height ≡ self.now.height }
         requires count { vec_len other.old.words ≡ vec_len self.now.words }
@@ -372,17 +395,11 @@ impl<W: ColumnWords> Planes<W> {
     {
         let marked = self.planes_marked(other, planes);
         let most = (MOST_SETS / self.height) as usize;
-        let mut first = 0;
-        for plane in 0..marked {
-            if self.is_unmarked_plane(other, plane) {
-                self.copy_planes(other, first, plane);
-                first = plane + 1;
-            } else if most <= plane - first {
-                self.copy_planes(other, first, plane);
-                first = plane;
-            }
+        if marked <= most {
+            self.copy_planes(other, 0, marked);
+            return;
         }
-        self.copy_planes(other, first, marked);
+        self.copy_pieces(other, marked, most);
     }
 
     /// Makes rows of a plane of others the same, those in a set that are marked on either side.

@@ -1,66 +1,43 @@
-use Rattle.std.proofs.Common.{◌+◌, ◌*◌, ◌≤◌, ◌∙◌, ℕ, length, refl, sym}
-use Rattle.ps_rows.proofs.PlaneCopies.{all_copied, planes_and_rest, planes_and_same, planes_then}
-use Rattle.ps_rows.proofs.PlaneCopies.{same_from}
-use Rattle.ps_rows.proofs.Passed.{next_enough, next_order, none_copied, own_order, planes_counted, planes_enough}
-use Rattle.ps_rows.proofs.Passed.{words_whole}
-use Rattle.ps_laws.proofs.common.Orders.{two_up}
-use Rattle.ps_rows.proofs.planes.Planes.copy_into.Goals.{then-is_unmarked_plane, else-is_unmarked_plane+then-most-plane}
-use Rattle.ps_rows.proofs.planes.Planes.copy_into.Goals.{else-is_unmarked_plane+else-most-plane}
+use Rattle.std.proofs.Common.{◌≡◌, ◌*◌, ◌<◌, ◌≤◌, ◌∙◌, ℕ, Bool, List, length, refl, sym, arith}
+use Rattle.ps_board.specs.ColumnSets.{no_columns}
+use Rattle.ps_rows.specs.PlaneCopies.{ArePlanesOf}
+use Rattle.ps_rows.specs.Planes.{AreSameFrom}
+use Rattle.ps_rows.specs.Sameness.{DifferOnlyOnRows}
+use Rattle.ps_rows.proofs.PlaneCopies.{all_copied, planes_and_rest, same_from}
+use Rattle.ps_rows.proofs.Passed.{own_order, planes_counted, planes_enough, words_whole}
 use Rattle.ps_rows.proofs.planes.Planes.copy_into.Goals as goal
 
-pub loop-plane-preserved : goal.loop-plane-preserved
-loop-plane-preserved g c =
+-- with the planes that are marked all are copied: those behind them are the same
+all_of_marked : (height planes marked count long : ℕ) (source others after : List (List Bool)) → 0 < height →
+    long ≡ length source → long ≡ count * height → planes * height ≤ long → marked ≤ planes →
+    length after ≡ length source → AreSameFrom (planes * height) source others →
+    ((plane : ℕ) → marked ≤ plane → plane < planes → DifferOnlyOnRows height plane source others no_columns) →
+    ArePlanesOf height 0 marked source others after → after ≡ source
+all_of_marked height planes marked count long source others after some all whole within few long' rest same copied =
+    all_copied height count source others after some (words_whole count height long source all whole) long'
+    (planes_and_rest height planes count source others after (planes_counted height planes count long some whole within)
+    (λ plane from below. same_from height planes source others rest plane from)
+    (planes_and_rest height marked planes source others after few same copied))
+
+pub returns-then-marked-most-clause-words : goal.returns-then-marked-most-clause-words
+returns-then-marked-most-clause-words g c =
     let p = c.args.self.now in
-    let was = c.loop-plane.invariant in
-    elim c.if-is_unmarked_plane.branch [
-      | then-is_unmarked_plane w ↦ rw (w.first-is, w.other-is) (record {
-        order = own_order (c.loop-plane.plane + 1);
-        copied = planes_and_same p.height c.loop-plane.first c.loop-plane.plane p.words.items
-            c.args.other.now.words.items c.loop-plane.other.words.items w.copy_planes.new.other.words.items was.order
-            (c.is_unmarked_plane.ensures w.if-is_unmarked_plane.true) was.copied w.copy_planes.ensures.words;
-        height = w.copy_planes.ensures.height;
-        count = w.copy_planes.ensures.count ∙ was.count;
-      })
-      | else-is_unmarked_plane+then-most-plane w ↦ rw (w.first-is, w.other-is) (record {
-        order = next_order c.loop-plane.plane c.loop-plane.plane (own_order c.loop-plane.plane);
-        copied = planes_then p.height c.loop-plane.first c.loop-plane.plane p.words.items c.args.other.now.words.items
-            c.loop-plane.other.words.items w.copy_planes-then-most-plane.new.other.words.items was.order was.copied
-            w.copy_planes-then-most-plane.ensures.words;
-        height = w.copy_planes-then-most-plane.ensures.height;
-        count = w.copy_planes-then-most-plane.ensures.count ∙ was.count;
-      })
-      | else-is_unmarked_plane+else-most-plane w ↦ rw (w.first-is, w.other-is) (record {
-        order = next_order c.loop-plane.first c.loop-plane.plane was.order;
-        copied = was.copied;
-        height = was.height;
-        count = was.count;
-      })
-    ]
+    let after = c.copy_planes.new.other.words in
+    all_of_marked p.height c.args.planes c.planes_marked-marked.result p.index.len p.words.len p.words.items
+    c.args.other.now.words.items after.items p.some_row p.words.ok.0 p.whole c.requires.within
+    c.planes_marked-marked.ensures.few
+    (sym after.ok.0 ∙ c.copy_planes.ensures.count ∙ c.requires.count ∙ p.words.ok.0) c.requires.rest
+    c.planes_marked-marked.ensures.same c.copy_planes.ensures.words
 
 pub returns-clause-words : goal.returns-clause-words
 returns-clause-words g c =
     let p = c.args.self.now in
-    let o = c.args.other.now in
-    let was = c.loop-plane.invariant in
-    let marked : ℕ = c.planes_marked-marked.result in
-    let order : c.loop-plane.first ≤ marked =
-    two_up c.loop-plane.first c.loop-plane.plane marked was.order c.loop-plane.auto.plane-end in
-    let whole : length p.words.items ≤ p.index.len * p.height =
-    words_whole p.index.len p.height p.words.len p.words.items p.words.ok.0 p.whole in
-    let all : c.args.planes ≤ p.index.len = planes_counted p.height c.args.planes p.index.len p.words.len
-    p.some_row p.whole c.requires.within in
-    all_copied p.height p.index.len p.words.items o.words.items c.copy_planes-2.new.other.words.items
-    p.some_row whole
-    (sym c.copy_planes-2.new.other.words.ok.0 ∙ c.copy_planes-2.ensures.count ∙ was.count ∙ p.words.ok.0)
-    (planes_and_rest p.height c.args.planes p.index.len p.words.items o.words.items
-    c.copy_planes-2.new.other.words.items
-    all
-    (λ plane from below. same_from p.height c.args.planes p.words.items o.words.items c.requires.rest plane from)
-    (planes_and_rest p.height marked c.args.planes p.words.items o.words.items c.copy_planes-2.new.other.words.items
-    c.planes_marked-marked.ensures.few c.planes_marked-marked.ensures.same
-    (planes_then p.height c.loop-plane.first marked p.words.items o.words.items
-    c.loop-plane.other.words.items c.copy_planes-2.new.other.words.items order was.copied
-    c.copy_planes-2.ensures.words)))
+    let after = c.copy_pieces.new.other.words in
+    all_of_marked p.height c.args.planes c.planes_marked-marked.result p.index.len p.words.len p.words.items
+    c.args.other.now.words.items after.items p.some_row p.words.ok.0 p.whole c.requires.within
+    c.planes_marked-marked.ensures.few
+    (sym after.ok.0 ∙ c.copy_pieces.ensures.count ∙ p.words.ok.0) c.requires.rest
+    c.planes_marked-marked.ensures.same c.copy_pieces.ensures.words
 
 pub planes_marked-marked-requires : goal.planes_marked-marked-requires
 planes_marked-marked-requires g c =
@@ -71,71 +48,26 @@ planes_marked-marked-requires g c =
           c.args.other.now.words.len (own_order c.args.planes) c.requires.within c.requires.count;
     }
 
-pub loop-plane-init : goal.loop-plane-init
-loop-plane-init g c =
-    record {
-      order = own_order 0;
-      copied = none_copied c.args.self.now.height 0 c.args.self.now.words.items c.args.other.now.words.items;
-      height = c.requires.height;
-      count = c.requires.count;
-    }
-
-pub is_unmarked_plane-requires : goal.is_unmarked_plane-requires
-is_unmarked_plane-requires g c =
-    let p = c.args.self.now in
-    let few = c.planes_marked-marked.ensures.few in
-    record {
-      height = c.loop-plane.invariant.height;
-      here = next_enough p.height c.loop-plane.plane c.planes_marked-marked.result c.args.planes p.words.len p.words.len
-          c.loop-plane-test.true few c.requires.within refl;
-      there = next_enough p.height c.loop-plane.plane c.planes_marked-marked.result c.args.planes p.words.len
-          c.loop-plane.other.words.len c.loop-plane-test.true few c.requires.within c.loop-plane.invariant.count;
-    }
-
 pub copy_planes-requires : goal.copy_planes-requires
 copy_planes-requires g c =
     let p = c.args.self.now in
-    let plane : ℕ = c.loop-plane.plane in
-    let order : plane ≤ c.args.planes = two_up plane c.planes_marked-marked.result c.args.planes
-    c.loop-plane.auto.plane-end c.planes_marked-marked.ensures.few in
-    record {
-      order = c.loop-plane.invariant.order;
-      height = c.loop-plane.invariant.height;
-      here = planes_enough p.height plane c.args.planes p.words.len p.words.len order c.requires.within refl;
-      there = planes_enough p.height plane c.args.planes p.words.len c.loop-plane.other.words.len order
-          c.requires.within c.loop-plane.invariant.count;
-    }
-
-pub copy_planes-requires-then-most-plane : goal.copy_planes-requires-then-most-plane
-copy_planes-requires-then-most-plane g c =
-    let p = c.args.self.now in
-    let plane : ℕ = c.loop-plane.plane in
-    let order : plane ≤ c.args.planes = two_up plane c.planes_marked-marked.result c.args.planes
-    c.loop-plane.auto.plane-end c.planes_marked-marked.ensures.few in
-    record {
-      order = c.loop-plane.invariant.order;
-      height = c.loop-plane.invariant.height;
-      here = planes_enough p.height plane c.args.planes p.words.len p.words.len order c.requires.within refl;
-      there = planes_enough p.height plane c.args.planes p.words.len c.loop-plane.other.words.len order
-          c.requires.within c.loop-plane.invariant.count;
-    }
-
-pub copy_planes-requires-2 : goal.copy_planes-requires-2
-copy_planes-requires-2 g c =
-    let p = c.args.self.now in
-    let was = c.loop-plane.invariant in
+    let few = c.planes_marked-marked.ensures.few in
     let marked : ℕ = c.planes_marked-marked.result in
+    record {
+      order = omega arith;
+      height = c.requires.height;
+      here = planes_enough p.height marked c.args.planes p.words.len p.words.len few c.requires.within refl;
+      there = planes_enough p.height marked c.args.planes p.words.len c.args.other.now.words.len few c.requires.within
+          c.requires.count;
+    }
+
+pub copy_pieces-requires : goal.copy_pieces-requires
+copy_pieces-requires g c =
+    let p = c.args.self.now in
     let few = c.planes_marked-marked.ensures.few in
     record {
-      order = two_up c.loop-plane.first c.loop-plane.plane marked was.order c.loop-plane.auto.plane-end;
-      height = was.height;
-      here = planes_enough p.height marked c.args.planes p.words.len p.words.len few c.requires.within refl;
-      there = planes_enough p.height marked c.args.planes p.words.len c.loop-plane.other.words.len few
-          c.requires.within was.count;
+      height = c.requires.height;
+      here = planes_enough p.height c.planes_marked-marked.result c.args.planes p.words.len p.words.len few
+          c.requires.within refl;
+      count = c.requires.count;
     }
-
-pub returns-clause-height : goal.returns-clause-height
-returns-clause-height g c = c.copy_planes-2.ensures.height
-
-pub returns-clause-count : goal.returns-clause-count
-returns-clause-count g c = c.copy_planes-2.ensures.count ∙ c.loop-plane.invariant.count

@@ -1,6 +1,6 @@
 use Rattle.std.proofs.Common.{◌≡◌, ◌≤◌}
 use Rattle.ps_rows.specs.PlaneCopies.{ArePlanesOf}
-use Rattle.ps_rows.proofs.planes.Planes.copy_into.Given as goal
+use Rattle.ps_rows.proofs.planes.Planes.copy_pieces.Given as goal
 
 -- the planes before the first one that is still to be copied are the same
 abbrev pub invariant-loop-plane : goal.invariant-loop-plane
