@@ -111,9 +111,10 @@ pub fn differences<W: ColumnWords>(
 {
     let mut found = Vec::new(alloc);
     let marked = first.planes_marked(second, planes as usize);
+    let most = first.words.len() / 2;
     for plane in 0..marked {
         add_differences(first, second, plane as u32, &mut found)?;
-        if found.len() > first.words.len() / 2 {
+        if most < found.len() {
             return Ok(None);
         }
     }
