@@ -11,6 +11,7 @@ pub mod Rests
 pub mod Whole
 pub mod Scans
 pub mod RowsKept
+pub mod RowsOfPlanes
 pub mod Rows
 pub mod Alike
 pub mod RowSets

@@ -265,7 +265,7 @@ marked_plane count height plane mark source before after index own changed marke
     ]
 
 -- a row of planes, by its plane and its number there
-at_place : (height i : ℕ) (words : List (List Bool)) → row_of words i ≡ row_of words (i / height * height + i % height)
+pub at_place : (height i : ℕ) (words : List (List Bool)) → row_of words i ≡ row_of words (i / height * height + i % height)
 at_place height i words = ap (λ (k : ℕ). row_of words k) (sym (div-add-mod' i height))
 
 -- each row is a set

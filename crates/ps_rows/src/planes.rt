@@ -92,6 +92,29 @@ fn copy_sets<W: ColumnWords>(
     others[first..end].copy_from_slice(&sets[first..end]);
 }
 
+/// Makes rows of a plane of others the same, those in a set.
+fn copy_row_sets<W: ColumnWords>(
+    words: &[Columns<W>],
+    others: &mut [Columns<W>],
+    height: u32,
+    plane: u32,
+    rows: Columns<W>,
+)
+    requires short { height ≤ SIDE_LIMIT }
+    requires rows { (row : ℕ) → row < SIDE_LIMIT → height ≤ row → column_at rows row ≡ false }
+    requires here { (plane + 1) * height ≤ length words.now }
+    requires there { (plane + 1) * height ≤ length others.old }
+    ensures words { AreRowsOf height plane (plane + 1) rows words.now others.old others.new }
+    ensures long { length others.new ≡ length others.old }
+{
+    let start = plane as usize * height as usize;
+    let mut left = rows;
+    while let Some(row) = left.take_first() {
+        let place = start + row as usize;
+        others[place] = words[place];
+    }
+}
+
 impl<W: ColumnWords> Planes<W> {
     /// So many planes of a height, without columns. Nothing, where there is no memory.
     pub fn try_new(alloc: Global, count: u32, height: u32) -> Result<Planes<W>, Memory>
@@ -405,6 +428,7 @@ impl<W: ColumnWords> Planes<W> {
     /// Makes rows of a plane of others the same, those in a set that are marked on either side.
     fn copy_rows_of(&self, other: &mut Planes<W>, plane: u32, rows: Columns<W>)
         requires height { other.old.height ≡ self.now.height }
+        requires rows { (row : ℕ) → row < SIDE_LIMIT → self.now.height ≤ row → column_at rows row ≡ false }
         requires here { (plane + 1) * self.now.height ≤ vec_len self.now.words }
         requires there { (plane + 1) * self.now.height ≤ vec_len other.old.words }
         ensures words { let p = self.now in
@@ -412,13 +436,15 @@ impl<W: ColumnWords> Planes<W> {
         ensures height { other.new.height ≡ self.now.height }
         ensures count { vec_len other.new.words ≡ vec_len other.old.words }
     {
-        let marked = self.rows_of(plane).either(other.rows_of(plane));
-        let wanted = rows.both(marked);
-        let mut left = wanted.both(Columns::below(self.height));
-        while let Some(row) = left.take_first() {
-            let word = self.row(plane, row);
-            other.set_row(plane, row, word);
+        let here = self.rows_of(plane);
+        let there = other.rows_of(plane);
+        let wanted = rows.both(here.either(there));
+        if wanted.is_empty() {
+            return;
         }
+        let words = other.words.as_mut_slice();
+        copy_row_sets(self.words.as_slice(), words, self.height, plane, wanted);
+        other.index[plane as usize] = there.without(wanted).either(here.both(wanted));
     }
 
     /// Makes rows of so many planes of others, the first ones, the same, those in a set. What neither side has marked
@@ -432,8 +458,9 @@ impl<W: ColumnWords> Planes<W> {
         ensures height { other.new.height ≡ self.now.height }
         ensures count { vec_len other.new.words ≡ vec_len other.old.words }
     {
+        let within = rows.both(Columns::below(self.height));
         for plane in 0..planes {
-            self.copy_rows_of(other, plane, rows);
+            self.copy_rows_of(other, plane, within);
         }
     }
 
