@@ -268,7 +268,9 @@ impl<W: ColumnWords> Planes<W> {
         ensures height { self.new.height ≡ self.old.height }
         ensures count { vec_len self.new.words ≡ vec_len self.old.words }
     {
-        self.set_cell(cell % self.height, cell / self.height, plane, true);
+        let (row, column) = (cell % self.height, cell / self.height);
+        let word = self.row(plane, row).with(column, true);
+        self.set_row(plane, row, word);
     }
 
     /// Puts a cell into the chosen one of these planes, if one is chosen, and takes it away from the others.
