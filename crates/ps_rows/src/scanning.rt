@@ -26,6 +26,13 @@ pub(crate) fn asks_no_more(mask: &CellMask) -> bool
     mask.one_of.as_slice().is_empty() && mask.motions.as_slice().is_empty()
 }
 
+/// Whether a mask has no lists.
+fn has_no_lists(mask: &CellMask) -> bool
+    ensures { result ≡ true → (mask_shown mask.now).one_of ≡ [] }
+{
+    mask.one_of.as_slice().is_empty()
+}
+
 impl<W: ColumnWords> RowBoard<W> {
     /// All columns of the board, where rest is asked for, and else none.
     fn still_row(&self, motion: Motion) -> Columns<W>
@@ -131,7 +138,7 @@ impl<W: ColumnWords> RowBoard<W> {
     /// Those of some columns of a row in which one object of each of a mask's lists stands, and each layer has the
     /// motion that is asked for.
     ///
-    /// Few masks ask for either, so that this is apart from what all of them need.
+    /// Few masks have lists, so that this is apart from what all of them need.
     #[inline(never)]
     pub(crate) fn narrowed_row(&self, mask: &CellMask, row: u32, columns: Columns<W>) -> Columns<W>
         requires { row < self.now.planes.height }
@@ -146,6 +153,19 @@ impl<W: ColumnWords> RowBoard<W> {
         let listed = self.lists_row(mask.one_of.as_slice(), row);
         let moving = self.motions_row(mask.motions.as_slice(), row);
         columns.both(listed).both(moving)
+    }
+
+    /// Those of some columns of a row in which each layer has the motion that a mask without lists asks for.
+    fn moving_as_asked(&self, mask: &CellMask, row: u32, columns: Columns<W>) -> Columns<W>
+        requires row { row < self.now.planes.height }
+        requires lists { (mask_shown mask.now).one_of ≡ [] }
+        ensures inside { let asked = narrowed (mask_shown mask.now) in
+            IsPartOf (⟦<RowBoard<W> as Board>⟧.grid self.now) row columns result asked }
+        ensures within { let g = ⟦<RowBoard<W> as Board>⟧.grid self.now in IsWithin g columns → IsWithin g result }
+        ensures set { IsSet result }
+    {
+        let moving = self.motions_row(mask.motions.as_slice(), row);
+        columns.both(moving)
     }
 
     /// The cells of a row that have all that a mask needs, and nothing that it bars.
@@ -173,8 +193,8 @@ impl<W: ColumnWords> RowBoard<W> {
             return Columns::none();
         }
         let free = self.free_row(mask, row, needed);
-        if asks_no_more(mask) {
-            return free;
+        if has_no_lists(mask) {
+            return self.moving_as_asked(mask, row, free);
         }
         self.narrowed_row(mask, row, free)
     }

@@ -6,7 +6,7 @@ use Rattle.ps_rows.specs.Planes.{IsSet}
 use Rattle.ps_rows.specs.Showing.{grid_shown}
 use Rattle.ps_rows.specs.RowTests.{IsRowOf, held_all}
 use Rattle.ps_rows.proofs.Absent.{mask_nowhere, none_within}
-use Rattle.ps_rows.proofs.Scans.{mask_free, mask_narrowed}
+use Rattle.ps_rows.proofs.Scans.{mask_narrowed}
 use Rattle.ps_rows.proofs.Sets.{set_where}
 use Rattle.ps_rows.proofs.row_board.RowBoard.mask_row.Goals as goal
 
@@ -38,13 +38,15 @@ free_row-free-requires-clause-needed g c =
     let Listed : List LayeredObject → Type 0 = λ xs. IsRowOf grid c.args.row c.all_row-needed.result (held_all xs) in
     subst Listed c.as_slice.ensures c.all_row-needed.ensures
 
-pub returns-then-asks_no_more-clause-inside : goal.returns-then-asks_no_more-clause-inside
-returns-then-asks_no_more-clause-inside g c =
+pub returns-then-has_no_lists-clause-inside : goal.returns-then-has_no_lists-clause-inside
+returns-then-has_no_lists-clause-inside g c =
     let b = c.args.self.now in
     let grid : Grid = grid_shown b.members.table.items b.width b.planes.height b.layers b.planes.words.items in
-    mask_free grid c.args.row c.free_row-free.result (mask_shown c.args.mask.now)
-    (c.asks_no_more.ensures.lists c.if-asks_no_more.true) (c.asks_no_more.ensures.motions c.if-asks_no_more.true)
-    c.free_row-free.ensures.inside
+    mask_narrowed grid c.args.row c.free_row-free.result c.moving_as_asked.result (mask_shown c.args.mask.now)
+    c.free_row-free.ensures.inside c.moving_as_asked.ensures.inside
+
+pub returns-then-has_no_lists-clause-within : goal.returns-then-has_no_lists-clause-within
+returns-then-has_no_lists-clause-within g c = c.moving_as_asked.ensures.within c.free_row-free.ensures.within
 
 pub returns-clause-inside : goal.returns-clause-inside
 returns-clause-inside g c =
