@@ -4,13 +4,13 @@ use Rattle.std.proofs.Common.{Option, List, [], ◌∷◌, length, refl, sym, ap
 use Rattle.std.specs.Prelude.{nat_eq, nat_le, nat_lt, if◌then◌else◌}
 use Rattle.std.proofs.Math.Bool.{and-false}
 use Rattle.std.proofs.lemmas.Bool.Decides.{nat_tests}
-use Rattle.std.proofs.lemmas.Bool.{cases_eq, cases_lt, not-false, not-true}
+use Rattle.std.proofs.lemmas.Bool.{cases_eq, cases_lt, not-false, not-true, or_parts}
 use Rattle.ps_model.specs.declared.limits.TheConstants.{SIDE_LIMIT}
 use Rattle.ps_model.specs.board.Grid.{Grid}
 use Rattle.ps_board.specs.ColumnSets.{both_columns, column_at, columns_below, columns_without, no_columns, set_columns}
-use Rattle.ps_board.specs.ColumnSets.{with_column}
+use Rattle.ps_board.specs.ColumnSets.{either_columns, with_column}
 use Rattle.ps_board.proofs.ColumnLaws.{below_at, column_at-beyond, column_at-where, first_in, none_in, with_here}
-use Rattle.ps_board.proofs.ColumnLaws.{with_other}
+use Rattle.ps_board.proofs.ColumnLaws.{none_on, set_columns-are, with_other}
 use Rattle.ps_board.proofs.Taken.{first_least, in_both, taken_out, was_in}
 use Rattle.ps_program.specs.declared.cells.CompiledCell.{CompiledCell}
 use Rattle.ps_program.specs.declared.rows.Axis.{Axis}
@@ -18,7 +18,8 @@ use Rattle.ps_program.specs.declared.rows.Axis.TheVariants.{Down, Right}
 use Rattle.ps_places.specs.Candidates.{BeginsOnlyOn}
 use Rattle.ps_places.specs.Lines.{part_fits}
 use Rattle.ps_places.specs.PartStarts.{AreStarts, begins_at, columns_on, is_start}
-use Rattle.ps_places.specs.RowsFound.{AreRowsBegun, AreRowsBelow, BeginBetween, rows_with_room}
+use Rattle.ps_places.specs.RowsFound.{AreEmptyBetween, AreRowsBegun, AreRowsBelow, AreRowsBetween, BeginBetween}
+use Rattle.ps_places.specs.RowsFound.{rows_with_room}
 use Rattle.ps_places.specs.Starts.{AreWhere}
 use Rattle.ps_places.proofs.LineSets.{none_has}
 
@@ -67,6 +68,40 @@ all_below rows others end count is none few below row on =
           let clash : true ≡ false =
           sym (ap₂ (λ (a b : Bool). a && not b) on
           (below_at end row (omega (arith, below row on, few)) ∙ t)) ∙ out in absurd (cc)
+
+-- a set without a column is empty
+pub empty_of : (set : List Bool) → ((x : ℕ) → x < SIDE_LIMIT → column_at set x ≡ false) → set_columns set ≡ []
+empty_of set none =
+    set_columns-are set (λ x. false) none ∙ none_on (λ x. false) 0 SIDE_LIMIT (λ x low high. refl)
+
+-- what isn't in one of two sets is in neither
+pub neither_has : (one other joined : List Bool) (x : ℕ) → joined ≡ either_columns one other → x < SIDE_LIMIT →
+    column_at joined x ≡ false → (column_at one x ≡ false) × (column_at other x ≡ false)
+neither_has one other joined x is low none =
+    or_parts (column_at one x) (column_at other x)
+    (sym (column_at-where (λ y. column_at one y || column_at other y) x low)
+    ∙ ap (λ (set : List Bool). column_at set x) (sym is) ∙ none)
+
+-- rows below an end lie between the first of them and the end
+pub lie_between : (rows left : List Bool) (first end : ℕ) → set_columns rows ≡ first ∷ set_columns left →
+    AreRowsBelow rows end → AreRowsBetween rows first end
+lie_between rows left first end taken below = λ row on.
+    let from : first ≤ row = elim (cases_lt row first) [
+      | inl less ↦
+          let clash : false ≡ true = sym (first_least rows first row (set_columns left) taken less) ∙ on in absurd (cc)
+      | inr high ↦ high
+    ] in
+    (from, below row on)
+
+-- the rows from the first one to the end have no column
+pub begun-none : (rows none : List Bool) (starts : List (List Bool)) (first end : ℕ) → none ≡ no_columns →
+    AreRowsBetween rows first end → AreEmptyBetween first end starts → AreRowsBegun rows starts none
+begun-none rows none starts first end is between empty =
+    record {
+      inside = λ row on. let clash : false ≡ true = sym (none_has none row is) ∙ on in absurd (cc);
+      some = λ row on. let clash : false ≡ true = sym (none_has none row is) ∙ on in absurd (cc);
+      none = λ row low on out. let at = between row on in empty row at.0 at.1;
+    }
 
 -- the rows that aren't left are told of
 pub record AreBegunBut (rows : List Bool) (starts : List (List Bool)) (begun left : List Bool) : Type 0 where

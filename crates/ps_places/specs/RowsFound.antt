@@ -33,6 +33,14 @@ rows_with_room Right height cells = height
 abbrev pub AreRowsBelow : List Bool → ℕ → Type 0
 AreRowsBelow rows end = (row : ℕ) → column_at rows row ≡ true → row < end
 
+-- all of them lie from one number to another
+abbrev pub AreRowsBetween : List Bool → ℕ → ℕ → Type 0
+AreRowsBetween rows first end = (row : ℕ) → column_at rows row ≡ true → (first ≤ row) × (row < end)
+
+-- no row from one number to another has a column
+abbrev pub AreEmptyBetween : ℕ → ℕ → List (List Bool) → Type 0
+AreEmptyBetween first end starts = (row : ℕ) → first ≤ row → row < end → set_columns (columns_on starts row) ≡ []
+
 -- those of some rows whose sets have a column
 pub record AreRowsBegun (rows : List Bool) (starts : List (List Bool)) (begun : List Bool) : Type 0 where
   pub inside : (row : ℕ) → column_at begun row ≡ true → column_at rows row ≡ true

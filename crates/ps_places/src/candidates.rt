@@ -30,6 +30,7 @@ fn rows_of_mask<B: Scan>(board: &B, mask: &CellMask) -> Columns<B::Words>
 }
 
 /// The rows of the board on which a part that goes right may have its first cell.
+#[inline(always)]
 fn rows_across<B: Scan>(board: &B, part: &[CompiledCell]) -> Columns<B::Words>
     ensures { BeginsOnlyOn (B.grid board.now) (B.table board.now) Right part.now result }
 {
@@ -46,6 +47,7 @@ fn rows_across<B: Scan>(board: &B, part: &[CompiledCell]) -> Columns<B::Words>
 
 /// The rows of the board on which a part that goes down may have its first cell: each cell tells it by the rows that
 /// lie so many steps above those that may fit it.
+#[inline(always)]
 fn rows_down<B: Scan>(board: &B, part: &[CompiledCell]) -> Columns<B::Words>
     ensures { BeginsOnlyOn (B.grid board.now) (B.table board.now) Down part.now result }
 {
@@ -66,6 +68,7 @@ fn rows_down<B: Scan>(board: &B, part: &[CompiledCell]) -> Columns<B::Words>
 }
 
 /// The rows of the board on which a part may have its first cell.
+#[inline(always)]
 pub fn rows_of_part<B: Scan>(board: &B, axis: Axis, part: &[CompiledCell]) -> Columns<B::Words>
     ensures { BeginsOnlyOn (B.grid board.now) (B.table board.now) axis part.now result }
 {

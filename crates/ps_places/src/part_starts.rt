@@ -10,7 +10,8 @@ ghost use Rattle.ps_places.specs.Lines.{part_meaning};
 ghost use Rattle.ps_program.specs.declared.rows.Axis.TheVariants.{Down, Right};
 ghost use Rattle.ps_places.specs.PartStarts.{AreStarts, begins_at};
 ghost use Rattle.ps_places.specs.Starts.{AreWhere};
-ghost use Rattle.ps_places.specs.RowsFound.{AreBothBehind, AreRowsBegun, AreRowsBelow, BeginBetween, BeginOnRows};
+ghost use Rattle.ps_places.specs.RowsFound.{AreBothBehind, AreEmptyBetween, AreRowsBegun, AreRowsBelow, AreRowsBetween};
+ghost use Rattle.ps_places.specs.RowsFound.{BeginBetween, BeginOnRows};
 ghost use Rattle.ps_places.specs.RowsFound.{rows_with_room};
 
 use crate::candidates::rows_of_part;
@@ -183,6 +184,19 @@ fn find_between<B: Scan>(
     }
 }
 
+/// Whether no set of the rows from the first one to the end has a column. All are looked at in one go, without a test
+/// for each.
+fn are_empty<W: ColumnWords>(starts: &[Columns<W>], first: u32, end: u32) -> bool
+    requires { end ≤ length starts.now }
+    ensures { result ≡ true → AreEmptyBetween first end starts.now }
+{
+    let mut joined = Columns::none();
+    for row in first as usize..end as usize {
+        joined = joined.either(starts[row]);
+    }
+    joined.is_empty()
+}
+
 /// Those of some rows whose sets have a column.
 fn rows_begun<W: ColumnWords>(rows: Columns<W>, starts: &[Columns<W>]) -> Columns<W>
     requires { SIDE_LIMIT ≤ length starts.now }
@@ -196,7 +210,28 @@ fn rows_begun<W: ColumnWords>(rows: Columns<W>, starts: &[Columns<W>]) -> Column
     begun
 }
 
+/// Those of some rows, from the first one to the end, whose sets have a column. Where the first row has none, as a rule
+/// no other one has.
+fn begun_between<W: ColumnWords>(
+    rows: Columns<W>,
+    first: u32,
+    end: u32,
+    starts: &[Columns<W>],
+) -> Columns<W>
+    requires some { first < end }
+    requires below { end ≤ SIDE_LIMIT }
+    requires room { SIDE_LIMIT ≤ length starts.now }
+    requires between { AreRowsBetween rows first end }
+    ensures { AreRowsBegun rows starts.now result }
+{
+    if starts[first as usize].is_empty() && are_empty(starts, first, end) {
+        return Columns::none();
+    }
+    rows_begun(rows, starts)
+}
+
 /// Finds the columns in which a part begins of the only one of some rows, and answers these rows, where it has one.
+#[inline(always)]
 fn find_on_row<B: Scan>(
     board: &B,
     axis: Axis,
@@ -263,7 +298,7 @@ pub fn find_rows<B: Scan>(
     }
     let end = end_of(rows, first, count);
     find_between(board, axis, part, first, end, starts, scanned);
-    rows_begun(rows, starts)
+    begun_between(rows, first, end, starts)
 }
 
 impl<W: ColumnWords> RowRoom<Columns<W>> {

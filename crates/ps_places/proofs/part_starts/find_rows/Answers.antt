@@ -7,7 +7,8 @@ use Rattle.ps_places.specs.RowsFound.{rows_with_room}
 use Rattle.ps_model.specs.declared.limits.TheConstants.{SIDE_LIMIT}
 use Rattle.ps_places.proofs.SmallSteps.{at_least, at_most}
 use Rattle.ps_laws.proofs.common.Orders.{less_up, two_up}
-use Rattle.ps_places.proofs.FoundRows.{count_few, count_of, no_starts, only_on, rows_below, starts_between}
+use Rattle.ps_places.proofs.FoundRows.{count_few, count_of, lie_between, no_starts, only_on, rows_below}
+use Rattle.ps_places.proofs.FoundRows.{starts_between}
 use Rattle.ps_places.proofs.part_starts.find_rows.Goals as goal
 
 next_of : (row first : ℕ) → row ≡ first → row < first + 1
@@ -52,9 +53,9 @@ returns-clause-starts g c =
     c.rows_with_room-count.ensures c.size-width.ensures.height in
     starts_between grid (g.B.Board.table c.args.board.now) c.args.axis c.args.part.now c.rows_of_part.result
     c.below.result c.both-rows.result c.rows_with_room-count.result c.size-width.ensures.shape.rows many c.below.ensures
-    c.both-rows.ensures c.rows_of_part.ensures c.requires.whole c.find_between.new.starts c.rows_begun.result
+    c.both-rows.ensures c.rows_of_part.ensures c.requires.whole c.find_between.new.starts c.begun_between.result
     c.take_first.new.self c.in-Some.first c.end_of-end.result c.in-Some.ensures.some c.end_of-end.ensures.rows
-    c.find_between.ensures.begun c.rows_begun.ensures
+    c.find_between.ensures.begun c.begun_between.ensures
 
 pub find_on_row-requires-clause-row : goal.find_on_row-requires-clause-row
 find_on_row-requires-clause-row g c =
@@ -146,8 +147,27 @@ find_between-requires-clause-room g c = c.requires.room
 pub find_between-requires-clause-scanned : goal.find_between-requires-clause-scanned
 find_between-requires-clause-scanned g c = c.requires.scanned
 
-pub rows_begun-requires : goal.rows_begun-requires
-rows_begun-requires g c =
+pub begun_between-requires-clause-some : goal.begun_between-requires-clause-some
+begun_between-requires-clause-some g c = c.end_of-end.ensures.first
+
+pub begun_between-requires-clause-below : goal.begun_between-requires-clause-below
+begun_between-requires-clause-below g c =
+    let grid : Grid = g.B.Board.grid c.args.board.now in
+    let many : c.rows_with_room-count.result ≡ rows_with_room c.args.axis grid.height (length c.args.part.now) =
+    count_of c.args.axis c.rows_with_room-count.result c.size-width.result.1 grid.height (length c.args.part.now)
+    c.rows_with_room-count.ensures c.size-width.ensures.height in
+    two_up c.end_of-end.result c.rows_with_room-count.result SIDE_LIMIT c.end_of-end.ensures.below
+    (two_up c.rows_with_room-count.result grid.height SIDE_LIMIT
+    (count_few c.args.axis c.rows_with_room-count.result grid.height (length c.args.part.now) c.requires.whole many)
+    c.size-width.ensures.shape.rows)
+
+pub begun_between-requires-clause-between : goal.begun_between-requires-clause-between
+begun_between-requires-clause-between g c =
+    lie_between c.both-rows.result c.take_first.new.self c.in-Some.first c.end_of-end.result c.in-Some.ensures.some
+    c.end_of-end.ensures.rows
+
+pub begun_between-requires-clause-room : goal.begun_between-requires-clause-room
+begun_between-requires-clause-room g c =
     at_least SIDE_LIMIT (length c.find_between.new.starts) (length c.args.starts.now) c.find_between.ensures.long
     c.requires.room
 
