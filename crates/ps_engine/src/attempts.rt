@@ -97,8 +97,41 @@ pub fn attempt_rows<'r, B: Scan>(
     walk(board, rows, rooms, rule.sleeps)
 }
 
+/// An attempt of a rule by its kind: of commands alone, of one row of one part, with a writer, or any other.
+#[inline(never)]
+fn attempt_by_kind<'r, B: Scan>(
+    rule: &CompiledRule<'r>,
+    board: &mut B,
+    queue: &mut LentQueue<'r>,
+    rooms: &mut [RoomFor<B>],
+) -> bool
+    requires { length rule.now.rows ≤ length rooms.old }
+    ensures attempt { let before : State = record { grid = B.grid board.old; queue = queue.old } in
+        let after : State = record { grid = B.grid board.new; queue = queue.new } in
+        let all : Meant = record { state = after; changed = result } in
+        all ≡ attempt (rule_meaning (B.table board.old) rule.now) before }
+    ensures table { B.table board.new ≡ B.table board.old }
+    ensures sides { sides_of (B.grid board.new) ≡ sides_of (B.grid board.old) }
+    ensures rooms { length rooms.new ≡ length rooms.old }
+{
+    if !rule.rewrites {
+        attempt_commands(rule, board, queue, rooms);
+        return false;
+    }
+    let rows = rule.rows.as_slice();
+    if let Some(part) = only_part(rows) {
+        return attempt_part(rule, part, board, queue, rooms);
+    }
+    if let Some(writer) = rule.writer {
+        return attempt_writer(rule, writer, board, queue, &mut rooms[0]);
+    }
+    attempt_rows(rule, board, queue, rooms)
+}
+
 /// An attempt of a rule: all combinations of its places are applied in order, each if every row still fits, and its
-/// commands enter the queue, if it has a combination. Answers whether a cell changed. No memory is taken.
+/// commands enter the queue, if it has a combination. Answers whether a cell changed. No memory is taken. Most rules
+/// of a large game need an object that is nowhere, and so this is asked in line.
+#[inline(always)]
 pub fn attempt<'r, B: Scan>(
     rule: &CompiledRule<'r>,
     board: &mut B,
@@ -117,16 +150,5 @@ pub fn attempt<'r, B: Scan>(
     if lacks_object(board, rule) {
         return false;
     }
-    if !rule.rewrites {
-        attempt_commands(rule, board, queue, rooms);
-        return false;
-    }
-    let rows = rule.rows.as_slice();
-    if let Some(part) = only_part(rows) {
-        return attempt_part(rule, part, board, queue, rooms);
-    }
-    if let Some(writer) = rule.writer {
-        return attempt_writer(rule, writer, board, queue, &mut rooms[0]);
-    }
-    attempt_rows(rule, board, queue, rooms)
+    attempt_by_kind(rule, board, queue, rooms)
 }

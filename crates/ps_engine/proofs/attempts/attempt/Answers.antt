@@ -1,14 +1,11 @@
-use Rattle.std.proofs.Common.{ℕ, Option, List, refl, ◌∙◌, ap, sym, length}
-use Rattle.std.proofs.lemmas.List.{length-set}
+use Rattle.std.proofs.Common.{ℕ, Option, List, refl}
 use Rattle.ps_model.specs.board.Grid.{Grid}
 use Rattle.ps_model.specs.board.Attempts.{combinations_on}
 use Rattle.ps_program.specs.CommandsShown.{commands_shown}
 use Rattle.ps_program.specs.Axes.{direction_of}
 use Rattle.ps_engine.specs.Choosing.{rows_meaning}
 use Rattle.ps_engine.specs.RulesInRoom.{rule_meaning}
-use Rattle.ps_engine.specs.OnePart.{rows_parts}
 use Rattle.ps_engine.proofs.Attempting.{attempt_none}
-use Rattle.ps_engine.proofs.Within.{writer_room}
 use Rattle.ps_engine.proofs.attempts.attempt.Goals as goal
 
 pub returns-then-lacks_object-clause-attempt : goal.returns-then-lacks_object-clause-attempt
@@ -20,9 +17,6 @@ returns-then-lacks_object-clause-attempt g c =
     (commands_shown rule.commands.now) grid c.args.queue.now
     (combinations_on grid (rule_meaning table rule)) (c.lacks_object.ensures c.if-lacks_object.true)
 
-pub returns-then-not-rule-clause-attempt : goal.returns-then-not-rule-clause-attempt
-returns-then-not-rule-clause-attempt g c = c.attempt_commands.ensures.attempt
-
 pub returns-then-lacks_object-clause-table : goal.returns-then-lacks_object-clause-table
 returns-then-lacks_object-clause-table g c = refl
 
@@ -32,82 +26,17 @@ returns-then-lacks_object-clause-sides g c = refl
 pub returns-then-lacks_object-clause-rooms : goal.returns-then-lacks_object-clause-rooms
 returns-then-lacks_object-clause-rooms g c = refl
 
-pub attempt_commands-requires-clause-long : goal.attempt_commands-requires-clause-long
-attempt_commands-requires-clause-long g c = c.requires
-
-pub attempt_commands-requires-clause-commands : goal.attempt_commands-requires-clause-commands
-attempt_commands-requires-clause-commands g c = c.if-not-rule.true
-
-pub returns-then-not-rule-clause-table : goal.returns-then-not-rule-clause-table
-returns-then-not-rule-clause-table g c = refl
-
-pub returns-then-not-rule-clause-sides : goal.returns-then-not-rule-clause-sides
-returns-then-not-rule-clause-sides g c = refl
-
-pub returns-then-not-rule-clause-rooms : goal.returns-then-not-rule-clause-rooms
-returns-then-not-rule-clause-rooms g c = c.attempt_commands.ensures.rooms
-
-pub attempt_part-requires-clause-only : goal.attempt_part-requires-clause-only
-attempt_part-requires-clause-only g c = ap rows_parts (sym c.as_slice-rows.ensures) ∙ c.in-Some.ensures.only
-
-pub attempt_part-requires-clause-whole : goal.attempt_part-requires-clause-whole
-attempt_part-requires-clause-whole g c = c.in-Some.ensures.whole
-
-pub attempt_part-requires-clause-rewrites : goal.attempt_part-requires-clause-rewrites
-attempt_part-requires-clause-rewrites g c = c.if-not-rule.false
-
-pub attempt_part-requires-clause-rooms : goal.attempt_part-requires-clause-rooms
-attempt_part-requires-clause-rooms g c = c.requires
-
-pub returns-in-Some-clause-attempt : goal.returns-in-Some-clause-attempt
-returns-in-Some-clause-attempt g c = c.attempt_part.ensures.attempt
-
-pub returns-in-Some-clause-table : goal.returns-in-Some-clause-table
-returns-in-Some-clause-table g c = c.attempt_part.ensures.table
-
-pub returns-in-Some-clause-sides : goal.returns-in-Some-clause-sides
-returns-in-Some-clause-sides g c = c.attempt_part.ensures.sides
-
-pub returns-in-Some-clause-rooms : goal.returns-in-Some-clause-rooms
-returns-in-Some-clause-rooms g c = c.attempt_part.ensures.rooms
-
-pub attempt_writer-requires-clause-writer : goal.attempt_writer-requires-clause-writer
-attempt_writer-requires-clause-writer g c = c.in-Some-writer.is
-
-pub attempt_writer-requires-clause-rewrites : goal.attempt_writer-requires-clause-rewrites
-attempt_writer-requires-clause-rewrites g c = c.if-not-rule.false
-
-pub returns-in-Some-writer-clause-attempt : goal.returns-in-Some-writer-clause-attempt
-returns-in-Some-writer-clause-attempt g c = c.attempt_writer.ensures.attempt
-
-pub returns-in-Some-writer-clause-table : goal.returns-in-Some-writer-clause-table
-returns-in-Some-writer-clause-table g c = c.attempt_writer.ensures.table
-
-pub returns-in-Some-writer-clause-sides : goal.returns-in-Some-writer-clause-sides
-returns-in-Some-writer-clause-sides g c = c.attempt_writer.ensures.sides
-
-pub returns-in-Some-writer-clause-rooms : goal.returns-in-Some-writer-clause-rooms
-returns-in-Some-writer-clause-rooms g c = length-set c.args.rooms.now 0 c.attempt_writer.new.room
-
-pub attempt_rows-requires-clause-long : goal.attempt_rows-requires-clause-long
-attempt_rows-requires-clause-long g c = c.requires
-
-pub attempt_rows-requires-clause-rewrites : goal.attempt_rows-requires-clause-rewrites
-attempt_rows-requires-clause-rewrites g c = c.if-not-rule.false
+pub attempt_by_kind-requires : goal.attempt_by_kind-requires
+attempt_by_kind-requires g c = c.requires
 
 pub returns-clause-attempt : goal.returns-clause-attempt
-returns-clause-attempt g c = c.attempt_rows.ensures.attempt
+returns-clause-attempt g c = c.attempt_by_kind.ensures.attempt
 
 pub returns-clause-table : goal.returns-clause-table
-returns-clause-table g c = c.attempt_rows.ensures.table
+returns-clause-table g c = c.attempt_by_kind.ensures.table
 
 pub returns-clause-sides : goal.returns-clause-sides
-returns-clause-sides g c = c.attempt_rows.ensures.sides
+returns-clause-sides g c = c.attempt_by_kind.ensures.sides
 
 pub returns-clause-rooms : goal.returns-clause-rooms
-returns-clause-rooms g c = c.attempt_rows.ensures.rooms
-
-pub bounds-rooms-0 : goal.bounds-rooms-0
-bounds-rooms-0 g c =
-    writer_room c.args.rule.now.rows c.args.rule.now.writer c.in-Some-writer.writer (length c.args.rooms.now)
-    c.args.rule.now.alone c.in-Some-writer.is c.requires
+returns-clause-rooms g c = c.attempt_by_kind.ensures.rooms
