@@ -1,5 +1,5 @@
 -- Rules that ask for a motion which nothing on the board has, one behind the other.
-use Rattle.std.proofs.Common.{◌≡◌, ◌∙◌, ℕ, ◌+◌, ◌<◌, ◌≤◌, inl, inr, Option, List, [], length, get_or, sym, subst}
+use Rattle.std.proofs.Common.{◌≡◌, ◌∙◌, ℕ, ◌+◌, ◌<◌, inl, inr, Option, List, [], length, get_or, sym, subst}
 use Rattle.std.proofs.Common.{ap, arith}
 use Rattle.std.proofs.lemmas.Bool.{cases_eq, cases_lt}
 use Rattle.std.proofs.lemmas.List.{get_or_default}
@@ -9,12 +9,8 @@ use Rattle.ps_model.specs.board.Attempts.{combinations_on}
 use Rattle.ps_program.specs.Axes.{direction_of}
 use Rattle.ps_program.specs.declared.rules.CompiledRule.{CompiledRule}
 use Rattle.ps_engine.specs.RulesInRoom.{rule_meaning}
-use Rattle.ps_engine.specs.Lacking.{AreIdleBetween, AsksFor, MovesNowhere}
+use Rattle.ps_engine.specs.Lacking.{AreIdleBetween, AskFor, AsksFor, MovesNowhere}
 use Rattle.ps_engine.proofs.Absent.{rule_still}
-
--- each rule from one number on, before another, asks for the motion
-abbrev pub AskFor : MotionTest → List CompiledRule → ℕ → ℕ → Type 0
-AskFor test rules from to = (k : ℕ) (d : CompiledRule) → from ≤ k → k < to → AsksFor test (get_or rules k d)
 
 asks_there : (test : MotionTest) (rules : List CompiledRule) (n k : ℕ) (rule d : CompiledRule) → k ≡ n →
     n < length rules → rule ≡ get_or rules n rule → AsksFor test rule → AsksFor test (get_or rules k d)

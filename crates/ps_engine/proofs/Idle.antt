@@ -1,5 +1,5 @@
 -- A group of which no rule has a combination does nothing.
-use Rattle.std.proofs.Common.{◌≡◌, ◌∙◌, ℕ, ◌+◌, ◌-◌, ◌<◌, ◌≤◌, suc, zero, Bool, true, false, Option, List, [], ◌∷◌, map}
+use Rattle.std.proofs.Common.{◌≡◌, ◌≢◌, ◌∙◌, ℕ, ◌+◌, ◌-◌, ◌<◌, ◌≤◌, suc, zero, Bool, true, false, Option, List, [], ◌∷◌, map}
 use Rattle.std.proofs.Common.{drop, get_or, refl, sym, ap, arith}
 use Rattle.std.proofs.Math.Bool.{or-false}
 use Rattle.std.proofs.lemmas.List.{drop-drop, get_or-drop}
@@ -71,6 +71,9 @@ passed_front table (rule ∷ rules) (suc count) changed state idle =
     ∙ sym (ap (λ (r : Result).
     after_change changed (after_change r.changed (round (rules_meaning table rules) r.state)))
     (attempt_still (rule_meaning table rule) state (idle 0 rule (omega arith))))
+
+pub short_of : (n end : ℕ) → n ≤ end → n ≢ end → n < end
+short_of n end low other = omega (arith, other)
 
 pub rules_passed : (table : Option (List ℕ)) (rules : List CompiledRule) (n m : ℕ) (changed : Bool) (state : State) →
     n ≤ m → AreIdleBetween state.grid table rules n m →

@@ -16,6 +16,10 @@ MovesNowhere g test = (row : ℕ) → row < g.height → NoneMovesOnRow g test r
 abbrev pub AsksFor : MotionTest → CompiledRule → Type 0
 AsksFor test rule = Contains rule.moving test
 
+-- each rule from one number on, before another, asks for that motion
+abbrev pub AskFor : MotionTest → List CompiledRule → ℕ → ℕ → Type 0
+AskFor test rules from to = (k : ℕ) (d : CompiledRule) → from ≤ k → k < to → AsksFor test (slice_index_or rules k d)
+
 -- no rule from one number on, before another, has a combination on a grid
 abbrev pub AreIdleBetween : Grid → Option (List ℕ) → List CompiledRule → ℕ → ℕ → Type 0
 AreIdleBetween g table rules from to = (k : ℕ) (d : CompiledRule) → from ≤ k → k < to →

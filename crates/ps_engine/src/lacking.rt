@@ -3,7 +3,7 @@
 
 ghost use Rattle.std.specs.Prelude.{◌≡◌, ◌<◌, ◌≤◌, IfSome, [], length, true};
 ghost use Rattle.ps_model.specs.board.Attempts.{combinations_on};
-ghost use Rattle.ps_engine.specs.Lacking.{AreIdleBetween, AsksFor, MovesNowhere};
+ghost use Rattle.ps_engine.specs.Lacking.{AreIdleBetween, AskFor, AsksFor, MovesNowhere};
 ghost use Rattle.ps_engine.specs.RulesInRoom.{rule_meaning};
 
 use ps_match::{Scan, recall_shape};
@@ -29,14 +29,27 @@ fn asks_first(rule: &CompiledRule, test: MotionTest) -> bool
     ensures { result ≡ true → AsksFor test rule.now }
 {
     match rule.moving.as_slice().first() {
-        Some(own) => own.layer == test.layer && own.motion == test.motion,
+        Some(own) => own.motion == test.motion && own.layer == test.layer,
         None => false,
     }
 }
 
-/// The number of the next rule, from one on, that isn't passed over: that one, unless it asks for a motion which
-/// nothing on the board has, and then the next one that doesn't ask for it first. What is passed over has no
-/// combination. No memory is taken.
+/// The number of the next rule, from one on, that doesn't ask for that motion first.
+fn behind_asking(rules: &[CompiledRule], number: usize, test: MotionTest) -> usize
+    requires { number ≤ length rules.now }
+    ensures from { number ≤ result }
+    ensures within { result ≤ length rules.now }
+    ensures asks { AskFor test rules.now number result }
+{
+    let mut next = number;
+    while next < rules.len() && asks_first(&rules[next], test) {
+        next += 1;
+    }
+    next
+}
+
+/// The number of the next rule, from one on, that asks for no motion which nothing on the board has. What is passed
+/// over has no combination. No memory is taken.
 #[inline(always)]
 pub fn behind_lacking<B: Scan>(board: &B, rules: &[CompiledRule], number: usize) -> usize
     requires { number < length rules.now }
@@ -45,12 +58,12 @@ pub fn behind_lacking<B: Scan>(board: &B, rules: &[CompiledRule], number: usize)
     ensures idle { AreIdleBetween (B.grid board.now) (B.table board.now) rules.now number result }
 {
     recall_shape(board);
-    let Some(test) = lacking_motion(board, &rules[number]) else {
-        return number;
-    };
-    let mut next = number + 1;
-    while next < rules.len() && asks_first(&rules[next], test) {
-        next += 1;
+    let mut next = number;
+    while next < rules.len() {
+        let Some(test) = lacking_motion(board, &rules[next]) else {
+            return next;
+        };
+        next = behind_asking(rules, next + 1, test);
     }
     next
 }

@@ -39,12 +39,11 @@ fn round<'r, B: Scan>(
     let mut number = 0;
     while number < rules.len() {
         let next = behind_lacking(board, rules, number);
-        if next == number {
-            changed |= attempt(&rules[number], board, queue, rooms);
-            number += 1;
-        } else {
-            number = next;
+        if next == rules.len() {
+            return changed;
         }
+        changed |= attempt(&rules[next], board, queue, rooms);
+        number = next + 1;
     }
     changed
 }

@@ -120,14 +120,13 @@ fn are_idle<B: Scan>(rules: &[CompiledRule], board: &B, rooms: &mut [RoomFor<B>]
     let mut number = 0;
     while number < rules.len() {
         let next = behind_lacking(board, rules, number);
-        if next == number {
-            if !is_idle(board, &rules[number], rooms) {
-                return false;
-            }
-            number += 1;
-        } else {
-            number = next;
+        if next == rules.len() {
+            return true;
         }
+        if !is_idle(board, &rules[next], rooms) {
+            return false;
+        }
+        number = next + 1;
     }
     true
 }

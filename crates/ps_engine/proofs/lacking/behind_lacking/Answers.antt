@@ -1,5 +1,6 @@
-use Rattle.std.proofs.Common.{◌+◌, refl, arith}
-use Rattle.ps_engine.proofs.AskedFor.{idle_between, more_ask, one_asks}
+use Rattle.std.proofs.Common.{◌+◌, ℕ, Option, List, refl, arith}
+use Rattle.ps_model.specs.board.Grid.{Grid}
+use Rattle.ps_engine.proofs.AskedFor.{idle_between, idle_further, one_asks}
 use Rattle.ps_engine.proofs.lacking.behind_lacking.Goals as goal
 
 pub loop-next-init : goal.loop-next-init
@@ -7,32 +8,32 @@ loop-next-init g c =
     record {
       low = omega arith;
       high = omega (arith, c.requires);
-      asks = one_asks c.in-Some.test c.args.rules.now c.args.number (c.args.number + 1) c.index-rules-number.result refl
-          c.requires c.index-rules-number.is (c.in-Some.ensures.asked);
+      idle = λ k d from to. absurd (omega (arith, from, to));
     }
 
 pub loop-next-preserved : goal.loop-next-preserved
 loop-next-preserved g c =
+    let grid : Grid = g.B.Board.grid c.args.board.now in
+    let table : Option (List ℕ) = g.B.Board.table c.args.board.now in
+    let next : ℕ = c.loop-next.next in
+    let behind : ℕ = c.behind_asking-next.result in
+    let here = idle_between grid table c.in-Some.test c.args.rules.now next (next + 1) c.recall_shape.ensures.shape
+    (c.in-Some.ensures.nowhere) (one_asks c.in-Some.test c.args.rules.now next (next + 1) c.index-rules-next.result refl
+    c.loop-next-test.true c.index-rules-next.is (c.in-Some.ensures.asked)) in
+    let others = idle_between grid table c.in-Some.test c.args.rules.now (next + 1) behind c.recall_shape.ensures.shape
+    (c.in-Some.ensures.nowhere) c.behind_asking-next.ensures.asks in
     record {
-      low = omega (arith, c.loop-next.invariant.low);
-      high = omega (arith, c.loop-next-test.true);
-      asks = more_ask c.in-Some.test c.args.rules.now c.args.number c.loop-next.next (c.loop-next.next + 1)
-          c.index-rules-next.result refl c.loop-next-test.true c.index-rules-next.is
-          (c.asks_first.ensures c.if-asks_first.true) c.loop-next.invariant.asks;
+      low = omega (arith, c.loop-next.invariant.low, c.behind_asking-next.ensures.from);
+      high = c.behind_asking-next.ensures.within;
+      idle = idle_further grid table c.args.rules.now c.args.number next behind c.loop-next.invariant.idle
+          (idle_further grid table c.args.rules.now next (next + 1) behind here others);
     }
 
-pub returns-else-asks_first-clause-from : goal.returns-else-asks_first-clause-from
-returns-else-asks_first-clause-from g c = omega (arith, c.loop-next.invariant.low)
+pub returns-in_default-clause-from : goal.returns-in_default-clause-from
+returns-in_default-clause-from g c = c.loop-next.invariant.low
 
-pub returns-else-asks_first-clause-idle : goal.returns-else-asks_first-clause-idle
-returns-else-asks_first-clause-idle g c =
-    idle_between (g.B.Board.grid c.args.board.now) (g.B.Board.table c.args.board.now) c.in-Some.test c.args.rules.now
-    c.args.number c.loop-next.next c.recall_shape.ensures.shape (c.in-Some.ensures.nowhere) c.loop-next.invariant.asks
+pub returns-in_default-clause-within : goal.returns-in_default-clause-within
+returns-in_default-clause-within g c = c.loop-next.invariant.high
 
-pub returns-after-loop-next-clause-within : goal.returns-after-loop-next-clause-within
-returns-after-loop-next-clause-within g c = c.loop-next.invariant.high
-
-pub returns-after-loop-next-clause-idle : goal.returns-after-loop-next-clause-idle
-returns-after-loop-next-clause-idle g c =
-    idle_between (g.B.Board.grid c.args.board.now) (g.B.Board.table c.args.board.now) c.in-Some.test c.args.rules.now
-    c.args.number c.loop-next.next c.recall_shape.ensures.shape (c.in-Some.ensures.nowhere) c.loop-next.invariant.asks
+pub returns-in_default-clause-idle : goal.returns-in_default-clause-idle
+returns-in_default-clause-idle g c = c.loop-next.invariant.idle

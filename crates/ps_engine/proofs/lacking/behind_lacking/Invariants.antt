@@ -1,14 +1,14 @@
-use Rattle.std.proofs.Common.{◌-◌, ◌<◌, ◌≤◌, length}
-use Rattle.ps_engine.proofs.AskedFor.{AskFor}
+use Rattle.std.proofs.Common.{◌-◌, ◌≤◌, length}
+use Rattle.ps_engine.specs.Lacking.{AreIdleBetween}
 use Rattle.ps_engine.proofs.lacking.behind_lacking.Given as goal
 
--- the rules passed by ask for the motion
+-- the rules passed over have no combination
 abbrev pub invariant-loop-next : goal.invariant-loop-next
 invariant-loop-next g l =
     record {
-      low : l.number < l.next;
+      low : l.number ≤ l.next;
       high : l.next ≤ length l.rules;
-      asks : AskFor l.test l.rules l.number l.next;
+      idle : AreIdleBetween (g.B.Board.grid l.board) (g.B.Board.table l.board) l.rules l.number l.next;
     }
 
 abbrev pub decreases-loop-next : goal.decreases-loop-next

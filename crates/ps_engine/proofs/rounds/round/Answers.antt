@@ -3,14 +3,15 @@ use Rattle.ps_model.specs.board.Attempts.{State, Result, attempt}
 use Rattle.ps_program.specs.declared.rules.CompiledRule.{CompiledRule}
 use Rattle.ps_engine.specs.Lacking.{AreIdleBetween}
 use Rattle.ps_engine.specs.RulesInRoom.{rule_meaning}
-use Rattle.ps_engine.proofs.Idle.{rules_passed}
+use Rattle.ps_engine.proofs.Idle.{rules_passed, short_of}
 use Rattle.ps_engine.proofs.Sequences.{round_end, round_more}
 use Rattle.ps_engine.proofs.rounds.round.Goals as goal
 
-pub loop-number-preserved-then-next-number : goal.loop-number-preserved-then-next-number
-loop-number-preserved-then-next-number g c =
+pub loop-number-preserved : goal.loop-number-preserved
+loop-number-preserved g c =
     let table : Option (List ℕ) = g.B.Board.table c.args.board.now in
     let was = c.loop-number.invariant in
+    let at : ℕ = c.behind_lacking-next.result in
     let now : State = record { grid = g.B.Board.grid c.loop-number.board; queue = c.loop-number.queue } in
     let next : State = record {
       grid = g.B.Board.grid c.attempt-changed.new.board;
@@ -18,35 +19,47 @@ loop-number-preserved-then-next-number g c =
           c.attempt-changed.new.queue;
     } in
     let after : Result = record { state = next; changed = c.attempt-changed.result } in
-    let made : after ≡ attempt (rule_meaning table c.index-rules-number.result) now =
+    let made : after ≡ attempt (rule_meaning table c.index-rules-next.result) now =
     c.attempt-changed.ensures.attempt
-    ∙ ap (λ (t : Option (List ℕ)). attempt (rule_meaning t c.index-rules-number.result) now) was.table in
+    ∙ ap (λ (t : Option (List ℕ)). attempt (rule_meaning t c.index-rules-next.result) now) was.table in
+    let idle : AreIdleBetween now.grid table c.args.rules.now c.loop-number.number at =
+    subst (λ (t : Option (List ℕ)). AreIdleBetween now.grid t c.args.rules.now c.loop-number.number at) was.table
+    c.behind_lacking-next.ensures.idle in
     record {
-      round = round_more (rule_meaning table) c.args.rules.now c.loop-number.number c.index-rules-number.result
-          c.loop-number.changed c.attempt-changed.result now next c.loop-number-test.true c.index-rules-number.is made
+      round = round_more (rule_meaning table) c.args.rules.now at c.index-rules-next.result c.loop-number.changed
+          c.attempt-changed.result now next
+          (short_of at (length c.args.rules.now) c.behind_lacking-next.ensures.within c.if-next-rules.false)
+          c.index-rules-next.is made
+          ∙ rules_passed table c.args.rules.now c.loop-number.number at c.loop-number.changed now
+          c.behind_lacking-next.ensures.from idle
           ∙ was.round;
       table = c.attempt-changed.ensures.table ∙ was.table;
       sides = c.attempt-changed.ensures.sides ∙ was.sides;
       rooms = c.attempt-changed.ensures.rooms ∙ was.rooms;
     }
 
-pub loop-number-preserved : goal.loop-number-preserved
-loop-number-preserved g c =
+pub returns-then-next-rules-clause-round : goal.returns-then-next-rules-clause-round
+returns-then-next-rules-clause-round g c =
     let table : Option (List ℕ) = g.B.Board.table c.args.board.now in
     let was = c.loop-number.invariant in
+    let at : ℕ = c.behind_lacking-next.result in
     let now : State = record { grid = g.B.Board.grid c.loop-number.board; queue = c.loop-number.queue } in
-    let idle : AreIdleBetween now.grid table c.args.rules.now c.loop-number.number c.behind_lacking-next.result =
-    subst (λ (t : Option (List ℕ)). AreIdleBetween now.grid t c.args.rules.now c.loop-number.number
-    c.behind_lacking-next.result) was.table c.behind_lacking-next.ensures.idle in
-    record {
-      round =
-          rules_passed table c.args.rules.now c.loop-number.number c.behind_lacking-next.result c.loop-number.changed
-          now c.behind_lacking-next.ensures.from idle
-          ∙ was.round;
-      table = was.table;
-      sides = was.sides;
-      rooms = was.rooms;
-    }
+    let idle : AreIdleBetween now.grid table c.args.rules.now c.loop-number.number at =
+    subst (λ (t : Option (List ℕ)). AreIdleBetween now.grid t c.args.rules.now c.loop-number.number at) was.table
+    c.behind_lacking-next.ensures.idle in
+    round_end (rule_meaning table) c.args.rules.now at c.loop-number.changed now (omega (arith, c.if-next-rules.true))
+    ∙ rules_passed table c.args.rules.now c.loop-number.number at c.loop-number.changed now
+    c.behind_lacking-next.ensures.from idle
+    ∙ was.round
+
+pub returns-then-next-rules-clause-table : goal.returns-then-next-rules-clause-table
+returns-then-next-rules-clause-table g c = c.loop-number.invariant.table
+
+pub returns-then-next-rules-clause-sides : goal.returns-then-next-rules-clause-sides
+returns-then-next-rules-clause-sides g c = c.loop-number.invariant.sides
+
+pub returns-then-next-rules-clause-rooms : goal.returns-then-next-rules-clause-rooms
+returns-then-next-rules-clause-rooms g c = c.loop-number.invariant.rooms
 
 pub returns-clause-round : goal.returns-clause-round
 returns-clause-round g c =
@@ -67,10 +80,12 @@ loop-number-init g c = record { round = refl; table = refl; sides = refl; rooms 
 
 pub attempt-changed-requires : goal.attempt-changed-requires
 attempt-changed-requires g c =
-    let rule : CompiledRule = c.index-rules-number.result in
+    let rule : CompiledRule = c.index-rules-next.result in
     subst (λ (count : ℕ). length rule.rows ≤ count) (sym c.loop-number.invariant.rooms)
-    (subst (λ (each : CompiledRule). length each.rows ≤ length c.args.rooms.now) (sym c.index-rules-number.is)
-    (c.requires c.loop-number.number rule c.loop-number-test.true))
+    (subst (λ (each : CompiledRule). length each.rows ≤ length c.args.rooms.now) (sym c.index-rules-next.is)
+    (c.requires c.behind_lacking-next.result rule
+    (short_of c.behind_lacking-next.result (length c.args.rules.now) c.behind_lacking-next.ensures.within
+    c.if-next-rules.false)))
 
 pub returns-clause-rooms : goal.returns-clause-rooms
 returns-clause-rooms g c = c.loop-number.invariant.rooms

@@ -1,33 +1,36 @@
 use Rattle.std.proofs.Common.{◌+◌, ◌∙◌, arith, refl, sym, true≢false, ℕ, ◌≤◌, length, subst}
 use Rattle.ps_program.specs.declared.rules.CompiledRule.{CompiledRule}
 use Rattle.ps_engine.proofs.AskedFor.{idle_further, one_idle}
+use Rattle.ps_engine.proofs.Idle.{short_of}
 use Rattle.ps_engine.proofs.watched.are_idle.Goals as goal
 
 pub loop-number-init : goal.loop-number-init
 loop-number-init g c = record { idle = λ k d from to. absurd (omega (arith, to)); rooms = refl }
 
-pub loop-number-preserved-then-next-number : goal.loop-number-preserved-then-next-number
-loop-number-preserved-then-next-number g c =
+pub loop-number-preserved : goal.loop-number-preserved
+loop-number-preserved g c =
     let grid = g.B.Board.grid c.args.board.now in
     let table = g.B.Board.table c.args.board.now in
+    let next : ℕ = c.behind_lacking-next.result in
     record {
       idle =
-          idle_further grid table c.args.rules.now 0 c.loop-number.number (c.loop-number.number + 1)
-          c.loop-number.invariant.idle
-          (one_idle grid table c.args.rules.now c.loop-number.number c.index-rules-number.result
-          c.loop-number-test.true c.index-rules-number.is (c.is_idle.ensures.idle c.if-not-is_idle.false));
+          idle_further grid table c.args.rules.now 0 next (next + 1)
+          (idle_further grid table c.args.rules.now 0 c.loop-number.number next c.loop-number.invariant.idle
+          c.behind_lacking-next.ensures.idle)
+          (one_idle grid table c.args.rules.now next c.index-rules-next.result
+          (short_of next (length c.args.rules.now) c.behind_lacking-next.ensures.within c.if-next-rules.false)
+          c.index-rules-next.is (c.is_idle.ensures.idle c.if-not-is_idle.false));
       rooms = c.is_idle.ensures.long ∙ c.loop-number.invariant.rooms;
     }
 
-pub loop-number-preserved : goal.loop-number-preserved
-loop-number-preserved g c =
-    record {
-      idle =
-          idle_further (g.B.Board.grid c.args.board.now) (g.B.Board.table c.args.board.now) c.args.rules.now 0
-          c.loop-number.number c.behind_lacking-next.result c.loop-number.invariant.idle
-          c.behind_lacking-next.ensures.idle;
-      rooms = c.loop-number.invariant.rooms;
-    }
+pub returns-then-next-rules-clause-idle : goal.returns-then-next-rules-clause-idle
+returns-then-next-rules-clause-idle g c = λ e. λ k d low.
+    idle_further (g.B.Board.grid c.args.board.now) (g.B.Board.table c.args.board.now) c.args.rules.now 0
+    c.loop-number.number c.behind_lacking-next.result c.loop-number.invariant.idle c.behind_lacking-next.ensures.idle
+    k d (omega arith) (omega (arith, low, c.if-next-rules.true))
+
+pub returns-then-next-rules-clause-rooms : goal.returns-then-next-rules-clause-rooms
+returns-then-next-rules-clause-rooms g c = c.loop-number.invariant.rooms
 
 pub returns-clause-idle : goal.returns-clause-idle
 returns-clause-idle g c = λ e. λ k d low.
@@ -35,10 +38,12 @@ returns-clause-idle g c = λ e. λ k d low.
 
 pub is_idle-requires : goal.is_idle-requires
 is_idle-requires g c =
-    let rule : CompiledRule = c.index-rules-number.result in
+    let rule : CompiledRule = c.index-rules-next.result in
     subst (λ (count : ℕ). length rule.rows ≤ count) (sym c.loop-number.invariant.rooms)
-    (subst (λ (each : CompiledRule). length each.rows ≤ length c.args.rooms.now) (sym c.index-rules-number.is)
-    (c.requires c.loop-number.number rule c.loop-number-test.true))
+    (subst (λ (each : CompiledRule). length each.rows ≤ length c.args.rooms.now) (sym c.index-rules-next.is)
+    (c.requires c.behind_lacking-next.result rule
+    (short_of c.behind_lacking-next.result (length c.args.rules.now) c.behind_lacking-next.ensures.within
+    c.if-next-rules.false)))
 
 pub returns-then-not-is_idle-clause-idle : goal.returns-then-not-is_idle-clause-idle
 returns-then-not-is_idle-clause-idle g c = λ e. absurd (true≢false (sym e))
