@@ -1,7 +1,8 @@
 -- Steps that come back. A run takes so many steps from a state: what is left of it is told by how many are left, and by
 -- the state.
-use Rattle.std.proofs.Common.{◌≡◌, ◌∙◌, ℕ, ◌+◌, ◌*◌, ◌/◌, ◌%◌, inl, inr, zero, suc, true, Option, Some}
+use Rattle.std.proofs.Common.{◌≡◌, ◌∙◌, ℕ, ◌+◌, ◌*◌, ◌/◌, ◌%◌, inl, inr, zero, suc, true, false, Option, Some}
 use Rattle.std.proofs.Common.{sym, ap, arith}
+use Rattle.std.proofs.lemmas.Bool.{false≢true}
 use Rattle.std.proofs.lemmas.Nat.{div-add-mod'}
 use Rattle.std.proofs.lemmas.Option.{same_Some}
 use Rattle.ps_model.specs.rules.SourceRules.{Commands}
@@ -61,6 +62,12 @@ module _ {R : Type 0} (run : ℕ → State → R) where
       let own : grid ≡ next.grid = same_Some grid next.grid (sym held ∙ is.same_board) in
       rw (is.age, is.same_queue, own) (λ n. let none : 0 + n ≡ n = omega arith in ap (λ (k : ℕ). run k next) none)
 
+  -- a watch that keeps none yet
+  pub keeps_first : (before after : Watch) (kept kept_after : Option Grid) (now : State) → before.keeps ≡ false →
+      HasStepped before after kept kept_after now.grid now.queue → Keeps after kept_after now
+  keeps_first before after kept kept_after now none (inl is) = λ on. absurd (false≢true (sym none ∙ sym is.keeps ∙ on))
+  keeps_first before after kept kept_after now none (inr is) = renewed after kept_after now is
+
   -- and so it does behind one step more
   pub keeps_on : (before after : Watch) (kept kept_after : Option Grid) (now next : State) → IsStep now next →
       Keeps before kept now →
@@ -84,3 +91,9 @@ module _ {R : Type 0} (run : ℕ → State → R) where
   rest_is before kept now next left rest step so (inr (period, (back, is))) =
       ap (λ (n : ℕ). run n next) is ∙ rest_of_steps period left next
       (leads_back before kept now next period step so back)
+
+-- a watch that keeps nothing leaves all that is left
+pub all_left : (watch : Watch) (kept : Option Grid) (grid : Grid) (queue : Commands) (left rest : ℕ) →
+    watch.keeps ≡ false → AreLeft watch kept grid queue left rest → rest ≡ left
+all_left watch kept grid queue left rest none (inl all) = all
+all_left watch kept grid queue left rest none (inr (period, (back, is))) = absurd (false≢true (sym none ∙ back.keeps))

@@ -38,6 +38,7 @@ struct Left {
 /// # Errors
 ///
 /// `Memory`, where there are many passes and no board alike is kept, or as for a group; some of them have been made.
+#[inline(never)]
 fn play_loop<'r, B: Scan>(
     groups: &[List<CompiledRule<'r>>],
     repeats: u32,
@@ -141,11 +142,18 @@ fn play_sections<'r, B: Scan>(
 {
     let mut repeats = REPEAT_LIMIT;
     for section in sections {
-        let left = play_section(section, repeats, board, queue, rooms, kept)?;
-        if left.stopped {
-            return Ok(());
+        match section {
+            CompiledSection::Group(rules) => {
+                play_group(rules.as_slice(), board, queue, rooms, &mut kept.of_rounds)?;
+            }
+            CompiledSection::Loop(groups) => {
+                let left = play_loop(groups.as_slice(), repeats, board, queue, rooms, kept)?;
+                if left.stopped {
+                    return Ok(());
+                }
+                repeats = left.repeats;
+            }
         }
-        repeats = left.repeats;
     }
     Ok(())
 }

@@ -1,8 +1,8 @@
 //! Rounds, groups, and passes of a loop's body.
 
-ghost use Rattle.std.specs.Prelude.{◌≡◌, IfOk, length};
+ghost use Rattle.std.specs.Prelude.{◌≡◌, IfOk, OnOk, length, true};
 ghost use Rattle.ps_model.specs.board.Attempts.{Result as Meant, State};
-ghost use Rattle.ps_model.specs.board.Programs.{group, pass, round};
+ghost use Rattle.ps_model.specs.board.Programs.{group, pass, round, settled};
 ghost use Rattle.ps_engine.specs.RulesInRoom.{groups_meaning, rules_meaning};
 ghost use Rattle.ps_engine.specs.Rooms.{GroupsHaveRooms, HaveRooms};
 ghost use Rattle.ps_match.specs.InRoom.{sides_of};
@@ -20,6 +20,7 @@ use ps_text::List;
 
 /// A round: the attempts of a group's rules in order, but for those that ask for a motion which nothing has. Answers
 /// whether one changed something.
+#[inline(always)]
 fn round<'r, B: Scan>(
     rules: &[CompiledRule<'r>],
     board: &mut B,
@@ -48,12 +49,49 @@ fn round<'r, B: Scan>(
     changed
 }
 
-/// A group: rounds until one changes nothing, as many as are allowed, without whole periods where they come back.
-/// Answers whether one changed something.
+/// The rounds of a group behind one that has changed something: until one changes nothing, so many at most, without
+/// whole periods where they come back. Few groups come to them, so that they are apart from the first one.
 ///
 /// # Errors
 ///
 /// `Memory`, where there are many rounds and no board alike is kept; some of them have been made.
+#[inline(never)]
+fn play_rounds<'r, B: Scan>(
+    rules: &[CompiledRule<'r>],
+    most: u32,
+    board: &mut B,
+    queue: &mut LentQueue<'r>,
+    rooms: &mut [RoomFor<B>],
+    kept: &mut KeptBoard<B>,
+) -> Result<(), Memory>
+    requires { HaveRooms (length rooms.old) rules.now }
+    ensures settled { let before : State = record { grid = B.grid board.old; queue = queue.old } in
+        let after : State = record { grid = B.grid board.new; queue = queue.new } in
+        let all : Meant = record { state = after; changed = true } in
+        OnOk result (all ≡ settled (rules_meaning (B.table board.old) rules.now) most true before) }
+    ensures table { B.table board.new ≡ B.table board.old }
+    ensures sides { sides_of (B.grid board.new) ≡ sides_of (B.grid board.old) }
+    ensures rooms { length rooms.new ≡ length rooms.old }
+{
+    let mut watch = Watch::new();
+    let mut left = watch.step(most, board, queue, kept)?;
+    while 0 < left {
+        if !round(rules, board, queue, rooms) {
+            return Ok(());
+        }
+        left = watch.step(left - 1, board, queue, kept)?;
+    }
+    Ok(())
+}
+
+/// A group: rounds until one changes nothing, as many as are allowed, without whole periods where they come back.
+/// Answers whether one changed something. Most groups have nothing to do, so that a call for each would be felt: this
+/// is in line.
+///
+/// # Errors
+///
+/// `Memory`, where there are many rounds and no board alike is kept; some of them have been made.
+#[inline(always)]
 pub fn play_group<'r, B: Scan>(
     rules: &[CompiledRule<'r>],
     board: &mut B,
@@ -70,17 +108,11 @@ pub fn play_group<'r, B: Scan>(
     ensures sides { sides_of (B.grid board.new) ≡ sides_of (B.grid board.old) }
     ensures rooms { length rooms.new ≡ length rooms.old }
 {
-    let mut watch = Watch::new();
-    let mut changed = false;
-    let mut left = ROUND_LIMIT;
-    while 0 < left {
-        if !round(rules, board, queue, rooms) {
-            return Ok(changed);
-        }
-        changed = true;
-        left = watch.step(left - 1, board, queue, kept)?;
+    if !round(rules, board, queue, rooms) {
+        return Ok(false);
     }
-    Ok(changed)
+    play_rounds(rules, ROUND_LIMIT - 1, board, queue, rooms, kept)?;
+    Ok(true)
 }
 
 /// A pass of a loop's body: its groups in order. Answers whether one changed something.

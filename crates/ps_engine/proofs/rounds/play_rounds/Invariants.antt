@@ -1,12 +1,12 @@
 use Rattle.std.proofs.Common.{◌≡◌, ℕ, true}
 use Rattle.ps_match.specs.InRoom.{sides_of}
 use Rattle.ps_model.specs.board.Attempts.{Result, State}
-use Rattle.ps_model.specs.board.Programs.{group, settled}
+use Rattle.ps_model.specs.board.Programs.{settled}
 use Rattle.ps_engine.specs.RulesInRoom.{rules_meaning}
 use Rattle.ps_engine.proofs.ComingBack.{Keeps}
-use Rattle.ps_engine.proofs.rounds.play_group.Given as goal
+use Rattle.ps_engine.proofs.rounds.play_rounds.Given as goal
 
--- the rounds that are left are those of the group, and what the watch keeps has come here
+-- the rounds that are left come to the same, and what the watch keeps has come here
 abbrev pub invariant-loop-left : goal.invariant-loop-left
 invariant-loop-left g l =
     let before : State = record { grid = g.B.Board.grid l.fn.board; queue = l.fn.queue } in
@@ -14,7 +14,8 @@ invariant-loop-left g l =
     let table = g.B.Board.table l.fn.board in
     let run : ℕ → State → Result = λ n state. settled (rules_meaning table l.rules) n true state in
     record {
-      group : settled (rules_meaning table l.rules) l.left l.changed now ≡ group (rules_meaning table l.rules) before;
+      settled : settled (rules_meaning table l.rules) l.left true now
+          ≡ settled (rules_meaning table l.rules) l.most true before;
       table : g.B.Board.table l.board ≡ table;
       sides : sides_of (g.B.Board.grid l.board) ≡ sides_of (g.B.Board.grid l.fn.board);
       keeps : Keeps run l.watch l.kept now;

@@ -1,0 +1,95 @@
+use Rattle.std.proofs.Common.{◌≡◌, ◌∙◌, ℕ, ◌-◌, suc, Bool, true, false, List, Option, sym, ap, refl, arith, subst}
+use Rattle.ps_model.specs.board.Attempts.{State, Result}
+use Rattle.ps_model.specs.board.Programs.{round, settled}
+use Rattle.ps_model.specs.meaning.RuleMeanings.{RuleMeaning}
+use Rattle.ps_engine.specs.RulesInRoom.{rules_meaning}
+use Rattle.ps_engine.specs.Rooms.{HaveRooms}
+use Rattle.ps_engine.proofs.ComingBack.{IsStep, all_left, keeps_first, keeps_on, rest_is}
+use Rattle.ps_engine.proofs.Sequences.{settled_end, settled_on, settled_off}
+use Rattle.ps_engine.proofs.rounds.play_rounds.Goals as goal
+
+pub loop-left-init : goal.loop-left-init
+loop-left-init g c =
+    let now : State = record { grid = g.B.Board.grid c.args.board.now; queue = c.args.queue.now } in
+    let meant : List RuleMeaning = rules_meaning (g.B.Board.table c.args.board.now) c.args.rules.now in
+    let run : ℕ → State → Result = λ n state. settled meant n true state in
+    let watch = c.new-watch.result in
+    record {
+      settled = ap (λ (n : ℕ). run n now)
+          (all_left watch c.args.kept.now now.grid now.queue c.args.most c.in_ok-left.left c.new-watch.ensures
+          c.in_ok-left.ensures.rest);
+      table = refl;
+      sides = refl;
+      keeps = keeps_first run watch c.step.new.self c.args.kept.now c.step.new.kept now c.new-watch.ensures
+          c.in_ok-left.ensures.goes;
+    }
+
+pub returns-then-not-round-clause-settled : goal.returns-then-not-round-clause-settled
+returns-then-not-round-clause-settled g c =
+    let table : Option (List ℕ) = g.B.Board.table c.args.board.now in
+    let meant : List RuleMeaning = rules_meaning table c.args.rules.now in
+    let now : State = record { grid = g.B.Board.grid c.loop-left.board; queue = c.loop-left.queue } in
+    let next : State = record { grid = g.B.Board.grid c.round.new.board; queue = c.round.new.queue } in
+    let off : c.round.result ≡ false = c.if-not-round.true in
+    let made : (let r : Result = record { state = next; changed = false } in r) ≡ round meant now =
+    ap (λ (b : Bool). let r : Result = record { state = next; changed = b } in r) (sym off)
+    ∙ c.round.ensures.round
+    ∙ ap (λ (t : Option (List ℕ)). round (rules_meaning t c.args.rules.now) now) c.loop-left.invariant.table in
+    settled_off meant c.loop-left.left (c.loop-left.left - 1) true now next
+    (omega (arith, c.loop-left-test.true)) made ∙ c.loop-left.invariant.settled
+
+pub loop-left-preserved : goal.loop-left-preserved
+loop-left-preserved g c =
+    let table : Option (List ℕ) = g.B.Board.table c.args.board.now in
+    let meant : List RuleMeaning = rules_meaning table c.args.rules.now in
+    let now : State = record { grid = g.B.Board.grid c.loop-left.board; queue = c.loop-left.queue } in
+    let next : State = record { grid = g.B.Board.grid c.round.new.board; queue = c.round.new.queue } in
+    let run : ℕ → State → Result = λ n state. settled meant n true state in
+    let on : c.round.result ≡ true = c.if-not-round.false in
+    let made : (let r : Result = record { state = next; changed = true } in r) ≡ round meant now =
+    ap (λ (b : Bool). let r : Result = record { state = next; changed = b } in r) (sym on)
+    ∙ c.round.ensures.round
+    ∙ ap (λ (t : Option (List ℕ)). round (rules_meaning t c.args.rules.now) now) c.loop-left.invariant.table in
+    let step : IsStep run now next = λ n. sym (settled_on meant (suc n) n true now next (omega arith) made) in
+    let watch = c.loop-left.watch in
+    let kept = c.loop-left.kept in
+    record {
+      settled = rest_is run watch kept now next (c.loop-left.left - 1) c.in_ok-left-2.left step c.loop-left.invariant.keeps
+          c.in_ok-left-2.ensures.rest
+          ∙ settled_on meant c.loop-left.left (c.loop-left.left - 1) true now next
+          (omega (arith, c.loop-left-test.true)) made
+          ∙ c.loop-left.invariant.settled;
+      table = c.round.ensures.table ∙ c.loop-left.invariant.table;
+      sides = c.round.ensures.sides ∙ c.loop-left.invariant.sides;
+      keeps = keeps_on run watch c.step-in-loop-left.new.self kept c.step-in-loop-left.new.kept now next step c.loop-left.invariant.keeps
+          c.in_ok-left-2.ensures.goes;
+    }
+
+pub round-requires : goal.round-requires
+round-requires g c =
+    subst (λ (count : ℕ). HaveRooms count c.args.rules.now) (sym c.loop-left.auto.rooms) c.requires
+
+pub returns-then-not-round-clause-table : goal.returns-then-not-round-clause-table
+returns-then-not-round-clause-table g c = c.round.ensures.table ∙ c.loop-left.invariant.table
+
+pub returns-then-not-round-clause-sides : goal.returns-then-not-round-clause-sides
+returns-then-not-round-clause-sides g c = c.round.ensures.sides ∙ c.loop-left.invariant.sides
+
+pub returns-then-not-round-clause-rooms : goal.returns-then-not-round-clause-rooms
+returns-then-not-round-clause-rooms g c = c.round.ensures.rooms ∙ c.loop-left.auto.rooms
+
+pub returns-clause-table : goal.returns-clause-table
+returns-clause-table g c = c.loop-left.invariant.table
+
+pub returns-clause-sides : goal.returns-clause-sides
+returns-clause-sides g c = c.loop-left.invariant.sides
+
+pub returns-clause-rooms : goal.returns-clause-rooms
+returns-clause-rooms g c = c.loop-left.auto.rooms
+
+pub returns-clause-settled : goal.returns-clause-settled
+returns-clause-settled g c =
+    let meant : List RuleMeaning = rules_meaning (g.B.Board.table c.args.board.now) c.args.rules.now in
+    let now : State = record { grid = g.B.Board.grid c.loop-left.board; queue = c.loop-left.queue } in
+    settled_end meant c.loop-left.left true now (omega (arith, c.loop-left-test.false))
+    ∙ c.loop-left.invariant.settled
