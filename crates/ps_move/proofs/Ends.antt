@@ -1,7 +1,8 @@
 -- The end of a pass, and the end of the movement: what slides is what went.
-use Rattle.std.proofs.Common.{◌≡◌, ℕ, zero, suc, ◌*◌, ◌<◌, ◌≤◌, ◌⊎◌, inl, inr, Bool, true, false, Option, Some, None}
-use Rattle.std.proofs.Common.{List, [], length, map, get_or, refl, sym, ◌∙◌, ap, subst, arith}
+use Rattle.std.proofs.Common.{◌≡◌, ℕ, zero, suc, ◌+◌, ◌*◌, ◌<◌, ◌≤◌, ◌⊎◌, inl, inr, Bool, true, false, Option, Some}
+use Rattle.std.proofs.Common.{None, List, [], length, map, get_or, refl, sym, ◌∙◌, ap, subst, arith}
 use Rattle.std.specs.List.{range_with_len}
+use Rattle.std.proofs.lemmas.Bool.{cases_lt}
 use Rattle.std.proofs.lemmas.Bool.Decides.{leb_tells}
 use Rattle.std.proofs.lemmas.Option.{same_Some}
 use Rattle.std.proofs.lemmas.List.{get_or_past, get_or-map, same_lists, length-map}
@@ -21,7 +22,7 @@ use Rattle.ps_move.specs.Visits.{way}
 use Rattle.ps_move.specs.Midway.{IsMidway, motion_left}
 use Rattle.ps_move.specs.Order.{ComesBefore, IsInOrder}
 use Rattle.ps_move.proofs.Steps.{bare_holds, landed_at}
-use Rattle.ps_move.proofs.Order.{aim_some, way_some, still_aims, next_first}
+use Rattle.ps_move.proofs.Order.{aim_some, way_some, still_aims}
 
 -- what aims somewhere stands on the board
 off_board : (g : Grid) (layer cell : ℕ) → length g.cells ≤ cell → slot_at g cell layer ≡ Bare
@@ -38,38 +39,59 @@ goes_within g layer cell to shape goes = elim (cell_or_past cell (length g.cells
   cell_or_past a b = elim (leb_tells b a) [ inl e ↦ inr e.1 | inr e ↦ inl (omega (arith, e.1)) ]
 
 -- the next pass begins anew
-pub next_pass : (before now : Grid) (went : Bool) (cells : ℕ) → IsGrid now → cells ≡ now.width * now.height →
-    IsInOrder before now went (cells, 0) → IsInOrder before now false (0, 0)
-next_pass before now went cells shape all o = record {
+pub next_pass : (before now : Grid) (went : Bool) (layer cells : ℕ) → IsGrid now → cells ≡ now.width * now.height →
+    IsInOrder before now went layer cells → IsInOrder before now false layer 0
+next_pass before now went layer cells shape all o = record {
   midway = o.midway;
   won = o.won;
   time = record {
-    to_bare = λ l from to within goes bare. rw next_first (omega arith);
-    to_left = λ l from to within goes left.
-        let order : ComesBefore cells from to =
-        subst (λ (k : ℕ). ComesBefore k from to) (next_first cells l) (o.time.to_left l from to within goes left) in
-        let low = goes_within now l from to shape goes in
-        let below : from < to = order.behind (omega arith) in
-        let anew : ComesBefore 0 from to = record {
-          behind = λ h. below;
+    to_bare = λ from to goes bare. omega arith;
+    to_left = λ from to goes left.
+        let order : ComesBefore cells from to = o.time.to_left from to goes left in
+        let low = goes_within now layer from to shape goes in
+        let before_it : from < to = order.behind (omega arith) in
+        record {
+          behind = λ h. before_it;
           over = λ h. absurd (omega arith);
-          ahead = λ h.
-              below;
-        } in
-        subst (λ (k : ℕ). ComesBefore k from to) (sym (next_first 0 l)) anew;
-    unmoved = λ e l from to within goes. rw next_first (omega arith);
+          ahead = λ h. before_it;
+        };
+    unmoved = λ e from to goes. omega arith;
   };
+  below = o.below;
+  above = o.above;
 }
 
--- after a pass in which nothing went, nothing can go
-stuck : (before now : Grid) (cells : ℕ) → IsGrid now → cells ≡ now.width * now.height →
-    IsInOrder before now false (cells, 0) →
-    (layer from to : ℕ) → layer < now.layers → way now layer from ≡ Some to → ⊥
-stuck before now cells shape all o layer from to within goes =
+-- after a pass in which nothing went, nothing of the layer can go
+stuck : (before now : Grid) (layer cells : ℕ) → IsGrid now → cells ≡ now.width * now.height →
+    IsInOrder before now false layer cells → (from to : ℕ) → way now layer from ≡ Some to → ⊥
+stuck before now layer cells shape all o from to goes =
     let low = goes_within now layer from to shape goes in
-    let high : cells ≤ from = subst (λ (k : ℕ).
-    k ≤ from) (next_first cells layer) (o.time.unmoved refl layer from to within goes) in
+    let high : cells ≤ from = o.time.unmoved refl from to goes in
     omega arith
+
+-- and the next layer begins, which is as it was
+pub next_layer : (before now : Grid) (layer cells : ℕ) → IsGrid now → cells ≡ now.width * now.height →
+    IsInOrder before now false layer cells → IsInOrder before now false (layer + 1) 0
+next_layer before now layer cells shape all o = record {
+  midway = o.midway;
+  won = o.won;
+  time = record {
+    to_bare = λ from to goes bare. omega arith;
+    to_left = λ from to goes left.
+        let bare : slot_at now to (layer + 1) ≡ Bare =
+        (way_some now (layer + 1) (target now (layer + 1) from) to goes).1 in
+        let free : is_bare before (layer + 1) to ≡ true =
+        ap is_bare_slot (sym (o.above (layer + 1) to (omega arith)) ∙ bare) in
+        absurd (cc);
+    unmoved = λ e from to goes. omega arith;
+  };
+  below = λ l from to low goes. elim (cases_lt l layer) [
+    | inl under ↦ o.below l from to under goes
+    | inr over ↦ let same : l ≡ layer = omega (arith, low, over) in
+        stuck before now layer cells shape all o from to (subst (λ (k : ℕ). way now k from ≡ Some to) same goes)
+  ];
+  above = λ l cell high. o.above l cell (omega (arith, high));
+}
 
 -- where an object lands
 lands_gone : (before : Grid) (goes : ℕ → ℕ → Bool) (layer from to : ℕ) → goes layer from ≡ true →
@@ -81,46 +103,48 @@ lands_stays : (before : Grid) (goes : ℕ → ℕ → Bool) (layer from : ℕ) �
 lands_stays before goes layer from e = rw (e, landing) refl
 
 -- what stands in a cell by now was there, or is its winner, which went
-stands_from : (before now : Grid) (went : Bool) (place : ℕ × ℕ) → (o : IsInOrder before now went place) →
+stands_from : (before now : Grid) (went : Bool) (l n : ℕ) → (o : IsInOrder before now went l n) →
     (layer cell : ℕ) (object : ObjectId) (motion : Motion) →
     slot_at now cell layer ≡ Holds object motion →
     ((o.midway.goes layer cell ≡ false) × (was : Motion) × (slot_at before cell layer ≡ Holds object was)) ⊎
     ((from : ℕ) × (winner before layer cell ≡ Some from) × (o.midway.goes layer from ≡ true))
-stands_from before now went place o layer cell object motion stands = by_going (o.midway.goes layer found.0) refl where
-  found : (from : ℕ) × (was : Motion) × (slot_at before from layer ≡ Holds object was) ×
-      (landing before o.midway.goes layer from ≡ cell)
-  found = o.midway.comes layer cell object motion stands
+stands_from before now went l n o layer cell object motion stands =
+    by_going (o.midway.goes layer found.0) refl where
+      found : (from : ℕ) × (was : Motion) × (slot_at before from layer ≡ Holds object was) ×
+          (landing before o.midway.goes layer from ≡ cell)
+      found = o.midway.comes layer cell object motion stands
 
-  by_going : (b : Bool) → o.midway.goes layer found.0 ≡ b →
-      ((o.midway.goes layer cell ≡ false) × (was : Motion) × (slot_at before cell layer ≡ Holds object was)) ⊎
-      ((from : ℕ) × (winner before layer cell ≡ Some from) × (o.midway.goes layer from ≡ true))
-  by_going true e =
-      let won = o.won layer found.0 e in
-      let there : won.to ≡ cell = sym (lands_gone before o.midway.goes layer found.0 won.to e
-      (winner-contends before layer won.to found.0 won.wins).0) ∙ found.3 in
-      inr (found.0, subst (λ (t : ℕ). winner before layer t ≡ Some found.0) there won.wins, e)
-  by_going false e =
-      let here : found.0 ≡ cell = sym (lands_stays before o.midway.goes layer found.0 e) ∙ found.3 in
-      inl (
-        subst (λ (c : ℕ). o.midway.goes layer c ≡ false) here e,
-        found.1,
-        subst (λ (c : ℕ). slot_at before c layer ≡ Holds object found.1) here found.2,
-      )
+      by_going : (b : Bool) → o.midway.goes layer found.0 ≡ b →
+          ((o.midway.goes layer cell ≡ false) × (was : Motion) × (slot_at before cell layer ≡ Holds object was)) ⊎
+          ((from : ℕ) × (winner before layer cell ≡ Some from) × (o.midway.goes layer from ≡ true))
+      by_going true e =
+          let won = o.won layer found.0 e in
+          let there : won.to ≡ cell = sym (lands_gone before o.midway.goes layer found.0 won.to e
+          (winner-contends before layer won.to found.0 won.wins).0) ∙ found.3 in
+          inr (found.0, subst (λ (t : ℕ). winner before layer t ≡ Some found.0) there won.wins, e)
+      by_going false e =
+          let here : found.0 ≡ cell = sym (lands_stays before o.midway.goes layer found.0 e) ∙ found.3 in
+          inl (
+            subst (λ (c : ℕ). o.midway.goes layer c ≡ false) here e,
+            found.1,
+            subst (λ (c : ℕ). slot_at before c layer ≡ Holds object found.1) here found.2,
+          )
 
 -- what slides went, where nothing can go
-slides_went : (before now : Grid) (went : Bool) (place : ℕ × ℕ) → (o : IsInOrder before now went place) → (layer : ℕ) →
+slides_went : (before now : Grid) (went : Bool) (l n : ℕ) → (o : IsInOrder before now went l n) →
+    (layer : ℕ) →
     ((from to : ℕ) → way now layer from ≡ Some to → ⊥) →
     (links from : ℕ) → slides_within before layer links from ≡ true → o.midway.goes layer from ≡ true
-slides_went before now went place o layer none zero from e = absurd (cc)
-slides_went before now went place o layer none (suc links) from e =
-    by_going (λ to f. slides_went before now went place o layer none links to f) (o.midway.goes layer from) refl where
+slides_went before now went l n o layer none zero from e = absurd (cc)
+slides_went before now went l n o layer none (suc links) from e =
+    by_going (λ to f. slides_went before now went l n o layer none links to f) (o.midway.goes layer from) refl where
       link : IsLink before layer links from
       link = link_of before layer links from e
 
       free : ((to : ℕ) → slides_within before layer links to ≡ true → o.midway.goes layer to ≡ true) →
           o.midway.goes layer from ≡ false → (slot : Slot) → slot_at now link.to layer ≡ slot → slot ≡ Bare
       free again f Bare s = refl
-      free again f (Holds object motion) s = elim (stands_from before now went place o layer link.to object motion s) [
+      free again f (Holds object motion) s = elim (stands_from before now went l n o layer link.to object motion s) [
         | inl stays ↦ elim link.leads [
           | inl bare ↦ let taken : is_bare before layer link.to ≡ false = ap is_bare_slot stays.2 in absurd (cc)
           | inr further ↦ let left = again link.to further.1 in absurd (cc)
@@ -138,9 +162,10 @@ slides_went before now went place o layer none (suc links) from e =
           (still_aims before now o.midway layer from link.to link.aims (free again f (slot_at now link.to layer) refl)))
 
 -- and what went slides
-went_slides : (before now : Grid) (went : Bool) (place : ℕ × ℕ) → (o : IsInOrder before now went place) → IsGrid now →
+went_slides : (before now : Grid) (went : Bool) (l n : ℕ) → (o : IsInOrder before now went l n) →
+    IsGrid now →
     (layer from : ℕ) → o.midway.goes layer from ≡ true → slides before layer from ≡ true
-went_slides before now went place o shape layer from e =
+went_slides before now went l n o shape layer from e =
     let won = o.won layer from e in
     let all : cell_count before ≡ cell_count now = rw (o.midway.width, o.midway.height) refl in
     slides_within-more before layer won.links (cell_count before) from (omega (arith, shape.cells)) won.chain
@@ -237,20 +262,19 @@ same_fields w w' h h' l l' c c' i j k m = rw (i, j, k, m) refl
 same_grids : (a b : Grid) → a.width ≡ b.width → a.height ≡ b.height → a.layers ≡ b.layers → a.cells ≡ b.cells → a ≡ b
 same_grids a b w h l c = same_fields a.width b.width a.height b.height a.layers b.layers a.cells b.cells w h l c
 
--- a pass in which nothing went ends the movement, and it is the exact one
-pub rest_exact : (before now : Grid) (cells : ℕ) → IsGrid now → cells ≡ now.width * now.height →
-    IsInOrder before now false (cells, 0) → at_rest now ≡ slid before
-rest_exact before now cells shape all o = same_grids (at_rest now) (slid before) o.midway.width o.midway.height
+-- where no layer has an object that can go the movement is at its end, and it is the exact one
+pub rest_exact : (before now : Grid) → IsGrid now → IsInOrder before now false now.layers 0 → at_rest now ≡ slid before
+rest_exact before now shape o = same_grids (at_rest now) (slid before) o.midway.width o.midway.height
     o.midway.layers
     (same_lists (map (map slot_at_rest) now.cells) (slid before).cells many (λ k d h. each k d h)) where
       ended : (layer : ℕ) → layer < now.layers → IsEnd before now layer
       ended layer within = record {
         midway = o.midway;
         went = λ from. same_tests (o.midway.goes layer from) (slides before layer from)
-            (went_slides before now false (cells, 0) o shape layer from)
-            (slides_went before now false (cells, 0) o layer (λ from to goes.
-            stuck before now cells shape all o layer from to within goes) (cell_count before) from);
-        comes = stands_from before now false (cells, 0) o layer;
+            (went_slides before now false now.layers 0 o shape layer from)
+            (slides_went before now false now.layers 0 o layer (λ from to goes. o.below layer from to within goes)
+            (cell_count before) from);
+        comes = stands_from before now false now.layers 0 o layer;
       }
 
       slot_after : ℕ → ℕ → Slot

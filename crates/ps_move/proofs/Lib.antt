@@ -3,3 +3,5 @@ mod Order
 mod Ends
 mod Parts
 mod StillCells
+mod Passes
+mod Movers

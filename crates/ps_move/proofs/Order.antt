@@ -2,7 +2,7 @@
 use Rattle.std.proofs.Common.{◌≡◌, ◌≢◌, ℕ, suc, ◌+◌, ◌<◌, ◌≤◌, ◌⊎◌, inl, inr, Bool, true, false, Option, Some, None}
 use Rattle.std.proofs.Common.{List, length, refl, sym, ◌∙◌, ap, subst, arith}
 use Rattle.std.specs.Prelude.{nat_eq, slice_index_or}
-use Rattle.std.proofs.lemmas.Bool.Decides.{nat_tests, eqb_tells}
+use Rattle.std.proofs.lemmas.Bool.Decides.{eqb_tells}
 use Rattle.std.proofs.lemmas.List.{length-set}
 use Rattle.std.proofs.lemmas.List.Sums.{count_by-le-length}
 use Rattle.ps_model.specs.declared.pieces.ObjectId.{ObjectId}
@@ -17,7 +17,7 @@ use Rattle.ps_model.specs.board.WeakMovement.{landing}
 use Rattle.ps_laws.proofs.common.Winners.{slides_by, winner-of_bare, winner-of_left}
 use Rattle.ps_move.specs.Visits.{way, if_bare, is_going}
 use Rattle.ps_move.specs.Midway.{IsMidway, motion_left}
-use Rattle.ps_move.specs.Order.{next_on, ComesBefore, InTime, going_on, HasWon, IsInOrder}
+use Rattle.ps_move.specs.Order.{ComesBefore, InTime, going_on, HasWon, IsInOrder}
 use Rattle.ps_move.proofs.Steps.{Goes, waits, stepped, entered, left_bare, beside, on_another_layer, step_midway}
 use Rattle.ps_move.proofs.Steps.{step_goes, step_going_on, step_going_on_other, neighbour-same, bare_holds, landed_at}
 
@@ -95,27 +95,7 @@ did_aim before now m layer from to aims =
     aims_from before layer from to found.0 found.1 w.stood
     (sym (neighbour-same now before found.1 from m.width m.height) ∙ found.3)
 
--- the place after a visit
-pub next_own : (cell layer : ℕ) → next_on (cell, layer) layer ≡ cell
-next_own cell layer = grind (arith, nat_tests)
-
-next_past : (cell layer : ℕ) → next_on (cell, layer + 1) layer ≡ cell + 1
-next_past cell layer = grind (arith, nat_tests)
-
-next_other : (cell layer l : ℕ) → l ≢ layer → next_on (cell, layer + 1) l ≡ next_on (cell, layer) l
-next_other cell layer l n = grind (arith, nat_tests)
-
-later : (cell layer l from : ℕ) → (l ≡ layer → from ≢ cell) → next_on (cell, layer) l ≤ from →
-    next_on (cell, layer + 1) l ≤ from
-later cell layer l from n h = elim (eqb_tells l layer) [
-  | inl e ↦ let own : cell ≤ from =
-      subst (λ (k : ℕ). k ≤ from) (ap (next_on (cell, layer)) e.1 ∙ next_own cell layer) h in
-      let apart : from ≢ cell = n e.1 in
-      let past : cell + 1 ≤ from = omega (arith, apart) in
-      subst (λ (k : ℕ). k ≤ from) (sym (ap (next_on (cell, layer + 1)) e.1 ∙ next_past cell layer)) past
-  | inr e ↦ rw (next_other cell layer l e.1) h
-]
-
+-- visits that went on by one cell
 comes_past : (cell from to : ℕ) → from ≢ cell → ComesBefore cell from to → ComesBefore (cell + 1) from to
 comes_past cell from to apart h = record {
   behind = λ low. h.behind (omega arith);
@@ -123,33 +103,25 @@ comes_past cell from to apart h = record {
   ahead = λ high. h.ahead (omega arith);
 }
 
-comes_later : (cell layer l from to : ℕ) → (l ≡ layer → from ≢ cell) → ComesBefore (next_on (cell, layer) l) from to →
-    ComesBefore (next_on (cell, layer + 1) l) from to
-comes_later cell layer l from to n h = elim (eqb_tells l layer) [
-  | inl e ↦ let own : ComesBefore cell from to =
-      subst (λ (k : ℕ). ComesBefore k from to) (ap (next_on (cell, layer)) e.1 ∙ next_own cell layer) h in
-      let past : ComesBefore (cell + 1) from to = comes_past cell from to (n e.1) own in
-      subst (λ (k : ℕ). ComesBefore k from to) (sym (ap (next_on (cell, layer + 1)) e.1 ∙ next_past cell layer)) past
-  | inr e ↦ subst (λ (k : ℕ). ComesBefore k from to) (sym (next_other cell layer l e.1)) h
-]
-
 -- the object of that cell can't go
-none_there : (now : Grid) (layer cell l from to : ℕ) → way now layer cell ≡ None → way now l from ≡ Some to →
-    l ≡ layer → from ≢ cell
-none_there now layer cell l from to none goes e f =
-    let same : way now layer cell ≡ Some to = rw (← e, ← f) goes in
+none_there : (now : Grid) (layer cell from to : ℕ) → way now layer cell ≡ None → way now layer from ≡ Some to →
+    from ≢ cell
+none_there now layer cell from to none goes f =
+    let same : way now layer cell ≡ Some to = rw (← f) goes in
     cc
+
+past : (cell from : ℕ) → from ≢ cell → cell ≤ from → cell + 1 ≤ from
+past cell from apart h = omega (arith, apart)
 
 -- a visit in which nothing went
 pub time_stays : (before now : Grid) (went : Bool) (layer cell : ℕ) → way now layer cell ≡ None →
-    InTime before now went (cell, layer) → InTime before now went (cell, layer + 1)
+    InTime before now went layer cell → InTime before now went layer (cell + 1)
 time_stays before now went layer cell none t = record {
-  to_bare = λ l from to within goes bare. later cell layer l from (none_there now layer cell l from to none goes)
-      (t.to_bare l from to within goes bare);
-  to_left = λ l from to within goes left. comes_later cell layer l from to
-      (none_there now layer cell l from to none goes) (t.to_left l from to within goes left);
-  unmoved = λ e l from to within goes. later cell layer l from (none_there now layer cell l from to none goes)
-      (t.unmoved e l from to within goes);
+  to_bare = λ from to goes bare. past cell from (none_there now layer cell from to none goes) (t.to_bare from to goes
+      bare);
+  to_left = λ from to goes left. comes_past cell from to (none_there now layer cell from to none goes)
+      (t.to_left from to goes left);
+  unmoved = λ e from to goes. past cell from (none_there now layer cell from to none goes) (t.unmoved e from to goes);
 }
 
 -- what can go after an object went
@@ -233,23 +205,32 @@ comes_anew cell from apart = record {
   ahead = λ high. absurd (omega arith);
 }
 
+-- what can go after an object of the layer went
+way_here : (now : Grid) (layer cell : ℕ) (object : ObjectId) (direction : Direction) (to : ℕ) →
+    Goes now layer cell object direction to →
+    (from t : ℕ) → way (stepped now layer cell object to) layer from ≡ Some t →
+    ((way now layer from ≡ Some t) × (from ≢ cell)) ⊎ ((t ≡ cell) × (from ≢ cell))
+way_here now layer cell object direction to h from t goes =
+    elim (way_after now layer cell object direction to h layer from t goes) [
+      | inl w ↦ inl (w.0, w.1 refl)
+      | inr w ↦ inr (w.1, w.2)
+    ]
+
 -- a visit in which an object went
 time_goes : (before now : Grid) (went : Bool) (layer cell : ℕ) (object : ObjectId) (direction : Direction) (to : ℕ) →
     Goes now layer cell object direction to →
-    is_bare before layer cell ≡ false → InTime before now went (cell, layer) →
-    InTime before (stepped now layer cell object to) true (cell, layer + 1)
+    is_bare before layer cell ≡ false → InTime before now went layer cell →
+    InTime before (stepped now layer cell object to) true layer (cell + 1)
 time_goes before now went layer cell object direction to h stood t = record {
-  to_bare = λ l from at within goes bare. elim (way_after now layer cell object direction to h l from at goes) [
-    | inl w ↦ later cell layer l from w.1 (t.to_bare l from at within w.0 bare)
-    | inr w ↦ let here : is_bare before layer cell ≡ true = rw (← w.0, ← w.1) bare in absurd (cc)
+  to_bare = λ from at goes bare. elim (way_here now layer cell object direction to h from at goes) [
+    | inl w ↦ past cell from w.1 (t.to_bare from at w.0 bare)
+    | inr w ↦ let here : is_bare before layer cell ≡ true = rw (← w.0) bare in absurd (cc)
   ];
-  to_left = λ l from at within goes left. elim (way_after now layer cell object direction to h l from at goes) [
-    | inl w ↦ comes_later cell layer l from at w.1 (t.to_left l from at within w.0 left)
-    | inr w ↦ let next : next_on (cell, layer + 1) l ≡ cell + 1 = ap (next_on (cell, layer + 1)) w.0
-        ∙ next_past cell layer in
-        rw (next, w.1) (comes_anew cell from w.2)
+  to_left = λ from at goes left. elim (way_here now layer cell object direction to h from at goes) [
+    | inl w ↦ comes_past cell from at w.1 (t.to_left from at w.0 left)
+    | inr w ↦ rw w.0 (comes_anew cell from w.1)
   ];
-  unmoved = λ e l from at within goes. absurd (cc);
+  unmoved = λ e from at goes. absurd (cc);
 }
 
 -- what left its cell went
@@ -272,7 +253,7 @@ left_gone before now m layer cell stood bare = by_slot (slot_at before cell laye
 
 -- the object that goes has won its target
 step_wins : (before now : Grid) (went : Bool) (layer cell : ℕ) (object : ObjectId) (direction : Direction) (to : ℕ) →
-    (o : IsInOrder before now went (cell, layer)) → Goes now layer cell object direction to →
+    (o : IsInOrder before now went layer cell) → Goes now layer cell object direction to →
     target before layer cell ≡ Some to → winner before layer to ≡ Some cell
 step_wins before now went layer cell object direction to o h aims = by_bare (is_bare before layer to) refl where
   within : cell < cell_count before
@@ -283,11 +264,10 @@ step_wins before now went layer cell object direction to o h aims = by_bare (is_
 
   by_bare : (b : Bool) → is_bare before layer to ≡ b → winner before layer to ≡ Some cell
   by_bare true e = winner-of_bare before layer to cell e within aims
-      (λ s a. subst (λ (k : ℕ). k ≤ s) (next_own cell layer) (o.time.to_bare layer s to h.here.1 (goes s a) e))
+      (λ s a. o.time.to_bare s to (goes s a) e)
   by_bare false e =
       let order : (s : ℕ) → target before layer s ≡ Some to → ComesBefore cell s to =
-      λ (s : ℕ) (a : target before layer s ≡ Some to). subst (λ (k : ℕ). ComesBefore k s to) (next_own cell layer)
-      (o.time.to_left layer s to h.here.1 (goes s a) e) in
+      λ (s : ℕ) (a : target before layer s ≡ Some to). o.time.to_left s to (goes s a) e in
       winner-of_left before layer to cell e within aims (λ (f : cell ≡ to). h.apart (sym f)) (λ s a. (order s a).behind)
       (λ s a. (order s a).over) (λ s a. (order s a).ahead)
 
@@ -296,7 +276,7 @@ as_many_cells : (now : Grid) (layer cell : ℕ) (object : ObjectId) (to : ℕ) �
 as_many_cells now layer cell object to = simp length-set
 
 step_chain : (before now : Grid) (went : Bool) (layer cell : ℕ) (object : ObjectId) (direction : Direction) (to : ℕ) →
-    (o : IsInOrder before now went (cell, layer)) → Goes now layer cell object direction to →
+    (o : IsInOrder before now went layer cell) → Goes now layer cell object direction to →
     target before layer cell ≡ Some to → HasWon before (stepped now layer cell object to) layer cell
 step_chain before now went layer cell object direction to o h aims = by_bare (is_bare before layer to) refl where
   wins : winner before layer to ≡ Some cell
@@ -340,10 +320,20 @@ won_still before now layer cell object direction to h l from w =
     ] in
     record { to = w.to; wins = w.wins; links = w.links; few = omega arith; chain = w.chain }
 
+-- what could not go on another layer still can't
+none_below : (now : Grid) (layer cell : ℕ) (object : ObjectId) (direction : Direction) (to : ℕ) →
+    Goes now layer cell object direction to → ((l from t : ℕ) → l < layer → way now l from ≡ Some t → ⊥) →
+    (l from t : ℕ) → l < layer → way (stepped now layer cell object to) l from ≡ Some t → ⊥
+none_below now layer cell object direction to h none l from t low goes =
+    elim (way_after now layer cell object direction to h l from t goes) [
+      | inl w ↦ none l from t low w.0
+      | inr w ↦ let same : l ≡ layer = w.0 in omega arith
+    ]
+
 -- one object goes
 pub step_order : (before now : Grid) (went : Bool) (layer cell : ℕ) (object : ObjectId) (direction : Direction)
-    (to : ℕ) → IsInOrder before now went (cell, layer) → Goes now layer cell object direction to →
-    IsInOrder before (stepped now layer cell object to) true (cell, layer + 1)
+    (to : ℕ) → IsInOrder before now went layer cell → Goes now layer cell object direction to →
+    IsInOrder before (stepped now layer cell object to) true layer (cell + 1)
 step_order before now went layer cell object direction to o h =
     let w = waits before now layer cell object direction o.midway h.stands in
     let aims : target before layer cell ≡ Some to =
@@ -357,33 +347,7 @@ step_order before now went layer cell object direction to o h =
         | inr g ↦ won_still before now layer cell object direction to h l from (o.won l from g)
       ];
       time = time_goes before now went layer cell object direction to h (ap is_bare_slot w.stood) o.time;
-    }
-
--- visits may go on from another place that stands for the same next cells
-same_next : (n m from to : ℕ) → n ≡ m → ComesBefore n from to → ComesBefore m from to
-same_next n m from to e h = subst (λ (k : ℕ). ComesBefore k from to) e h
-
-next_end : (cell layer l : ℕ) → l < layer → next_on (cell, layer) l ≡ next_on (cell + 1, 0) l
-next_end cell layer l h = grind (arith, nat_tests)
-
-pub next_first : (cell l : ℕ) → next_on (cell, 0) l ≡ cell
-next_first cell l = grind (arith, nat_tests)
-
--- after the last layer of a cell comes the first of the next
-pub next_cell : (before now : Grid) (went : Bool) (cell layer : ℕ) → layer ≡ now.layers →
-    IsInOrder before now went (cell, layer) → IsInOrder before now went (cell + 1, 0)
-next_cell before now went cell layer end o =
-    let same : (l : ℕ) → l < now.layers → next_on (cell, layer) l ≡ next_on (cell + 1, 0) l =
-    λ (l : ℕ) (h : l < now.layers). next_end cell layer l (omega arith) in
-    record {
-      midway = o.midway;
-      won = o.won;
-      time = record {
-        to_bare = λ l from to within goes bare. subst (λ (k : ℕ). k ≤ from) (same l within)
-            (o.time.to_bare l from to within goes bare);
-        to_left = λ l from to within goes left. same_next (next_on (cell, layer) l) (next_on (cell + 1, 0) l) from to
-            (same l within) (o.time.to_left l from to within goes left);
-        unmoved = λ e l from to within goes. subst (λ (k : ℕ). k ≤ from) (same l within)
-            (o.time.unmoved e l from to within goes);
-      };
+      below = none_below now layer cell object direction to h o.below;
+      above = λ l c high. on_another_layer now layer cell object direction to h c l (omega (arith, high))
+          ∙ o.above l c high;
     }

@@ -27,7 +27,7 @@ use Rattle.ps_move.specs.Midway.{IsMidway}
 use Rattle.ps_move.specs.Order.{IsInOrder}
 use Rattle.ps_move.specs.Parts.{IsPart}
 use Rattle.ps_move.proofs.Steps.{Goes, stepped, half_shape, step_fewer}
-use Rattle.ps_move.proofs.Order.{way_some, time_stays, step_order, next_cell, next_first}
+use Rattle.ps_move.proofs.Order.{way_some, time_stays, step_order}
 
 -- a slot that is still was put in place of another
 put_by : (g : Grid) (cell layer : ℕ) (slot : Slot) → IsGrid g → IsPlace g cell layer → is_moving slot ≡ false →
@@ -53,13 +53,13 @@ put_still g cell layer slot shape place still c l was =
     put_by g cell layer slot shape place still c l (nat_eq c cell) (nat_eq l layer) refl refl was
 
 -- nothing at all
-pub part_none : (g : Grid) (place : ℕ × ℕ) → IsPart false g g place place
-part_none g place = record {
+pub part_none : (g : Grid) (layer cell : ℕ) → IsPart false g g layer cell cell
+part_none g layer cell = record {
   shape = λ shape. shape;
   width = refl;
   height = refl;
   layers = refl;
-  order = λ before moved o. subst (λ (b : Bool). IsInOrder before g b place) (sym (or-false moved)) o;
+  order = λ before moved o. subst (λ (b : Bool). IsInOrder before g b layer cell) (sym (or-false moved)) o;
   fewer = omega arith;
   same = λ e. refl;
   still = λ cell layer still. still;
@@ -70,14 +70,14 @@ any_of true b m n o h k = omega arith
 any_of false b m n o h k = omega arith
 
 -- one part after another
-pub part_then : (a b : Bool) (old now new : Grid) (first next last : ℕ × ℕ) → IsPart a old now first next →
-    IsPart b now new next last → IsPart (a || b) old new first last
-part_then a b old now new first next last p q = record {
+pub part_then : (a b : Bool) (old now new : Grid) (layer first next last : ℕ) → IsPart a old now layer first next →
+    IsPart b now new layer next last → IsPart (a || b) old new layer first last
+part_then a b old now new layer first next last p q = record {
   shape = λ shape. q.shape (p.shape shape);
   width = q.width ∙ p.width;
   height = q.height ∙ p.height;
   layers = q.layers ∙ p.layers;
-  order = λ before moved o. subst (λ (c : Bool). IsInOrder before new c last) (or_assoc moved a b)
+  order = λ before moved o. subst (λ (c : Bool). IsInOrder before new c layer last) (or_assoc moved a b)
       (q.order before (moved || a) (p.order before moved o));
   fewer = any_of a b (going_count old) (going_count now) (going_count new) p.fewer q.fewer;
   same = λ e. let none = or_parts a b e in q.same none.1 ∙ p.same none.0;
@@ -86,14 +86,20 @@ part_then a b old now new first next last p q = record {
 
 -- a visit in which nothing goes
 pub part_stays : (g : Grid) (layer cell : ℕ) → way g layer cell ≡ None →
-    IsPart false g g (cell, layer) (cell, layer + 1)
+    IsPart false g g layer cell (cell + 1)
 part_stays g layer cell none = record {
   shape = λ shape. shape;
   width = refl;
   height = refl;
   layers = refl;
-  order = λ before moved o. subst (λ (b : Bool). IsInOrder before g b (cell, layer + 1)) (sym (or-false moved))
-      (record { midway = o.midway; won = o.won; time = time_stays before g moved layer cell none o.time });
+  order = λ before moved o. subst (λ (b : Bool). IsInOrder before g b layer (cell + 1)) (sym (or-false moved))
+      (record {
+        midway = o.midway;
+        won = o.won;
+        time = time_stays before g moved layer cell none o.time;
+        below = o.below;
+        above = o.above;
+      });
   fewer = omega arith;
   same = λ e. refl;
   still = λ other l still. still;
@@ -102,14 +108,14 @@ part_stays g layer cell none = record {
 -- a visit in which one object goes
 part_goes : (g : Grid) (layer cell : ℕ) (object : ObjectId) (direction : Direction) (to : ℕ) →
     Goes g layer cell object direction to →
-    IsPart true g (stepped g layer cell object to) (cell, layer) (cell, layer + 1)
+    IsPart true g (stepped g layer cell object to) layer cell (cell + 1)
 part_goes g layer cell object direction to h = record {
   shape = λ shape. IsGrid-with_slot (with_slot g to layer (Holds object Still)) cell layer Bare
       (half_shape g layer cell object direction to h) h.here;
   width = refl;
   height = refl;
   layers = refl;
-  order = λ before moved o. subst (λ (b : Bool). IsInOrder before (stepped g layer cell object to) b (cell, layer + 1))
+  order = λ before moved o. subst (λ (b : Bool). IsInOrder before (stepped g layer cell object to) b layer (cell + 1))
       (sym (or-true moved))
       (step_order before g moved layer cell object direction to o h);
   fewer = let less = step_fewer g layer cell object direction to h in omega arith;
@@ -122,7 +128,7 @@ part_goes g layer cell object direction to h = record {
 -- what a visit does, by what stands there and where it can go
 part_gone : (g : Grid) (layer cell : ℕ) (slot : Slot) (to : Option ℕ) → IsGrid g → IsPlace g cell layer →
     slot_at g cell layer ≡ slot → if_bare g layer (aim_of g cell slot) ≡ to →
-    IsPart (is_some to) g (gone g layer cell to) (cell, layer) (cell, layer + 1)
+    IsPart (is_some to) g (gone g layer cell to) layer cell (cell + 1)
 part_gone g layer cell slot None shape place e w =
     part_stays g layer cell (ap (λ (s : Slot). if_bare g layer (aim_of g cell s)) e ∙ w)
 part_gone g layer cell Bare (Some to) shape place e w = absurd (cc)
@@ -143,39 +149,25 @@ part_gone g layer cell (Holds object (Going direction)) (Some to) shape place e 
           free.0;
     } in
     let P : Slot → Type 0 = λ s. IsPart true g (with_slot (with_slot g to layer (slot_at_rest s)) cell layer Bare)
-    (cell, layer) (cell, layer + 1) in
+    layer cell (cell + 1) in
     subst P (sym e) (part_goes g layer cell object direction to h)
 
 -- a visit is a part
 pub part_visit : (g : Grid) (layer cell : ℕ) → IsGrid g → IsPlace g cell layer →
-    IsPart (is_some (way g layer cell)) g (visited g layer cell) (cell, layer) (cell, layer + 1)
+    IsPart (is_some (way g layer cell)) g (visited g layer cell) layer cell (cell + 1)
 part_visit g layer cell shape place =
     part_gone g layer cell (slot_at g cell layer) (way g layer cell) shape place refl refl
 
 -- a visit after a part
-pub part_then_visit : (went moved : Bool) (old now new : Grid) (first : ℕ × ℕ) (layer cell : ℕ) → IsGrid old →
-    IsPlace old cell layer → IsPart went old now first (cell, layer) →
+pub part_then_visit : (went moved : Bool) (old now new : Grid) (layer first cell : ℕ) → IsGrid old →
+    IsPlace old cell layer → IsPart went old now layer first cell →
     new ≡ visited now layer cell → moved ≡ is_some (way now layer cell) →
-    IsPart (went || moved) old new first (cell, layer + 1)
-part_then_visit went moved old now new first layer cell shape place p grid told =
+    IsPart (went || moved) old new layer first (cell + 1)
+part_then_visit went moved old now new layer first cell shape place p grid told =
     let place' : IsPlace now cell layer = rw (p.width, p.height, p.layers) place in
     rw (grid, told)
-    (part_then went (is_some (way now layer cell)) old now (visited now layer cell) first (cell, layer)
-    (cell, layer + 1) p (part_visit now layer cell (p.shape shape) place'))
-
--- after the last layer of a cell comes the first of the next
-pub part_cell : (went : Bool) (old new : Grid) (first : ℕ × ℕ) (cell layer : ℕ) → layer ≡ new.layers →
-    IsPart went old new first (cell, layer) → IsPart went old new first (cell + 1, 0)
-part_cell went old new first cell layer end p = record {
-  shape = p.shape;
-  width = p.width;
-  height = p.height;
-  layers = p.layers;
-  order = λ before moved o. next_cell before new (moved || went) cell layer end (p.order before moved o);
-  fewer = p.fewer;
-  same = p.same;
-  still = p.still;
-}
+    (part_then went (is_some (way now layer cell)) old now (visited now layer cell) layer first cell (cell + 1) p
+    (part_visit now layer cell (p.shape shape) place'))
 
 -- how many objects there can be
 pub going_count-bound : (g : Grid) → IsGrid g → going_count g ≤ SIDE_LIMIT * SIDE_LIMIT * LAYER_LIMIT
@@ -210,16 +202,18 @@ none_waits g layer from to goes taken =
     cc
 
 -- at the start of the first pass
-pub order_none : (g : Grid) → IsInOrder g g false (0, 0)
+pub order_none : (g : Grid) → IsInOrder g g false 0 0
 unfolding midway_none
 order_none g = record {
   midway = midway_none g;
   won = λ layer from e. absurd (cc);
   time = record {
-    to_bare = λ l from to within goes bare. rw next_first (omega arith);
-    to_left = λ l from to within goes left. absurd (none_waits g l from to goes left);
-    unmoved = λ e l from to within goes. rw next_first (omega arith);
+    to_bare = λ from to goes bare. omega arith;
+    to_left = λ from to goes left. absurd (none_waits g 0 from to goes left);
+    unmoved = λ e from to goes. omega arith;
   };
+  below = λ l from to low goes. absurd (omega (arith, low));
+  above = λ l cell high. refl;
 }
 
 held_at_rest : (slot : Slot) (object : ObjectId) (motion : Motion) → slot_at_rest slot ≡ Holds object motion →

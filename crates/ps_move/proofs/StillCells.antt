@@ -2,6 +2,7 @@
 use Rattle.std.proofs.Common.{◌≡◌, ◌∙◌, ℕ, ◌+◌, ◌-◌, ◌*◌, ◌<◌, ◌≤◌, suc, zero, ◌||◌, inl, inr, Bool, true, false, None}
 use Rattle.std.proofs.Common.{List, length, get_or, refl, subst, sym, ap, arith}
 use Rattle.std.specs.List.{list_any}
+use Rattle.std.proofs.Math.Bool.{or-false}
 use Rattle.std.proofs.lemmas.Bool.{cases_lt}
 use Rattle.std.proofs.lemmas.List.{get_or_past}
 use Rattle.std.proofs.lemmas.List.Folds.{list_any_at}
@@ -13,12 +14,11 @@ use Rattle.ps_model.specs.declared.limits.TheConstants.{SIDE_LIMIT}
 use Rattle.ps_model.specs.board.Grid.{Grid, IsGrid, cell_at, slot_at}
 use Rattle.ps_model.specs.board.Movement.{aim_of}
 use Rattle.ps_board.specs.ColumnSets.{column_at}
-use Rattle.ps_board.specs.CellSets.{IsSetOf, columns_in}
+use Rattle.ps_board.specs.CellSets.{IsSetOf, cell_in}
 use Rattle.ps_board.specs.RowsOfGrids.{PassOnlyOn, is_moving}
-use Rattle.ps_board.proofs.CellLaws.{cell_out}
 use Rattle.ps_move.specs.Visits.{way, if_bare}
-use Rattle.ps_move.specs.Parts.{IsPart, IsStillBeside, IsStillOutside}
-use Rattle.ps_move.proofs.Parts.{part_none, part_then, part_stays, part_cell}
+use Rattle.ps_move.specs.Parts.{IsPart, IsStillBeside, IsStillIn, IsStillOutside}
+use Rattle.ps_move.proofs.Parts.{part_none, part_then, part_stays}
 
 -- what is still has no target
 aim_still : (g : Grid) (cell : ℕ) (slot : Slot) → is_moving slot ≡ false → aim_of g cell slot ≡ None
@@ -33,118 +33,117 @@ aim_still g cell (Holds object Acting) still = refl
 way_still : (g : Grid) (layer cell : ℕ) → is_moving (slot_at g cell layer) ≡ false → way g layer cell ≡ None
 way_still g layer cell still = ap (if_bare g layer) (aim_still g cell (slot_at g cell layer) still)
 
--- the layers of a cell that is still
-layers_still : (g : Grid) (cell count : ℕ) → ((layer : ℕ) → is_moving (slot_at g cell layer) ≡ false) →
-    IsPart false g g (cell, 0) (cell, count)
-layers_still g cell zero still = part_none g (cell, 0)
-layers_still g cell (suc count) still =
-    let next : suc count ≡ count + 1 = omega arith in
-    rw next (part_then false false g g g (cell, 0) (cell, count) (cell, count + 1) (layers_still g cell count still)
-    (part_stays g count cell (way_still g count cell (still count))))
+-- a cell whose object is still
+cell_still : (g : Grid) (layer cell : ℕ) → is_moving (slot_at g cell layer) ≡ false →
+    IsPart false g g layer cell (cell + 1)
+cell_still g layer cell still = part_stays g layer cell (way_still g layer cell still)
 
--- a cell that is still
-pub cell_still : (g : Grid) (cell : ℕ) → ((layer : ℕ) → is_moving (slot_at g cell layer) ≡ false) →
-    IsPart false g g (cell, 0) (cell + 1, 0)
-cell_still g cell still = part_cell false g g (cell, 0) cell g.layers refl (layers_still g cell g.layers still)
-
--- cells that are still
-cells_still : (g : Grid) (start count : ℕ) → ((row layer : ℕ) → row < count →
-    is_moving (slot_at g (start + row) layer) ≡ false) → IsPart false g g (start, 0) (start + count, 0)
-cells_still g start zero still =
-    let same : start + zero ≡ start = omega arith in rw same (part_none g (start, 0))
-cells_still g start (suc count) still =
+-- cells whose objects are still
+cells_still : (g : Grid) (layer start count : ℕ) → ((row : ℕ) → row < count →
+    is_moving (slot_at g (start + row) layer) ≡ false) → IsPart false g g layer start (start + count)
+cells_still g layer start zero still =
+    let same : start + zero ≡ start = omega arith in rw same (part_none g layer start)
+cells_still g layer start (suc count) still =
     let next : start + suc count ≡ start + count + 1 = omega arith in
-    rw next (part_then false false g g g (start, 0) (start + count, 0) (start + count + 1, 0)
-    (cells_still g start count (λ row layer low. still row layer (omega arith)))
-    (cell_still g (start + count) (λ layer. still count layer (omega arith))))
-
--- a column that is still
-pub column_still : (g : Grid) (cells : List (List Bool)) (column : ℕ) → IsGrid g → IsStillBeside g cells →
-    column < g.width → column_at (columns_in cells) column ≡ false →
-    IsPart false g g (column * g.height, 0) ((column + 1) * g.height, 0)
-column_still g cells column shape still across none =
-    let low : column < SIDE_LIMIT = omega (arith, across, shape.columns) in
-    let end : (column + 1) * g.height ≡ column * g.height + g.height = omega arith in
-    rw end (cells_still g (column * g.height) g.height (λ row layer down.
-    still column row layer across down (cell_out cells column row low none)))
+    rw next (part_then false false g g g layer start (start + count) (start + count + 1)
+    (cells_still g layer start count (λ row low. still row (omega arith)))
+    (cell_still g layer (start + count) (still count (omega arith))))
 
 -- columns that are still, one behind the other
-pub columns_still : (g : Grid) (cells : List (List Bool)) (from count : ℕ) → IsGrid g → IsStillBeside g cells →
-    from + count ≤ g.width →
-    ((column : ℕ) → from ≤ column → column < from + count → column_at (columns_in cells) column ≡ false) →
-    IsPart false g g (from * g.height, 0) ((from + count) * g.height, 0)
-columns_still g cells from zero shape still across none =
-    let same : from + zero ≡ from = omega arith in rw same (part_none g (from * g.height, 0))
-columns_still g cells from (suc count) shape still across none =
+columns_still : (g : Grid) (layer from count : ℕ) →
+    ((column row : ℕ) → from ≤ column → column < from + count → row < g.height →
+    is_moving (slot_at g (column * g.height + row) layer) ≡ false) →
+    IsPart false g g layer (from * g.height) ((from + count) * g.height)
+columns_still g layer from zero still =
+    let same : from + zero ≡ from = omega arith in rw same (part_none g layer (from * g.height))
+columns_still g layer from (suc count) still =
     let next : from + suc count ≡ from + count + 1 = omega arith in
-    rw next (part_then false false g g g (from * g.height, 0) ((from + count) * g.height, 0)
-    ((from + count + 1) * g.height, 0)
-    (columns_still g cells from count shape still (omega (arith, across)) (λ column low high.
-    none column low (omega (arith, high))))
-    (column_still g cells (from + count) shape still (omega (arith, across))
-    (none (from + count) (omega arith) (omega arith))))
+    let end : (from + count + 1) * g.height ≡ (from + count) * g.height + g.height = omega arith in
+    rw (next, end) (part_then false false g g g layer (from * g.height) ((from + count) * g.height)
+    ((from + count) * g.height + g.height)
+    (columns_still g layer from count (λ column row low high. still column row low (omega (arith, high))))
+    (cells_still g layer ((from + count) * g.height) g.height (λ row down.
+    still (from + count) row (omega arith) (omega arith) down)))
 
 -- those between two columns
-pub columns_between : (g : Grid) (cells : List (List Bool)) (from to : ℕ) → IsGrid g → IsStillBeside g cells →
-    from ≤ to → to ≤ g.width →
-    ((column : ℕ) → from ≤ column → column < to → column_at (columns_in cells) column ≡ false) →
-    IsPart false g g (from * g.height, 0) (to * g.height, 0)
-columns_between g cells from to shape still up across none =
+columns_between : (g : Grid) (layer from to : ℕ) → from ≤ to →
+    ((column row : ℕ) → from ≤ column → column < to → row < g.height →
+    is_moving (slot_at g (column * g.height + row) layer) ≡ false) →
+    IsPart false g g layer (from * g.height) (to * g.height)
+columns_between g layer from to up still =
     let count : ℕ = to - from in
     let end : from + count ≡ to = omega (arith, up) in
-    let E : ℕ → Type 0 = λ last. IsPart false g g (from * g.height, 0) (last * g.height, 0) in
-    subst E end (columns_still g cells from count shape still (omega (arith, end, across)) (λ column low high.
-    none column low (omega (arith, high, end))))
+    let E : ℕ → Type 0 = λ last. IsPart false g g layer (from * g.height) (last * g.height) in
+    subst E end (columns_still g layer from count (λ column row low high down.
+    still column row low (omega (arith, high, end)) down))
+
+-- visits that go on over columns that are still
+pub columns_over : (went : Bool) (old now : Grid) (layer first from to : ℕ) →
+    IsPart went old now layer first (from * old.height) → from ≤ to →
+    ((column row : ℕ) → from ≤ column → column < to → row < old.height →
+    is_moving (slot_at old (column * old.height + row) layer) ≡ false) →
+    IsPart went old now layer first (to * old.height)
+columns_over went old now layer first from to p up still =
+    let between : IsPart false now now layer (from * now.height) (to * now.height) =
+    columns_between now layer from to up (λ column row low high down.
+    rw p.height (p.still (column * old.height + row) layer (still column row low high (rw (← p.height) down)))) in
+    let H : ℕ → Type 0 = λ height. IsPart false now now layer (from * height) (to * height) in
+    let W : Bool → Type 0 = λ b. IsPart b old now layer first (to * old.height) in
+    subst W (or-false went) (part_then went false old now now layer first (from * old.height) (to * old.height) p
+    (subst H p.height between))
 
 -- rows of a column that are still, between two rows
-pub rows_between : (g : Grid) (rows : List Bool) (column from to : ℕ) → IsStillOutside g rows → column < g.width →
-    from ≤ to → to ≤ g.height →
-    ((row : ℕ) → from ≤ row → row < to → column_at rows row ≡ false) →
-    IsPart false g g (column * g.height + from, 0) (column * g.height + to, 0)
-rows_between g rows column from to still across up down none =
+rows_between : (g : Grid) (layer column from to : ℕ) → from ≤ to →
+    ((row : ℕ) → from ≤ row → row < to → is_moving (slot_at g (column * g.height + row) layer) ≡ false) →
+    IsPart false g g layer (column * g.height + from) (column * g.height + to)
+rows_between g layer column from to up still =
     let count : ℕ = to - from in
     let end : column * g.height + from + count ≡ column * g.height + to = omega (arith, up) in
-    let E : ℕ → Type 0 = λ last. IsPart false g g (column * g.height + from, 0) (last, 0) in
-    subst E end (cells_still g (column * g.height + from) count (λ row layer low.
+    let E : ℕ → Type 0 = λ last. IsPart false g g layer (column * g.height + from) last in
+    subst E end (cells_still g layer (column * g.height + from) count (λ row low.
     let inside : from + row < to = omega (arith, low, up) in
-    let under : from + row < g.height = omega (arith, inside, down) in
     let place : column * g.height + (from + row) ≡ column * g.height + from + row = omega arith in
     let S : ℕ → Type 0 = λ cell. is_moving (slot_at g cell layer) ≡ false in
-    subst S place (still column (from + row) layer across under (none (from + row) (omega arith) inside))))
+    subst S place (still (from + row) (omega arith) inside)))
+
+-- visits that go on over rows of a column that are still
+pub rows_over : (went : Bool) (old now : Grid) (layer first column from to : ℕ) →
+    IsPart went old now layer first (column * old.height + from) → from ≤ to →
+    ((row : ℕ) → from ≤ row → row < to → is_moving (slot_at old (column * old.height + row) layer) ≡ false) →
+    IsPart went old now layer first (column * old.height + to)
+rows_over went old now layer first column from to p up still =
+    let between : IsPart false now now layer (column * now.height + from) (column * now.height + to) =
+    rows_between now layer column from to up (λ row low high.
+    rw p.height (p.still (column * old.height + row) layer (still row low high))) in
+    let H : ℕ → Type 0 = λ height. IsPart false now now layer (column * height + from) (column * height + to) in
+    let W : Bool → Type 0 = λ b. IsPart b old now layer first (column * old.height + to) in
+    subst W (or-false went) (part_then went false old now now layer first (column * old.height + from)
+    (column * old.height + to) p (subst H p.height between))
 
 -- outside of these rows everything stays still
-pub outside_then : (went : Bool) (old new : Grid) (first last : ℕ × ℕ) (rows : List Bool) →
-    IsPart went old new first last → IsStillOutside old rows → IsStillOutside new rows
-outside_then went old new first last rows part still = λ column row layer across down out.
-    rw part.height (part.still (column * old.height + row) layer
-    (still column row layer (rw (← part.width) across) (rw (← part.height) down) out))
+pub outside_then : (old new : Grid) (rows : List Bool) → new.width ≡ old.width → new.height ≡ old.height →
+    ((cell layer : ℕ) → is_moving (slot_at old cell layer) ≡ false → is_moving (slot_at new cell layer) ≡ false) →
+    IsStillOutside old rows → IsStillOutside new rows
+outside_then old new rows width height stay still = λ column row layer across down out.
+    rw height (stay (column * old.height + row) layer
+    (still column row layer (rw (← width) across) (rw (← height) down) out))
 
 -- beside these cells everything stays still
-pub still_then : (went : Bool) (old new : Grid) (first last : ℕ × ℕ) (cells : List (List Bool)) →
-    IsPart went old new first last → IsStillBeside old cells → IsStillBeside new cells
-still_then went old new first last cells part still = λ column row layer across down out.
-    rw part.height (part.still (column * old.height + row) layer
-    (still column row layer (rw (← part.width) across) (rw (← part.height) down) out))
-
--- one row more of a column
-pub row_then : (a b : Bool) (old now new : Grid) (first : ℕ × ℕ) (column row : ℕ) →
-    IsPart a old now first (column * old.height + row, 0) →
-    IsPart b now new (column * now.height + row, 0) (column * now.height + row + 1, 0) →
-    IsPart (a || b) old new first (column * old.height + (row + 1), 0)
-row_then a b old now new first column row p q =
-    let next : column * old.height + (row + 1) ≡ column * old.height + row + 1 = omega arith in
-    let same : IsPart b now new (column * old.height + row, 0) (column * old.height + row + 1, 0) =
-    subst (λ (h : ℕ). IsPart b now new (column * h + row, 0) (column * h + row + 1, 0)) p.height q in
-    rw next (part_then a b old now new first (column * old.height + row, 0) (column * old.height + row + 1, 0) p same)
+pub beside_then : (old new : Grid) (cells : List (List Bool)) → new.width ≡ old.width → new.height ≡ old.height →
+    ((cell layer : ℕ) → is_moving (slot_at old cell layer) ≡ false → is_moving (slot_at new cell layer) ≡ false) →
+    IsStillBeside old cells → IsStillBeside new cells
+beside_then old new cells width height stay still = λ column row layer across down out.
+    rw height (stay (column * old.height + row) layer
+    (still column row layer (rw (← width) across) (rw (← height) down) out))
 
 -- one column more
-pub column_then : (a b : Bool) (old now new : Grid) (first : ℕ × ℕ) (column : ℕ) →
-    IsPart a old now first (column * old.height, 0) →
-    IsPart b now new (column * now.height, 0) ((column + 1) * now.height, 0) →
-    IsPart (a || b) old new first ((column + 1) * old.height, 0)
-column_then a b old now new first column p q =
-    part_then a b old now new first (column * old.height, 0) ((column + 1) * old.height, 0) p
-    (subst (λ (h : ℕ). IsPart b now new (column * h, 0) ((column + 1) * h, 0)) p.height q)
+pub column_then : (a b : Bool) (old now new : Grid) (layer first column : ℕ) →
+    IsPart a old now layer first (column * old.height) →
+    IsPart b now new layer (column * now.height) ((column + 1) * now.height) →
+    IsPart (a || b) old new layer first ((column + 1) * old.height)
+column_then a b old now new layer first column p q =
+    part_then a b old now new layer first (column * old.height) ((column + 1) * old.height) p
+    (subst (λ (h : ℕ). IsPart b now new layer (column * h) ((column + 1) * h)) p.height q)
 
 -- no slot of a cell that is in no set of movers
 slot_still : (slots : List Slot) (layer : ℕ) (b : Bool) → is_moving (get_or slots layer Bare) ≡ b →
@@ -166,3 +165,18 @@ pub rows_still : (g : Grid) (rows : List Bool) → PassOnlyOn is_moving g rows �
 rows_still g rows told = λ column row layer across down out.
     slot_still (cell_at g (column * g.height + row)) layer (is_moving (slot_at g (column * g.height + row) layer)) refl
     (told row down out column across)
+
+-- beside the rows of a column that are visited everything is still
+pub visited_still : (g : Grid) (layer column : ℕ) (rows visited : List Bool) (few : Bool) (cells : List (List Bool)) →
+    IsGrid g → column < g.width → IsStillOutside g rows → (few ≡ false → IsStillBeside g cells) →
+    ((row : ℕ) → row < SIDE_LIMIT → column_at visited row ≡ false → column_at rows row ≡ true →
+    (few ≡ false) × (cell_in cells column row ≡ false)) →
+    IsStillIn g layer column visited
+visited_still g layer column rows visited few cells shape across outside beside others = λ row down out.
+    by_set row down out (column_at rows row) refl where
+      by_set : (row : ℕ) → row < g.height → column_at visited row ≡ false → (b : Bool) → column_at rows row ≡ b →
+          is_moving (slot_at g (column * g.height + row) layer) ≡ false
+      by_set row down out false e = outside column row layer across down e
+      by_set row down out true e =
+          let other = others row (omega (arith, down, shape.rows)) out e in
+          beside other.0 column row layer across down other.1

@@ -1,17 +1,21 @@
 //! The movement of a turn: each object whose motion is a direction goes one cell on, where that cell is free.
 //!
-//! The cells are visited in the order of their numbers, in passes, until a pass moves nothing. An object that has
-//! moved is at rest, so that it goes one cell at most, and an object that waits for another to leave goes in the same
-//! pass or in a later one. Of several that want to enter a cell, the visits come first to the one that may: the
-//! least, or, where an object left the cell, the next one after it, and after the last cell the first.
+//! No layer has to do with another, and one is taken after the other. The cells of a layer are visited in the order of
+//! their numbers, in passes, until a pass moves nothing. An object that has moved is at rest, so that it goes one cell
+//! at most, and an object that waits for another to leave goes in the same pass or in a later one. Of several that want
+//! to enter a cell, the visits come first to the one that may: the least, or, where an object left the cell, the next
+//! one after it, and after the last cell the first.
 
-ghost use Rattle.std.specs.Prelude.{◌≡◌, ℕ, ◌+◌, ◌*◌, ◌<◌, ◌≤◌, IfSome, is_some};
+ghost use Rattle.std.specs.Prelude.{◌≡◌, ℕ, ◌+◌, ◌*◌, ◌<◌, ◌≤◌, IfSome, false, is_some, true};
 ghost use Rattle.ps_model.specs.board.Grid.{IsGrid, IsPlace, at_rest, neighbour};
 ghost use Rattle.ps_model.specs.board.Movement.{slid};
 ghost use Rattle.ps_model.specs.board.WeakMovement.{IsWeaklySlid};
 ghost use Rattle.ps_model.specs.declared.limits.TheConstants.{LAYER_LIMIT, SIDE_LIMIT};
+ghost use Rattle.ps_board.specs.ColumnSets.{column_at};
+ghost use Rattle.ps_board.specs.CellSets.{cell_in};
 ghost use Rattle.ps_move.specs.Visits.{way, visited, going_count};
-ghost use Rattle.ps_move.specs.Parts.{IsPart, IsStillBeside, IsStillOutside};
+ghost use Rattle.ps_move.specs.Parts.{ArePasses, IsBelow, IsPart, IsStillBeside, IsStillBetween, IsStillIn};
+ghost use Rattle.ps_move.specs.Parts.{IsStillOutside};
 
 use ps_board::{Board, CellSet, Columns, Direction, LayerId, Motion};
 use std::marker::Model;
@@ -31,7 +35,7 @@ impl Model for Slid {
 }
 
 impl Slid {
-    /// How many passes over the board were made. The last of them moved nothing.
+    /// One more than the passes that moved an object: a movement in which nothing goes has one.
     pub fn passes_used(&self) -> u32
         ensures { result ≡ self.now }
     {
@@ -49,7 +53,8 @@ impl Slid {
 /// `exact` says where everything stands afterwards, and `slid` what that means for each object: it stands where it
 /// stood or in its target, and none is lost or made.
 ///
-/// `moving` is room for the cells in which something moves; what it had before is forgotten. No memory is taken.
+/// `moving` is room for the cells in which something moves, where that is in many rows. Of what it had before nothing
+/// is used. No memory is taken.
 pub fn slide<B: Board>(board: &mut B, moving: &mut CellSet<B>) -> Slid
     ensures exact { B.grid board.new ≡ slid (B.grid board.old) }
     ensures slid { IsWeaklySlid (B.grid board.old) (B.grid board.new) }
@@ -58,92 +63,149 @@ pub fn slide<B: Board>(board: &mut B, moving: &mut CellSet<B>) -> Slid
     ensures few_passes { result ≤ going_count (B.grid board.old) + 1 }
     ensures table { B.table board.new ≡ B.table board.old }
 {
-    moving.set_moving(board);
-    let mut rows = board.rows_moving_any();
+    let (_, height) = board.size();
+    let rows = board.rows_moving_any().both(Columns::below(height));
+    let few = rows.has_few();
+    note_cells(board, few, moving);
     let mut passes = 1;
-    while pass(board, moving, &rows) {
-        passes += 1;
-        rows = board.rows_moving_any();
+    for layer in 0..board.layers() {
+        passes += slide_layer(board, LayerId(layer), rows, few, moving);
     }
     board.clear_moves();
     Slid { passes }
 }
 
-/// Visits those cells in which an object may be about to do something, in the order of their numbers, and tells
-/// whether any object went. In no other cell an object may be, nor in any but these rows, so that columns without one
-/// are passed over, and in each column other rows.
-fn pass<B: Board>(board: &mut B, moving: &CellSet<B>, rows: &Columns<B::Words>) -> bool
-    requires still { IsStillBeside (B.grid board.old) moving.now }
-    requires outside { IsStillOutside (B.grid board.old) rows.now }
-    ensures shape { IsGrid (B.grid board.old) }
-    ensures part { let old = B.grid board.old in
-        IsPart result old (B.grid board.new) (0, 0) (old.width * old.height, 0) }
-    ensures still { IsStillBeside (B.grid board.new) moving.now }
-    ensures outside { IsStillOutside (B.grid board.new) rows.now }
+/// Notes the cells in which something moves, but for where the rows of these are few: then all their cells are sooner
+/// visited.
+fn note_cells<B: Board>(board: &B, few: bool, moving: &mut CellSet<B>)
+    ensures { few ≡ false → IsStillBeside (B.grid board.now) moving.new }
+{
+    if few {
+        return;
+    }
+    moving.set_moving(board);
+}
+
+/// Lets the objects of a layer go, in passes until one moves nothing, and answers how many moved some. Something moves
+/// in these rows alone, and where they aren't few in these cells alone.
+fn slide_layer<B: Board>(
+    board: &mut B,
+    layer: LayerId,
+    rows: Columns<B::Words>,
+    few: bool,
+    moving: &CellSet<B>,
+) -> u32
+    requires shape { IsGrid (B.grid board.old) }
+    requires layer { layer.0 < (B.grid board.old).layers }
+    requires below { IsBelow (B.grid board.old).height rows }
+    requires outside { IsStillOutside (B.grid board.old) rows }
+    requires beside { few ≡ false → IsStillBeside (B.grid board.old) moving.now }
+    ensures passes { ArePasses result (B.grid board.old) (B.grid board.new) layer.0 (layer.0 + 1) }
     ensures table { B.table board.new ≡ B.table board.old }
 {
-    let (width, _) = board.size();
-    let mut left = moving.columns().both(Columns::below(width));
+    let mut passes = 0;
+    while pass(board, layer, rows, few, moving) {
+        passes += 1;
+    }
+    passes
+}
+
+/// Visits those cells of a layer in which an object may be about to do something, in the order of their numbers, and
+/// tells whether any object went. Columns without such a cell are passed over, and in each column other rows.
+fn pass<B: Board>(
+    board: &mut B,
+    layer: LayerId,
+    rows: Columns<B::Words>,
+    few: bool,
+    moving: &CellSet<B>,
+) -> bool
+    requires shape { IsGrid (B.grid board.old) }
+    requires layer { layer.0 < (B.grid board.old).layers }
+    requires below { IsBelow (B.grid board.old).height rows }
+    requires outside { IsStillOutside (B.grid board.old) rows }
+    requires beside { few ≡ false → IsStillBeside (B.grid board.old) moving.now }
+    ensures part { let old = B.grid board.old in
+        IsPart result old (B.grid board.new) layer.0 0 (old.width * old.height) }
+    ensures table { B.table board.new ≡ B.table board.old }
+{
+    let mut left = moving_columns(board, layer, rows);
     let mut went = false;
     while let Some(column) = left.take_first() {
-        went |= visit_column(board, column, moving, rows);
+        let visited = rows_to_visit(column, rows, few, moving);
+        went |= visit_column(board, layer, column, visited);
     }
     went
 }
 
-/// Visits those cells of a column in which an object may be about to do something, from the top, and tells whether any
-/// object went.
+/// The columns that have a cell in which the object of a layer is about to do something, by the rows that may have one.
+fn moving_columns<B: Board>(board: &B, layer: LayerId, rows: Columns<B::Words>) -> Columns<B::Words>
+    requires shape { IsGrid (B.grid board.now) }
+    requires layer { layer.0 < (B.grid board.now).layers }
+    requires below { IsBelow (B.grid board.now).height rows }
+    requires outside { IsStillOutside (B.grid board.now) rows }
+    ensures narrow { IsBelow (B.grid board.now).width result }
+    ensures still { IsStillBetween (B.grid board.now) layer.0 result }
+{
+    let mut moving = Columns::none();
+    let mut left = rows;
+    while let Some(row) = left.take_first() {
+        moving = moving.either(board.movers(layer, row));
+    }
+    moving
+}
+
+/// The rows of a set that are visited in a column: few are all visited, and of many those whose cell is one of these.
+fn rows_to_visit<B: Board>(
+    column: u32,
+    rows: Columns<B::Words>,
+    few: bool,
+    moving: &CellSet<B>,
+) -> Columns<B::Words>
+    ensures within { (row : ℕ) → row < SIDE_LIMIT → column_at rows row ≡ false → column_at result row ≡ false }
+    ensures others { (row : ℕ) → row < SIDE_LIMIT → column_at result row ≡ false → column_at rows row ≡ true →
+        (few ≡ false) × (cell_in moving.now column row ≡ false) }
+{
+    if few {
+        return rows;
+    }
+    rows_in(column, rows, moving)
+}
+
+/// The rows of a set whose cell in a column is one of these.
+fn rows_in<B: Board>(column: u32, rows: Columns<B::Words>, moving: &CellSet<B>) -> Columns<B::Words>
+    ensures within { (row : ℕ) → row < SIDE_LIMIT → column_at rows row ≡ false → column_at result row ≡ false }
+    ensures others { (row : ℕ) → row < SIDE_LIMIT → column_at result row ≡ false → column_at rows row ≡ true →
+        cell_in moving.now column row ≡ false }
+{
+    let mut found = Columns::none();
+    let mut left = rows;
+    while let Some(row) = left.take_first() {
+        found = found.with(row, moving.has(column, row));
+    }
+    found
+}
+
+/// Visits the cells of a column in these rows, from the top, and tells whether any object went.
 fn visit_column<B: Board>(
     board: &mut B,
+    layer: LayerId,
     column: u32,
-    moving: &CellSet<B>,
-    rows: &Columns<B::Words>,
+    rows: Columns<B::Words>,
 ) -> bool
-    requires still { IsStillBeside (B.grid board.old) moving.now }
-    requires outside { IsStillOutside (B.grid board.old) rows.now }
+    requires shape { IsGrid (B.grid board.old) }
+    requires layer { layer.0 < (B.grid board.old).layers }
     requires column { column < (B.grid board.old).width }
+    requires below { IsBelow (B.grid board.old).height rows }
+    requires still { IsStillIn (B.grid board.old) layer.0 column rows }
     ensures part { let old = B.grid board.old in
-        IsPart result old (B.grid board.new) (column * old.height, 0) ((column + 1) * old.height, 0) }
+        IsPart result old (B.grid board.new) layer.0 (column * old.height) ((column + 1) * old.height) }
     ensures table { B.table board.new ≡ B.table board.old }
 {
     let (_, height) = board.size();
-    let mut left = rows.both(Columns::below(height));
+    let mut left = rows;
     let mut went = false;
     while let Some(row) = left.take_first() {
-        went |= visit_row(board, column, row, moving);
-    }
-    went
-}
-
-/// Visits the cell of a column and a row, if an object may be about to do something there, and tells whether any
-/// object went.
-fn visit_row<B: Board>(board: &mut B, column: u32, row: u32, moving: &CellSet<B>) -> bool
-    requires still { IsStillBeside (B.grid board.old) moving.now }
-    requires shape { IsGrid (B.grid board.old) }
-    requires column { column < (B.grid board.old).width }
-    requires row { row < (B.grid board.old).height }
-    ensures part { let old = B.grid board.old in
-        let cell = column * old.height + row in
-        IsPart result old (B.grid board.new) (cell, 0) (cell + 1, 0) }
-    ensures table { B.table board.new ≡ B.table board.old }
-{
-    let (_, height) = board.size();
-    if !moving.has(column, row) {
-        return false;
-    }
-    visit_cell(board, column * height + row)
-}
-
-/// Visits each layer of a cell, and tells whether any object went.
-fn visit_cell<B: Board>(board: &mut B, cell: u32) -> bool
-    requires shape { IsGrid (B.grid board.old) }
-    requires cell { cell < (B.grid board.old).width * (B.grid board.old).height }
-    ensures part { IsPart result (B.grid board.old) (B.grid board.new) (cell, 0) (cell + 1, 0) }
-    ensures table { B.table board.new ≡ B.table board.old }
-{
-    let mut went = false;
-    for layer in 0..board.layers() {
-        went |= visit(board, cell, LayerId(layer));
+        went |= visit(board, column * height + row, layer);
     }
     went
 }

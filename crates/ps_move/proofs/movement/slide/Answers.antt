@@ -1,71 +1,115 @@
-use Rattle.std.proofs.Common.{◌≡◌, ◌∙◌, ◌+◌, ◌*◌, ◌≤◌, Bool, false, cond, subst, arith, refl}
-use Rattle.ps_model.specs.board.Grid.{Grid, IsGrid, at_rest}
+use Rattle.std.proofs.Common.{◌≡◌, ◌∙◌, ℕ, ◌+◌, ◌*◌, ◌≤◌, false, subst, sym, arith, refl, ap}
+use Rattle.ps_model.specs.declared.limits.TheConstants.{SIDE_LIMIT, LAYER_LIMIT}
+use Rattle.ps_model.specs.board.Grid.{Grid, at_rest}
 use Rattle.ps_model.specs.board.WeakMovement.{IsWeaklySlid}
+use Rattle.ps_board.specs.ColumnSets.{columns_below}
+use Rattle.ps_board.proofs.Taken.{below-init}
 use Rattle.ps_move.specs.Visits.{going_count}
 use Rattle.ps_move.specs.Order.{IsInOrder}
+use Rattle.ps_move.specs.Parts.{IsBelow}
 use Rattle.ps_move.proofs.Parts.{going_count-bound, order_none, rest_slides}
-use Rattle.ps_move.proofs.Ends.{next_pass, rest_exact}
-use Rattle.ps_move.proofs.StillCells.{movers_still, rows_still}
+use Rattle.ps_move.proofs.Passes.{passes_none, passes_then}
+use Rattle.ps_move.proofs.Ends.{rest_exact}
+use Rattle.ps_move.proofs.Movers.{outside_both}
+use Rattle.ps_move.proofs.StillCells.{beside_then, outside_then, rows_still}
 use Rattle.ps_move.proofs.movement.slide.Goals as goal
 
-pub loop-passes-init : goal.loop-passes-init
-loop-passes-init g c = record {
-  order = order_none (g.B.Board.grid c.args.board.now);
-  some = omega arith;
-  first = λ e. refl;
-  few = omega arith;
-  room = going_count-bound (g.B.Board.grid c.args.board.now);
-  still = movers_still (g.B.Board.grid c.args.board.now) c.set_moving.new.self c.set_moving.ensures;
-  outside = rows_still (g.B.Board.grid c.args.board.now) c.rows_moving_any-rows.result c.rows_moving_any-rows.ensures;
-  table = refl;
-}
+pub loop-layer-init : goal.loop-layer-init
+loop-layer-init g c = (
+  0,
+  record {
+    more = refl;
+    passes = passes_none (g.B.Board.grid c.args.board.now) 0;
+    table = refl;
+  },
+)
 
-pub loop-passes-preserved : goal.loop-passes-preserved
-loop-passes-preserved g c =
-    let start : Grid = g.B.Board.grid c.args.board.now in
-    let old : Grid = g.B.Board.grid c.loop-passes.board in
-    let now : Grid = g.B.Board.grid c.pass.new.board in
-    let part = c.pass.ensures.part in
-    let inv = c.loop-passes.invariant in
-    let shape : IsGrid now = part.shape c.pass.ensures.shape in
-    let fewer : going_count now + 1 ≤ going_count old =
-    subst (λ (b : Bool). going_count now + cond b 1 0 ≤ going_count old) c.loop-passes-test.true part.fewer in
-    let all : old.width * old.height ≡ now.width * now.height = rw (part.width, part.height) refl in
-    record {
-      order = next_pass start now c.pass.result (old.width * old.height) shape all (part.order start false inv.order);
-      some = omega arith;
-      first = λ e. absurd (omega (arith, inv.some));
-      few = omega (arith, inv.few);
-      room = λ s. inv.room c.pass.ensures.shape;
-      still = c.pass.ensures.still;
-      outside =
-          rows_still now c.rows_moving_any-rows-in-loop-passes.result c.rows_moving_any-rows-in-loop-passes.ensures;
-      table = c.pass.ensures.table ∙ inv.table;
-    }
+pub slide_layer-passes-requires-clause-shape : goal.slide_layer-passes-requires-clause-shape
+slide_layer-passes-requires-clause-shape g c =
+    c.loop-layer.invariant.1.passes.shape c.size-height.ensures.shape
+
+pub slide_layer-passes-requires-clause-layer : goal.slide_layer-passes-requires-clause-layer
+slide_layer-passes-requires-clause-layer g c =
+    rw (c.loop-layer.invariant.1.passes.layers, ← c.layers-layer-end.ensures) c.loop-layer-test.true
+
+pub slide_layer-passes-requires-clause-below : goal.slide_layer-passes-requires-clause-below
+slide_layer-passes-requires-clause-below g c =
+    let old : Grid = g.B.Board.grid c.args.board.now in
+    let below : c.below.result ≡ columns_below old.height =
+    c.below.ensures ∙ ap columns_below c.size-height.ensures.height in
+    let rows : IsBelow old.height c.both-rows.result =
+    (below-init c.rows_moving_any.result c.below.result c.both-rows.result old.height below c.both-rows.ensures).at in
+    rw c.loop-layer.invariant.1.passes.height rows
+
+pub slide_layer-passes-requires-clause-outside : goal.slide_layer-passes-requires-clause-outside
+slide_layer-passes-requires-clause-outside g c =
+    let old : Grid = g.B.Board.grid c.args.board.now in
+    let was = c.loop-layer.invariant.1.passes in
+    let below : c.below.result ≡ columns_below old.height =
+    c.below.ensures ∙ ap columns_below c.size-height.ensures.height in
+    outside_then old (g.B.Board.grid c.loop-layer.board) c.both-rows.result was.width was.height was.still
+    (outside_both old c.rows_moving_any.result c.below.result c.both-rows.result c.size-height.ensures.shape below
+    c.both-rows.ensures (rows_still old c.rows_moving_any.result c.rows_moving_any.ensures))
+
+pub slide_layer-passes-requires-clause-beside : goal.slide_layer-passes-requires-clause-beside
+slide_layer-passes-requires-clause-beside g c = λ many.
+    let was = c.loop-layer.invariant.1.passes in
+    beside_then (g.B.Board.grid c.args.board.now) (g.B.Board.grid c.loop-layer.board) c.note_cells.new.moving was.width
+    was.height was.still (c.note_cells.ensures many)
+
+pub overflow_add-passes : goal.overflow_add-passes
+overflow_add-passes g c =
+    let were = c.loop-layer.invariant.1.passes.fewer in
+    let more = c.loop-layer.invariant.1.more in
+    let few = c.slide_layer-passes.ensures.passes.fewer in
+    let all : going_count (g.B.Board.grid c.args.board.now) ≤ SIDE_LIMIT * SIDE_LIMIT * LAYER_LIMIT =
+    going_count-bound (g.B.Board.grid c.args.board.now) c.size-height.ensures.shape in
+    omega (arith, were, more, few, all)
+
+pub loop-layer-preserved : goal.loop-layer-preserved
+loop-layer-preserved g c =
+    let moved : ℕ = c.loop-layer.invariant.0 in
+    let was = c.loop-layer.invariant.1 in (
+      moved + c.slide_layer-passes.result,
+      record {
+        more = omega (arith, was.more);
+        passes = passes_then moved c.slide_layer-passes.result (g.B.Board.grid c.args.board.now)
+            (g.B.Board.grid c.loop-layer.board) (g.B.Board.grid c.slide_layer-passes.new.board) 0 c.loop-layer.layer
+            (c.loop-layer.layer + 1) was.passes c.slide_layer-passes.ensures.passes;
+        table = c.slide_layer-passes.ensures.table ∙ was.table;
+      },
+    )
 
 pub returns-clause-exact : goal.returns-clause-exact
 returns-clause-exact g c =
     let start : Grid = g.B.Board.grid c.args.board.now in
-    let old : Grid = g.B.Board.grid c.loop-passes.board in
-    let now : Grid = g.B.Board.grid c.pass.new.board in
-    let part = c.pass.ensures.part in
-    let shape : IsGrid now = part.shape c.pass.ensures.shape in
-    let all : old.width * old.height ≡ now.width * now.height = rw (part.width, part.height) refl in
-    let order : IsInOrder start now false (old.width * old.height, 0) =
-    subst (λ (b : Bool). IsInOrder start now b (old.width * old.height, 0)) c.loop-passes-test.false
-    (part.order start false c.loop-passes.invariant.order) in
-    c.clear_moves.ensures.grid ∙ rest_exact start now (old.width * old.height) shape all order
+    let now : Grid = g.B.Board.grid c.loop-layer.board in
+    let was = c.loop-layer.invariant.1.passes in
+    let low = c.loop-layer-test.false in
+    let high = c.loop-layer.auto.layer-end in
+    let all : c.layers-layer-end.result ≡ start.layers = c.layers-layer-end.ensures in
+    let end : c.loop-layer.layer ≡ now.layers = omega (arith, was.layers) in
+    let order : IsInOrder start now false now.layers 0 =
+    subst (λ (layer : ℕ). IsInOrder start now false layer 0) end (was.order start (order_none start)) in
+    c.clear_moves.ensures.grid ∙ rest_exact start now (was.shape c.size-height.ensures.shape) order
 
 pub returns-clause-slid : goal.returns-clause-slid
 returns-clause-slid g c =
     let start : Grid = g.B.Board.grid c.args.board.now in
-    let now : Grid = g.B.Board.grid c.pass.new.board in
-    let order = c.pass.ensures.part.order start false c.loop-passes.invariant.order in
+    let now : Grid = g.B.Board.grid c.loop-layer.board in
+    let order = c.loop-layer.invariant.1.passes.order start (order_none start) in
     let slid : IsWeaklySlid start (at_rest now) = rest_slides start now order.midway in
     grind (arith, slid)
 
+pub returns-clause-some_pass : goal.returns-clause-some_pass
+returns-clause-some_pass g c = omega (arith, c.loop-layer.invariant.1.more)
+
 pub returns-clause-one_pass : goal.returns-clause-one_pass
 returns-clause-one_pass g c = λ e.
-    let unchanged : g.B.Board.grid c.pass.new.board ≡ g.B.Board.grid c.args.board.now =
-    c.pass.ensures.part.same c.loop-passes-test.false ∙ c.loop-passes.invariant.first e in
+    let was = c.loop-layer.invariant.1 in
+    let none : c.loop-layer.invariant.0 ≡ 0 = omega (arith, e, was.more) in
+    let unchanged : g.B.Board.grid c.loop-layer.board ≡ g.B.Board.grid c.args.board.now = was.passes.same none in
     cc
+
+pub returns-clause-few_passes : goal.returns-clause-few_passes
+returns-clause-few_passes g c = omega (arith, c.loop-layer.invariant.1.more, c.loop-layer.invariant.1.passes.fewer)
