@@ -6,7 +6,7 @@
 //! to enter a cell, the visits come first to the one that may: the least, or, where an object left the cell, the next
 //! one after it, and after the last cell the first.
 
-ghost use Rattle.std.specs.Prelude.{◌≡◌, ℕ, ◌+◌, ◌*◌, ◌<◌, ◌≤◌, IfSome, false, is_some, true};
+ghost use Rattle.std.specs.Prelude.{◌≡◌, ℕ, ◌+◌, ◌*◌, ◌^◌, ◌<◌, ◌≤◌, IfSome, false, is_some, true};
 ghost use Rattle.ps_model.specs.board.Grid.{IsGrid, IsPlace, at_rest, neighbour};
 ghost use Rattle.ps_model.specs.board.Movement.{slid};
 ghost use Rattle.ps_model.specs.board.WeakMovement.{IsWeaklySlid};
@@ -35,7 +35,8 @@ impl Model for Slid {
 }
 
 impl Slid {
-    /// One more than the passes that moved an object: a movement in which nothing goes has one.
+    /// How many passes over all cells there are, each of them over all layers, until one moves nothing; that one counts,
+    /// too. So they are those of the layer that has the most.
     pub fn passes_used(&self) -> u32
         ensures { result ≡ self.now }
     {
@@ -69,10 +70,22 @@ pub fn slide<B: Board>(board: &mut B, moving: &mut CellSet<B>) -> Slid
     note_cells(board, few, moving);
     let mut passes = 1;
     for layer in 0..board.layers() {
-        passes += slide_layer(board, LayerId(layer), rows, few, moving);
+        let moved = slide_layer(board, LayerId(layer), rows, few, moving);
+        passes = most_passes(passes, moved);
     }
     board.clear_moves();
     Slid { passes }
+}
+
+/// The passes of some layers and of one more, in which so many moved an object: as many as the one with the most has.
+fn most_passes(passes: u32, moved: u32) -> u32
+    requires some { 1 ≤ passes }
+    requires few { moved + 1 < 2 ^ 32 }
+    ensures before { passes ≤ result }
+    ensures here { moved + 1 ≤ result }
+    ensures few { result ≤ passes + moved }
+{
+    passes.max(moved + 1)
 }
 
 /// Notes the cells in which something moves, but for where the rows of these are few: then all their cells are sooner

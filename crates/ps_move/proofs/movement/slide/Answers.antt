@@ -1,4 +1,4 @@
-use Rattle.std.proofs.Common.{◌≡◌, ◌∙◌, ℕ, ◌+◌, ◌*◌, ◌≤◌, false, subst, sym, arith, refl, ap}
+use Rattle.std.proofs.Common.{◌≡◌, ◌∙◌, ℕ, ◌+◌, ◌*◌, ◌≤◌, false, subst, arith, refl, ap}
 use Rattle.ps_model.specs.declared.limits.TheConstants.{SIDE_LIMIT, LAYER_LIMIT}
 use Rattle.ps_model.specs.board.Grid.{Grid, at_rest}
 use Rattle.ps_model.specs.board.WeakMovement.{IsWeaklySlid}
@@ -18,22 +18,24 @@ pub loop-layer-init : goal.loop-layer-init
 loop-layer-init g c = (
   0,
   record {
-    more = refl;
+    some = omega arith;
+    few = omega arith;
+    none = λ _. refl;
     passes = passes_none (g.B.Board.grid c.args.board.now) 0;
     table = refl;
   },
 )
 
-pub slide_layer-passes-requires-clause-shape : goal.slide_layer-passes-requires-clause-shape
-slide_layer-passes-requires-clause-shape g c =
+pub slide_layer-moved-requires-clause-shape : goal.slide_layer-moved-requires-clause-shape
+slide_layer-moved-requires-clause-shape g c =
     c.loop-layer.invariant.1.passes.shape c.size-height.ensures.shape
 
-pub slide_layer-passes-requires-clause-layer : goal.slide_layer-passes-requires-clause-layer
-slide_layer-passes-requires-clause-layer g c =
+pub slide_layer-moved-requires-clause-layer : goal.slide_layer-moved-requires-clause-layer
+slide_layer-moved-requires-clause-layer g c =
     rw (c.loop-layer.invariant.1.passes.layers, ← c.layers-layer-end.ensures) c.loop-layer-test.true
 
-pub slide_layer-passes-requires-clause-below : goal.slide_layer-passes-requires-clause-below
-slide_layer-passes-requires-clause-below g c =
+pub slide_layer-moved-requires-clause-below : goal.slide_layer-moved-requires-clause-below
+slide_layer-moved-requires-clause-below g c =
     let old : Grid = g.B.Board.grid c.args.board.now in
     let below : c.below.result ≡ columns_below old.height =
     c.below.ensures ∙ ap columns_below c.size-height.ensures.height in
@@ -41,8 +43,8 @@ slide_layer-passes-requires-clause-below g c =
     (below-init c.rows_moving_any.result c.below.result c.both-rows.result old.height below c.both-rows.ensures).at in
     rw c.loop-layer.invariant.1.passes.height rows
 
-pub slide_layer-passes-requires-clause-outside : goal.slide_layer-passes-requires-clause-outside
-slide_layer-passes-requires-clause-outside g c =
+pub slide_layer-moved-requires-clause-outside : goal.slide_layer-moved-requires-clause-outside
+slide_layer-moved-requires-clause-outside g c =
     let old : Grid = g.B.Board.grid c.args.board.now in
     let was = c.loop-layer.invariant.1.passes in
     let below : c.below.result ≡ columns_below old.height =
@@ -51,32 +53,40 @@ slide_layer-passes-requires-clause-outside g c =
     (outside_both old c.rows_moving_any.result c.below.result c.both-rows.result c.size-height.ensures.shape below
     c.both-rows.ensures (rows_still old c.rows_moving_any.result c.rows_moving_any.ensures))
 
-pub slide_layer-passes-requires-clause-beside : goal.slide_layer-passes-requires-clause-beside
-slide_layer-passes-requires-clause-beside g c = λ many.
+pub slide_layer-moved-requires-clause-beside : goal.slide_layer-moved-requires-clause-beside
+slide_layer-moved-requires-clause-beside g c = λ many.
     let was = c.loop-layer.invariant.1.passes in
     beside_then (g.B.Board.grid c.args.board.now) (g.B.Board.grid c.loop-layer.board) c.note_cells.new.moving was.width
     was.height was.still (c.note_cells.ensures many)
 
-pub overflow_add-passes : goal.overflow_add-passes
-overflow_add-passes g c =
+pub most_passes-passes-requires-clause-some : goal.most_passes-passes-requires-clause-some
+most_passes-passes-requires-clause-some g c = c.loop-layer.invariant.1.some
+
+pub most_passes-passes-requires-clause-few : goal.most_passes-passes-requires-clause-few
+most_passes-passes-requires-clause-few g c =
     let were = c.loop-layer.invariant.1.passes.fewer in
-    let more = c.loop-layer.invariant.1.more in
-    let few = c.slide_layer-passes.ensures.passes.fewer in
+    let few = c.slide_layer-moved.ensures.passes.fewer in
     let all : going_count (g.B.Board.grid c.args.board.now) ≤ SIDE_LIMIT * SIDE_LIMIT * LAYER_LIMIT =
     going_count-bound (g.B.Board.grid c.args.board.now) c.size-height.ensures.shape in
-    omega (arith, were, more, few, all)
+    omega (arith, were, few, all)
 
 pub loop-layer-preserved : goal.loop-layer-preserved
 loop-layer-preserved g c =
     let moved : ℕ = c.loop-layer.invariant.0 in
     let was = c.loop-layer.invariant.1 in (
-      moved + c.slide_layer-passes.result,
+      moved + c.slide_layer-moved.result,
       record {
-        more = omega (arith, was.more);
-        passes = passes_then moved c.slide_layer-passes.result (g.B.Board.grid c.args.board.now)
-            (g.B.Board.grid c.loop-layer.board) (g.B.Board.grid c.slide_layer-passes.new.board) 0 c.loop-layer.layer
-            (c.loop-layer.layer + 1) was.passes c.slide_layer-passes.ensures.passes;
-        table = c.slide_layer-passes.ensures.table ∙ was.table;
+        some = omega (arith, was.some, c.most_passes-passes.ensures.before);
+        few = omega (arith, was.few, c.most_passes-passes.ensures.few);
+        none = λ one.
+            let before : c.loop-layer.passes ≡ 1 = omega (arith, one, was.some, c.most_passes-passes.ensures.before) in
+            let none : moved ≡ 0 = was.none before in
+            let here : c.slide_layer-moved.result ≡ 0 = omega (arith, one, c.most_passes-passes.ensures.here) in
+            omega (arith, none, here);
+        passes = passes_then moved c.slide_layer-moved.result (g.B.Board.grid c.args.board.now)
+            (g.B.Board.grid c.loop-layer.board) (g.B.Board.grid c.slide_layer-moved.new.board) 0 c.loop-layer.layer
+            (c.loop-layer.layer + 1) was.passes c.slide_layer-moved.ensures.passes;
+        table = c.slide_layer-moved.ensures.table ∙ was.table;
       },
     )
 
@@ -102,14 +112,14 @@ returns-clause-slid g c =
     grind (arith, slid)
 
 pub returns-clause-some_pass : goal.returns-clause-some_pass
-returns-clause-some_pass g c = omega (arith, c.loop-layer.invariant.1.more)
+returns-clause-some_pass g c = c.loop-layer.invariant.1.some
 
 pub returns-clause-one_pass : goal.returns-clause-one_pass
 returns-clause-one_pass g c = λ e.
     let was = c.loop-layer.invariant.1 in
-    let none : c.loop-layer.invariant.0 ≡ 0 = omega (arith, e, was.more) in
+    let none : c.loop-layer.invariant.0 ≡ 0 = was.none e in
     let unchanged : g.B.Board.grid c.loop-layer.board ≡ g.B.Board.grid c.args.board.now = was.passes.same none in
     cc
 
 pub returns-clause-few_passes : goal.returns-clause-few_passes
-returns-clause-few_passes g c = omega (arith, c.loop-layer.invariant.1.more, c.loop-layer.invariant.1.passes.fewer)
+returns-clause-few_passes g c = omega (arith, c.loop-layer.invariant.1.few, c.loop-layer.invariant.1.passes.fewer)
