@@ -2,6 +2,7 @@
 
 ghost use Rattle.std.specs.Prelude.{◌≡◌, ◌+◌, ◌*◌, ◌<◌, ◌≤◌, ◌^◌, IfOk, IfSome, OnOk, nat_le, vec_len};
 ghost use Rattle.std.specs.List.{list_any};
+ghost use Rattle.ps_board.specs.ColumnSets.{columns_below};
 ghost use Rattle.ps_rows.specs.Planes.{AreSameFrom};
 ghost use Rattle.ps_rows.specs.RowDifferences.{LeadBothWays, row_changed, rows_changed};
 
@@ -53,24 +54,26 @@ pub fn reach<S: Copy>(rows: &[RowDifference<S>], plane: u32) -> bool
     rows.iter().any(|row| plane <= row.plane)
 }
 
-/// Adds the rows in which a plane differs, where the planes before it have been added. Those that neither side has
-/// marked aren't read.
+/// Adds the rows in which a plane differs, of `all` its rows, where the planes before it have been added. Those that
+/// neither side has marked aren't read.
 fn add_differences<W: ColumnWords>(
     first: &Planes<W>,
     second: &Planes<W>,
     plane: u32,
+    all: Columns<W>,
     found: &mut Vec<RowDifference<Columns<W>>>,
 ) -> Result<(), Memory>
     requires height { second.now.height ≡ first.now.height }
     requires count { vec_len second.now.words ≡ vec_len first.now.words }
     requires plane { (plane + 1) * first.now.height ≤ vec_len first.now.words }
+    requires all { all ≡ columns_below first.now.height }
     requires before { let p = first.now in
         LeadBothWays p.height (plane * p.height) p.words.items second.now.words.items found.old.items }
     ensures { let p = first.now in OnOk result
         (LeadBothWays p.height ((plane + 1) * p.height) p.words.items second.now.words.items found.new.items) }
 {
     let marked = first.rows_of(plane).either(second.rows_of(plane));
-    let mut left = marked.both(Columns::below(first.height));
+    let mut left = marked.both(all);
     if first.has_same_many(second, plane, left) {
         return Ok(());
     }
@@ -111,9 +114,10 @@ pub fn differences<W: ColumnWords>(
 {
     let mut found = Vec::new(alloc);
     let marked = first.planes_marked(second, planes as usize);
+    let all = Columns::below(first.height);
     let most = first.words.len() / 2;
     for plane in 0..marked {
-        add_differences(first, second, plane as u32, &mut found)?;
+        add_differences(first, second, plane as u32, all, &mut found)?;
         if most < found.len() {
             return Ok(None);
         }

@@ -27,8 +27,8 @@ loop-row-init g c =
     let there : (plane + 1) * p.height ≤ o.words.len = subst E (sym c.requires.count) c.requires.plane in (
       0,
       omega arith,
-      added_none p.height plane p.words.items o.words.items c.args.found.now.items c.either-marked.result c.below.result
-          c.both-left.result p.rows c.below.ensures c.both-left.ensures
+      added_none p.height plane p.words.items o.words.items c.args.found.now.items c.either-marked.result c.args.all
+          c.both-left.result p.rows c.requires.all c.both-left.ensures
           (λ row under off.
           let none : column_at (either_columns mine theirs) row ≡ false =
           ap (λ (word : List Bool). column_at word row)

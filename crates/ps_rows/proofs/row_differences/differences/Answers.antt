@@ -70,6 +70,7 @@ add_differences-requires g c =
       plane = next_enough p.height c.loop-plane.plane c.planes_marked-marked.result c.args.planes p.words.len
           p.words.len
           c.loop-plane-test.true c.planes_marked-marked.ensures.few c.requires.planes refl;
+      all = c.below-all.ensures;
       before = c.loop-plane.invariant;
     }
 
