@@ -1,7 +1,8 @@
 //! Rows of the board against a mask, all at once: each plane that the mask asks about is joined with all of them in one
 //! go.
 
-ghost use Rattle.std.specs.Prelude.{◌≡◌, ◌+◌, ◌≤◌, length, replicate};
+ghost use Rattle.std.specs.Prelude.{◌≡◌, ◌+◌, ◌<◌, ◌≤◌, ℕ, [], length, replicate, slice_index_or};
+ghost use Rattle.ps_board.specs.ColumnSets.{both_columns};
 ghost use Rattle.ps_program.specs.ProgramShown.{mask_shown};
 ghost use Rattle.ps_match.specs.InRoom.{meaning_of_mask};
 ghost use Rattle.ps_match.specs.ScannedRows.{AreRowsScanned};
@@ -44,7 +45,48 @@ fn fill<W: ColumnWords>(found: &mut [Columns<W>], columns: Columns<W>)
     found.fill(columns);
 }
 
+/// Makes each set those of these columns that are in the set at the same place of others.
+fn fill_both<W: ColumnWords>(found: &mut [Columns<W>], words: &[Columns<W>], columns: Columns<W>)
+    requires { length words.now ≡ length found.old }
+    ensures both { (k : ℕ) → k < length found.old →
+        slice_index_or found.new k [] ≡ both_columns columns (slice_index_or words.now k []) }
+    ensures long { length found.new ≡ length found.old }
+{
+    for step in 0..found.len() {
+        found[step] = columns.both(words[step]);
+    }
+}
+
 impl<W: ColumnWords> RowBoard<W> {
+    /// Makes each row the columns in which an object stands on its layer.
+    fn start_held(&self, sought: &LayeredObject, first: u32, found: &mut [Columns<W>])
+        requires { first + length found.old ≤ self.now.planes.height }
+        ensures { let all = replicate (length found.old) self.now.all_columns in
+            AreKept (⟦<RowBoard<W> as Board>⟧.grid self.now) first all found.new (held sought.now) }
+    {
+        if self.is_on(sought.object.0, sought.layer.0) {
+            let words = self.plane_rows(sought.object.0, first, found.len());
+            fill_both(found, words, self.all_columns);
+            return;
+        }
+        fill(found, Columns::none());
+    }
+
+    /// Makes each row the columns in which each of the objects stands.
+    fn start_all(&self, objects: &[LayeredObject], first: u32, found: &mut [Columns<W>])
+        requires { first + length found.old ≤ self.now.planes.height }
+        ensures { let all = replicate (length found.old) self.now.all_columns in
+            AreKept (⟦<RowBoard<W> as Board>⟧.grid self.now) first all found.new (held_all objects.now) }
+    {
+        match objects.split_first() {
+            None => fill(found, self.all_columns),
+            Some((sought, others)) => {
+                self.start_held(sought, first, found);
+                self.keep_all(others, first, found);
+            }
+        }
+    }
+
     /// Keeps of each row the columns in which an object stands on its layer.
     fn keep_held(&self, sought: &LayeredObject, first: u32, found: &mut [Columns<W>])
         requires { first + length found.old ≤ self.now.planes.height }
@@ -108,8 +150,7 @@ impl<W: ColumnWords> RowBoard<W> {
             AreRowsScanned grid (meaning_of_mask (mask_shown mask.now)) first found.new }
         ensures long { length found.new ≡ length found.old }
     {
-        fill(found, self.all_columns);
-        self.keep_all(mask.needed.as_slice(), first, found);
+        self.start_all(mask.needed.as_slice(), first, found);
         self.keep_none(mask.barred.as_slice(), first, found);
         if asks_no_more(mask) {
             return;
