@@ -13,12 +13,16 @@ ghost use Rattle.ps_rows.specs.RowIndex.{AreRowsMarked};
 ghost use Rattle.ps_rows.specs.Sameness.{DifferOnlyOnRows};
 ghost use Rattle.ps_rows.specs.Showing.{cleared_from, motion_planes};
 
-use ps_board::{ColumnWords, Columns};
+use ps_board::{ColumnWords, Columns, WORD_BITS};
 use ps_model::Memory;
 use std::alloc::Global;
 
-/// How many rows of planes are copied in one go: a few kilobytes, which is the length that processors copy best.
+/// How many rows of planes are copied in one go, whose sets have one word: a few kilobytes, which is the length that
+/// processors copy best.
 const MOST_SETS: u32 = 500;
+
+/// How many rows of planes are copied in one go, whose sets have more words.
+const MOST_WIDE_SETS: u32 = 256;
 
 /// Planes of one height. A plane has the columns of each of its rows, the highest row first.
 ///
@@ -90,6 +94,15 @@ fn copy_sets<W: ColumnWords>(
     ensures long { length others.new ≡ length others.old }
 {
     others[first..end].copy_from_slice(&sets[first..end]);
+}
+
+/// How many rows of planes are copied in one go.
+fn most_sets<W: ColumnWords>() -> u32 {
+    let all = Columns::<W>::all();
+    if all.has(WORD_BITS) {
+        return MOST_WIDE_SETS;
+    }
+    MOST_SETS
 }
 
 /// Makes rows of a plane of others the same, those in a set.
@@ -384,7 +397,7 @@ impl<W: ColumnWords> Planes<W> {
     }
 
     /// Makes so many planes of others, the first ones, the same. Those without columns on both sides are passed over,
-    /// and of those between two such ones so many are copied in one go as have at most `MOST_SETS` rows together.
+    /// and of those between two such ones at most so many are copied in one go.
     fn copy_pieces(&self, other: &mut Planes<W>, planes: usize, most: usize)
         requires height { other.old.height ≡ self.now.height }
         requires here { planes * self.now.height ≤ vec_len self.now.words }
@@ -419,7 +432,7 @@ impl<W: ColumnWords> Planes<W> {
         ensures count { vec_len other.new.words ≡ vec_len self.now.words }
     {
         let marked = self.planes_marked(other, planes);
-        let most = (MOST_SETS / self.height) as usize;
+        let most = (most_sets::<W>() / self.height) as usize;
         if marked <= most {
             self.copy_planes(other, 0, marked);
             return;
