@@ -1,6 +1,6 @@
 //! The text of a frame, as a picture keeps it.
 
-ghost use Rattle.std.specs.Prelude.{◌≡◌, ◌++◌, IfOk, IfSome, OnErr, OnOk};
+ghost use Rattle.std.specs.Prelude.{◌≡◌, ◌++◌, IfOk, OnErr, OnOk, true};
 ghost use Rattle.ps_model.specs.session.Frames.{frame};
 ghost use Rattle.ps_screen.specs.FrameTexts.{IsPatched, IsTextOf};
 
@@ -49,41 +49,34 @@ pub fn draw_text<B: Board>(
     Ok(FrameText::Rows(rows))
 }
 
-/// The text of a board's frame, with these rows as another board alike shows them; nothing, where it is kept whole and
-/// one of its characters would be of more than one byte.
+/// Makes these rows of the text of a board's frame those of another board alike, and answers whether that could be
+/// done: not, where the text is kept whole and one of its characters would be of more than one byte. Then the text is
+/// of no use.
 ///
 /// # Errors
 ///
-/// `Memory`.
+/// `Memory`, and the text is of no use.
 pub fn patch_text<B: Board>(
     look: &Look<'_>,
     shown: &B,
     board: &B,
     rows: Columns<B::Words>,
     space: &mut CellSpace,
-    kept: FrameText,
-) -> Result<Option<FrameText>, Memory>
+    text: &mut FrameText,
+) -> Result<bool, Memory>
     requires width { (B.grid shown.now).width ≡ (B.grid board.now).width }
     requires height { (B.grid shown.now).height ≡ (B.grid board.now).height }
     requires layers { (B.grid shown.now).layers ≡ (B.grid board.now).layers }
     requires table { B.table shown.now ≡ B.table board.now }
-    requires kept { IsTextOf look.now (B.grid shown.now) kept }
-    ensures { IfOk result (λ made. IfSome made (λ text.
-        IsPatched look.now rows (B.grid board.now) (B.grid shown.now) text)) }
+    requires text { IsTextOf look.now (B.grid shown.now) text.old }
+    ensures { IfOk result (λ patched. patched ≡ true →
+        IsPatched look.now rows (B.grid board.now) (B.grid shown.now) text.new) }
 {
-    match kept {
-        FrameText::Whole(text) => {
-            let mut whole = text;
-            if patch_frame(look, shown, board, rows, space, &mut whole)? {
-                return Ok(Some(FrameText::Whole(whole)));
-            }
-            Ok(None)
-        }
+    match text {
+        FrameText::Whole(whole) => patch_frame(look, shown, board, rows, space, whole),
         FrameText::Rows(texts) => {
-            let mut texts = texts;
-            let drawn = texts.as_mut_slice();
-            patch_rows(look, shown, board, rows, space, drawn)?;
-            Ok(Some(FrameText::Rows(texts)))
+            patch_rows(look, shown, board, rows, space, texts.as_mut_slice())?;
+            Ok(true)
         }
     }
 }

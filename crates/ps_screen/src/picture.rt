@@ -1,10 +1,10 @@
 //! Frames, asked of a picture.
 
-ghost use Rattle.std.specs.Prelude.{◌≡◌, ◌++◌, IfOk, IfSome, OnOk, OnErr};
+ghost use Rattle.std.specs.Prelude.{◌≡◌, ◌++◌, IfOk, IfSome, OnOk, OnErr, is_some, true};
 ghost use Rattle.ps_model.specs.session.Frames.{frame};
 ghost use Rattle.ps_model.specs.session.Rooms.{frame_in, room_window, window_frame};
-ghost use Rattle.ps_screen.specs.FrameTexts.{IsTextOf};
-ghost use Rattle.ps_screen.specs.Windows.{AgreeInWindow, IsWindowOf};
+ghost use Rattle.ps_screen.specs.FrameTexts.{IsShownIn, IsTextOf};
+ghost use Rattle.ps_screen.specs.Windows.{IsWindowOf};
 
 use crate::cells::CellSpace;
 use crate::frame_texts::{FrameText, add_text, draw_text, patch_text};
@@ -75,17 +75,18 @@ impl<'g, B: Board> Picture<'g, B> {
         ensures shown { OnOk result (output.new ≡ output.old ++ frame self.old (B.grid board.now)) }
         ensures kept { OnErr result (output.new ≡ output.old) }
     {
-        let last = redraw(
+        redraw(
             self.alloc,
             &self.look,
-            self.last.take(),
+            &mut self.last,
             board,
             whole_board(board),
             &mut self.space,
         )?;
-        let added = add_text(&self.look, &*last.board, &last.text, output);
-        self.last = Some(last);
-        added
+        let Some(last) = &self.last else {
+            return Ok(());
+        };
+        add_text(&self.look, &*last.board, &last.text, output)
     }
 
     /// Adds a frame of a room of a board to an output: its rows from the top, as far as the board goes, then an empty
@@ -107,24 +108,25 @@ impl<'g, B: Board> Picture<'g, B> {
         ensures kept { OnErr result (output.new ≡ output.old) }
     {
         let window = room_window(board, size, room);
-        let last = redraw(
+        redraw(
             self.alloc,
             &self.look,
-            self.last.take(),
+            &mut self.last,
             board,
             window,
             &mut self.space,
         )?;
-        let added = add_window(
+        let Some(last) = &self.last else {
+            return Ok(());
+        };
+        add_window(
             &self.look,
             &*last.board,
             window,
             &last.text,
             &mut self.space,
             output,
-        );
-        self.last = Some(last);
-        added
+        )
     }
 
     /// Adds a frame to an output: of a room, where the game has rooms, and else of the whole board.
@@ -150,46 +152,100 @@ impl<'g, B: Board> Picture<'g, B> {
     }
 }
 
-/// A board that shows what another one does in the rows of a part of it, and its frame's text. What was kept is taken
-/// over, where its board is alike, and what differs in these rows is drawn.
+/// Makes the last frame one that shows what a board does in the rows of a part of it. What was kept is taken over,
+/// where its board is alike, and what differs in these rows is drawn; else all is drawn.
 ///
 /// # Errors
 ///
-/// `Memory`.
+/// `Memory`, and there is no last frame.
 fn redraw<B: Board>(
     alloc: Global,
     look: &Look<'_>,
-    last: Option<LastFrame<B>>,
+    last: &mut Option<LastFrame<B>>,
     board: &B,
     window: Window,
     space: &mut CellSpace,
-) -> Result<LastFrame<B>, Memory>
+) -> Result<(), Memory>
     requires window { IsWindowOf (B.grid board.now) window }
-    requires last { IfSome last (λ last. IsTextOf look.now (B.grid last.board.value) last.text) }
-    ensures text { IfOk result (λ last. IsTextOf look.now (B.grid last.board.value) last.text) }
-    ensures shown { IfOk result (λ last. AgreeInWindow window (B.grid board.now) (B.grid last.board.value)) }
-    ensures width { IfOk result (λ last. (B.grid last.board.value).width ≡ (B.grid board.now).width) }
-    ensures height { IfOk result (λ last. (B.grid last.board.value).height ≡ (B.grid board.now).height) }
+    requires kept { IfSome last.old (λ last. IsTextOf look.now (B.grid last.board.value) last.text) }
+    ensures kept { IfSome last.new (λ last. IsTextOf look.now (B.grid last.board.value) last.text) }
+    ensures some { OnOk result (is_some last.new ≡ true) }
+    ensures shown { OnOk result (IfSome last.new (λ last.
+        IsShownIn look.now window (B.grid board.now) (B.grid last.board.value) last.text)) }
 {
-    let Some(last) = last else {
-        return draw(alloc, look, None, board, space);
-    };
-    let LastFrame {
-        text,
-        board: mut before,
-    } = last;
-    if !board.is_alike(&*before) {
-        return draw(alloc, look, Some(text), board, space);
+    match patch_last(look, last, board, window, space) {
+        Ok(true) => return Ok(()),
+        Ok(false) => {}
+        Err(Memory) => {
+            *last = None;
+            return Err(Memory);
+        }
     }
-    let rows = rows_to_draw(board, &*before, window);
-    let Some(text) = patch_text(look, &*before, board, rows, space, text)? else {
-        return draw(alloc, look, None, board, space);
+    let kept = match last.take() {
+        Some(
+            LastFrame {
+                text,
+                board: _board,
+            },
+        ) => Some(text),
+        None => None,
     };
-    board.copy_rows(&mut *before, &rows);
-    Ok(LastFrame {
-        text,
-        board: before,
-    })
+    let drawn = draw(alloc, look, kept, board, space)?;
+    *last = Some(drawn);
+    Ok(())
+}
+
+/// Patches the last frame, if there is one.
+///
+/// # Errors
+///
+/// `Memory`, and its text is of no use.
+fn patch_last<B: Board>(
+    look: &Look<'_>,
+    last: &mut Option<LastFrame<B>>,
+    board: &B,
+    window: Window,
+    space: &mut CellSpace,
+) -> Result<bool, Memory>
+    requires window { IsWindowOf (B.grid board.now) window }
+    requires kept { IfSome last.old (λ last. IsTextOf look.now (B.grid last.board.value) last.text) }
+    ensures some { IfOk result (λ patched. patched ≡ true → is_some last.new ≡ true) }
+    ensures shown { IfOk result (λ patched. patched ≡ true → IfSome last.new (λ last.
+        IsShownIn look.now window (B.grid board.now) (B.grid last.board.value) last.text)) }
+{
+    match last {
+        Some(shown) => patch(look, shown, board, window, space),
+        None => Ok(false),
+    }
+}
+
+/// Makes a frame one that shows what a board does in the rows of a part of it, where its own board is alike, and
+/// answers whether that could be done. Where not, its text is of no use.
+///
+/// # Errors
+///
+/// `Memory`, and its text is of no use.
+fn patch<B: Board>(
+    look: &Look<'_>,
+    shown: &mut LastFrame<B>,
+    board: &B,
+    window: Window,
+    space: &mut CellSpace,
+) -> Result<bool, Memory>
+    requires window { IsWindowOf (B.grid board.now) window }
+    requires text { IsTextOf look.now (B.grid shown.old.board.value) shown.old.text }
+    ensures { IfOk result (λ patched. patched ≡ true →
+        IsShownIn look.now window (B.grid board.now) (B.grid shown.new.board.value) shown.new.text) }
+{
+    if !board.is_alike(&*shown.board) {
+        return Ok(false);
+    }
+    let rows = rows_to_draw(board, &*shown.board, window);
+    if !patch_text(look, &*shown.board, board, rows, space, &mut shown.text)? {
+        return Ok(false);
+    }
+    board.copy_rows(&mut *shown.board, &rows);
+    Ok(true)
 }
 
 /// The text of a board's frame, made anew, and a copy of the board. A text that was kept whole gives its room.
