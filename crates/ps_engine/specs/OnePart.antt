@@ -1,7 +1,11 @@
 -- Rules of one row of one part.
-use Rattle.std.specs.Prelude.{List, [], ◌∷◌, map}
+use Rattle.std.specs.Prelude.{◌≡◌, ℕ, Bool, Option, Some, List, [], ◌∷◌, map, slice_get}
+use Rattle.ps_model.specs.board.Grid.{Grid}
 use Rattle.ps_program.specs.declared.cells.CompiledCell.{CompiledCell}
+use Rattle.ps_program.specs.declared.rows.Axis.{Axis}
 use Rattle.ps_program.specs.declared.rows.CompiledRow.{CompiledRow}
+use Rattle.ps_places.specs.PartStarts.{AreStarts}
+use Rattle.ps_places.specs.Room.{Room}
 
 -- the parts of rows, and those of the rows of such a rule
 abbrev pub rows_parts : List CompiledRow → List (List (List CompiledCell))
@@ -9,3 +13,8 @@ rows_parts rows = map (λ row. row.parts) rows
 
 abbrev pub one_part : List CompiledCell → List (List (List CompiledCell))
 one_part part = (part ∷ []) ∷ []
+
+-- the first room keeps where the part begins on a grid, on these rows of it
+abbrev pub FirstKeeps : Grid → Option (List ℕ) → Axis → List CompiledCell → List Bool → List Room → Type 0
+FirstKeeps g table axis part rows rooms = (room : Room) → slice_get rooms 0 ≡ Some room →
+    AreStarts g table axis part rows room.starts.items

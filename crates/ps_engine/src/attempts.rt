@@ -97,7 +97,7 @@ pub fn attempt_rows<'r, B: Scan>(
     walk(board, rows, rooms, rule.sleeps)
 }
 
-/// An attempt of a rule by its kind: of commands alone, of one row of one part, with a writer, or any other.
+/// An attempt of a rule by its kind: of commands alone, with a writer, or of any rows.
 #[inline(never)]
 fn attempt_by_kind<'r, B: Scan>(
     rule: &CompiledRule<'r>,
@@ -117,10 +117,6 @@ fn attempt_by_kind<'r, B: Scan>(
     if !rule.rewrites {
         attempt_commands(rule, board, queue, rooms);
         return false;
-    }
-    let rows = rule.rows.as_slice();
-    if let Some(part) = only_part(rows) {
-        return attempt_part(rule, part, board, queue, rooms);
     }
     if let Some(writer) = rule.writer {
         return attempt_writer(rule, writer, board, queue, &mut rooms[0]);
@@ -149,6 +145,11 @@ pub fn attempt<'r, B: Scan>(
 {
     if lacks_object(board, rule) {
         return false;
+    }
+    if rule.rewrites {
+        if let Some(part) = only_part(rule.rows.as_slice()) {
+            return attempt_part(rule, part, board, queue, rooms);
+        }
     }
     attempt_by_kind(rule, board, queue, rooms)
 }

@@ -2,16 +2,19 @@
 //! comes, and so all are written together, row by row of the board. So are those that go down where they don't: of each
 //! row those that still fit.
 
-ghost use Rattle.std.specs.Prelude.{◌≡◌, ◌≤◌, IfSome, [], length, true};
+ghost use Rattle.std.specs.Prelude.{◌≡◌, ◌≢◌, ◌≤◌, ◌∷◌, IfSome, [], length, true};
 ghost use Rattle.ps_model.specs.board.Attempts.{Result as Meant, State, attempt, combinations_on};
+ghost use Rattle.ps_model.specs.board.Places.{places};
+ghost use Rattle.ps_program.specs.Axes.{direction_of};
+ghost use Rattle.ps_places.specs.Lines.{part_meaning};
 ghost use Rattle.ps_match.specs.InRoom.{sides_of};
 ghost use Rattle.ps_laws.specs.WholeRows.{HasCells};
-ghost use Rattle.ps_engine.specs.OnePart.{one_part, rows_parts};
+ghost use Rattle.ps_engine.specs.OnePart.{FirstKeeps, one_part, rows_parts};
 ghost use Rattle.ps_engine.specs.RulesInRoom.{rule_meaning};
 
 use crate::attempts::attempt_rows;
 use crate::lent_queue::LentQueue;
-use ps_match::Scan;
+use ps_match::{Columns, Scan};
 use ps_places::{RoomFor, begins_nowhere};
 use ps_program::{Axis, CompiledCell, CompiledRow, CompiledRule};
 
@@ -49,9 +52,50 @@ pub fn is_idle_part<'r, B: Scan>(
     rooms[0].find_part(board, rule.axis, part).is_empty()
 }
 
-/// An attempt of a rule whose only part this is. Where it goes right and a place of it asks for what another one's
-/// cells may change, its combinations are walked one after the other. Answers whether a cell changed. No memory is
-/// taken.
+/// The rest of an attempt of a rule whose only part this is, and begins on these rows of the board in the columns that
+/// the first room keeps. Where it goes right and a place of it asks for what another one's cells may change, its
+/// combinations are walked one after the other. Answers whether a cell changed. No memory is taken.
+#[inline(never)]
+fn rewrite_found<'r, B: Scan>(
+    rule: &CompiledRule<'r>,
+    part: &[CompiledCell],
+    starts: Columns<B::Words>,
+    board: &mut B,
+    queue: &mut LentQueue<'r>,
+    rooms: &mut [RoomFor<B>],
+) -> bool
+    requires only { rows_parts rule.now.rows ≡ one_part part.now }
+    requires whole { HasCells part.now }
+    requires rewrites { rule.now.rewrites ≡ true }
+    requires rooms { length rule.now.rows ≤ length rooms.old }
+    requires some { let meant = part_meaning (B.table board.old) part.now in
+        places (B.grid board.old) (direction_of rule.now.axis) (meant ∷ []) ≢ [] }
+    requires kept { FirstKeeps (B.grid board.old) (B.table board.old) rule.now.axis part.now starts rooms.old }
+    ensures attempt { let before : State = record { grid = B.grid board.old; queue = queue.old } in
+        let after : State = record { grid = B.grid board.new; queue = queue.new } in
+        let all : Meant = record { state = after; changed = result } in
+        all ≡ attempt (rule_meaning (B.table board.old) rule.now) before }
+    ensures table { B.table board.new ≡ B.table board.old }
+    ensures sides { sides_of (B.grid board.new) ≡ sides_of (B.grid board.old) }
+    ensures rooms { length rooms.new ≡ length rooms.old }
+{
+    let room = &rooms[0];
+    if room.lie_alone(rule.axis, part, starts) {
+        queue.enter(rule.commands);
+        return room.rewrite_places(board, rule.axis, part, starts);
+    }
+    match rule.axis {
+        Axis::Down => {
+            queue.enter(rule.commands);
+            room.rewrite_in_turn(board, part, starts)
+        }
+        Axis::Right => attempt_rows(rule, board, queue, rooms),
+    }
+}
+
+/// An attempt of a rule whose only part this is. Most such rules have no place, so that a call for each would be felt:
+/// this is in line. Answers whether a cell changed. No memory is taken.
+#[inline(always)]
 pub fn attempt_part<'r, B: Scan>(
     rule: &CompiledRule<'r>,
     part: &[CompiledCell],
@@ -71,20 +115,9 @@ pub fn attempt_part<'r, B: Scan>(
     ensures sides { sides_of (B.grid board.new) ≡ sides_of (B.grid board.old) }
     ensures rooms { length rooms.new ≡ length rooms.old }
 {
-    let room = &mut rooms[0];
-    let starts = room.find_part(board, rule.axis, part);
+    let starts = rooms[0].find_part(board, rule.axis, part);
     if starts.is_empty() {
         return false;
     }
-    if room.lie_alone(rule.axis, part, starts) {
-        queue.enter(rule.commands);
-        return room.rewrite_places(board, rule.axis, part, starts);
-    }
-    match rule.axis {
-        Axis::Down => {
-            queue.enter(rule.commands);
-            room.rewrite_in_turn(board, part, starts)
-        }
-        Axis::Right => attempt_rows(rule, board, queue, rooms),
-    }
+    rewrite_found(rule, part, starts, board, queue, rooms)
 }

@@ -1,9 +1,10 @@
-use Rattle.std.proofs.Common.{ℕ, Option, List, refl}
+use Rattle.std.proofs.Common.{◌∙◌, ℕ, Option, List, ap, refl, sym}
 use Rattle.ps_model.specs.board.Grid.{Grid}
 use Rattle.ps_model.specs.board.Attempts.{combinations_on}
 use Rattle.ps_program.specs.CommandsShown.{commands_shown}
 use Rattle.ps_program.specs.Axes.{direction_of}
 use Rattle.ps_engine.specs.Choosing.{rows_meaning}
+use Rattle.ps_engine.specs.OnePart.{rows_parts}
 use Rattle.ps_engine.specs.RulesInRoom.{rule_meaning}
 use Rattle.ps_engine.proofs.Attempting.{attempt_none}
 use Rattle.ps_engine.proofs.attempts.attempt.Goals as goal
@@ -40,3 +41,27 @@ returns-clause-sides g c = c.attempt_by_kind.ensures.sides
 
 pub returns-clause-rooms : goal.returns-clause-rooms
 returns-clause-rooms g c = c.attempt_by_kind.ensures.rooms
+
+pub attempt_part-requires-clause-only : goal.attempt_part-requires-clause-only
+attempt_part-requires-clause-only g c = ap rows_parts (sym c.as_slice.ensures) ∙ c.in-Some.ensures.only
+
+pub attempt_part-requires-clause-whole : goal.attempt_part-requires-clause-whole
+attempt_part-requires-clause-whole g c = c.in-Some.ensures.whole
+
+pub attempt_part-requires-clause-rewrites : goal.attempt_part-requires-clause-rewrites
+attempt_part-requires-clause-rewrites g c = c.if-rule.true
+
+pub attempt_part-requires-clause-rooms : goal.attempt_part-requires-clause-rooms
+attempt_part-requires-clause-rooms g c = c.requires
+
+pub returns-in-Some-clause-attempt : goal.returns-in-Some-clause-attempt
+returns-in-Some-clause-attempt g c = c.attempt_part.ensures.attempt
+
+pub returns-in-Some-clause-table : goal.returns-in-Some-clause-table
+returns-in-Some-clause-table g c = c.attempt_part.ensures.table
+
+pub returns-in-Some-clause-sides : goal.returns-in-Some-clause-sides
+returns-in-Some-clause-sides g c = c.attempt_part.ensures.sides
+
+pub returns-in-Some-clause-rooms : goal.returns-in-Some-clause-rooms
+returns-in-Some-clause-rooms g c = c.attempt_part.ensures.rooms

@@ -1,6 +1,5 @@
-use Rattle.std.proofs.Common.{refl, ◌∙◌, ap, sym, length}
+use Rattle.std.proofs.Common.{refl, length}
 use Rattle.std.proofs.lemmas.List.{length-set}
-use Rattle.ps_engine.specs.OnePart.{rows_parts}
 use Rattle.ps_engine.proofs.Within.{writer_room}
 use Rattle.ps_engine.proofs.attempts.attempt_by_kind.Goals as goal
 
@@ -22,47 +21,23 @@ returns-then-not-rule-clause-sides g c = refl
 pub returns-then-not-rule-clause-rooms : goal.returns-then-not-rule-clause-rooms
 returns-then-not-rule-clause-rooms g c = c.attempt_commands.ensures.rooms
 
-pub attempt_part-requires-clause-only : goal.attempt_part-requires-clause-only
-attempt_part-requires-clause-only g c = ap rows_parts (sym c.as_slice-rows.ensures) ∙ c.in-Some.ensures.only
-
-pub attempt_part-requires-clause-whole : goal.attempt_part-requires-clause-whole
-attempt_part-requires-clause-whole g c = c.in-Some.ensures.whole
-
-pub attempt_part-requires-clause-rewrites : goal.attempt_part-requires-clause-rewrites
-attempt_part-requires-clause-rewrites g c = c.if-not-rule.false
-
-pub attempt_part-requires-clause-rooms : goal.attempt_part-requires-clause-rooms
-attempt_part-requires-clause-rooms g c = c.requires
-
-pub returns-in-Some-clause-attempt : goal.returns-in-Some-clause-attempt
-returns-in-Some-clause-attempt g c = c.attempt_part.ensures.attempt
-
-pub returns-in-Some-clause-table : goal.returns-in-Some-clause-table
-returns-in-Some-clause-table g c = c.attempt_part.ensures.table
-
-pub returns-in-Some-clause-sides : goal.returns-in-Some-clause-sides
-returns-in-Some-clause-sides g c = c.attempt_part.ensures.sides
-
-pub returns-in-Some-clause-rooms : goal.returns-in-Some-clause-rooms
-returns-in-Some-clause-rooms g c = c.attempt_part.ensures.rooms
-
 pub attempt_writer-requires-clause-writer : goal.attempt_writer-requires-clause-writer
-attempt_writer-requires-clause-writer g c = c.in-Some-writer.is
+attempt_writer-requires-clause-writer g c = c.in-Some.is
 
 pub attempt_writer-requires-clause-rewrites : goal.attempt_writer-requires-clause-rewrites
 attempt_writer-requires-clause-rewrites g c = c.if-not-rule.false
 
-pub returns-in-Some-writer-clause-attempt : goal.returns-in-Some-writer-clause-attempt
-returns-in-Some-writer-clause-attempt g c = c.attempt_writer.ensures.attempt
+pub returns-in-Some-clause-attempt : goal.returns-in-Some-clause-attempt
+returns-in-Some-clause-attempt g c = c.attempt_writer.ensures.attempt
 
-pub returns-in-Some-writer-clause-table : goal.returns-in-Some-writer-clause-table
-returns-in-Some-writer-clause-table g c = c.attempt_writer.ensures.table
+pub returns-in-Some-clause-table : goal.returns-in-Some-clause-table
+returns-in-Some-clause-table g c = c.attempt_writer.ensures.table
 
-pub returns-in-Some-writer-clause-sides : goal.returns-in-Some-writer-clause-sides
-returns-in-Some-writer-clause-sides g c = c.attempt_writer.ensures.sides
+pub returns-in-Some-clause-sides : goal.returns-in-Some-clause-sides
+returns-in-Some-clause-sides g c = c.attempt_writer.ensures.sides
 
-pub returns-in-Some-writer-clause-rooms : goal.returns-in-Some-writer-clause-rooms
-returns-in-Some-writer-clause-rooms g c = length-set c.args.rooms.now 0 c.attempt_writer.new.room
+pub returns-in-Some-clause-rooms : goal.returns-in-Some-clause-rooms
+returns-in-Some-clause-rooms g c = length-set c.args.rooms.now 0 c.attempt_writer.new.room
 
 pub attempt_rows-requires-clause-long : goal.attempt_rows-requires-clause-long
 attempt_rows-requires-clause-long g c = c.requires
@@ -84,5 +59,5 @@ returns-clause-rooms g c = c.attempt_rows.ensures.rooms
 
 pub bounds-rooms-0 : goal.bounds-rooms-0
 bounds-rooms-0 g c =
-    writer_room c.args.rule.now.rows c.args.rule.now.writer c.in-Some-writer.writer (length c.args.rooms.now)
-    c.args.rule.now.alone c.in-Some-writer.is c.requires
+    writer_room c.args.rule.now.rows c.args.rule.now.writer c.in-Some.writer (length c.args.rooms.now)
+    c.args.rule.now.alone c.in-Some.is c.requires

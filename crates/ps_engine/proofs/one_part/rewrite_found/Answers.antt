@@ -1,0 +1,118 @@
+use Rattle.std.proofs.Common.{◌∙◌, ℕ, Option, List, [], ◌∷◌, fold, get_or, sym, ap, refl, length}
+use Rattle.std.proofs.Common.{subst}
+use Rattle.std.proofs.lemmas.Option.{slice_get-get_or}
+use Rattle.ps_model.specs.declared.pieces.Direction.{Direction}
+use Rattle.ps_model.specs.board.Grid.{Grid}
+use Rattle.ps_model.specs.board.Places.{places}
+use Rattle.ps_model.specs.board.Attempts.{Result, Rewritten, applied, combinations}
+use Rattle.ps_model.specs.rules.SourceRules.{Commands}
+use Rattle.ps_model.specs.meaning.RuleMeanings.{CellMeaning}
+use Rattle.ps_program.specs.CommandsShown.{commands_shown}
+use Rattle.ps_program.specs.Axes.{direction_of}
+use Rattle.ps_program.specs.declared.rows.Axis.{Axis}
+use Rattle.ps_places.specs.Lines.{part_meaning}
+use Rattle.ps_places.specs.PartStarts.{AreStarts}
+use Rattle.ps_engine.proofs.Attempting.{attempt_part-written, unchanged}
+use Rattle.ps_engine.proofs.Within.{part_room}
+use Rattle.ps_engine.proofs.one_part.rewrite_found.Goals as goal
+
+pub returns-then-lie_alone-clause-attempt : goal.returns-then-lie_alone-clause-attempt
+returns-then-lie_alone-clause-attempt g c =
+    let grid : Grid = g.B.Board.grid c.args.board.now in
+    let table : Option (List ℕ) = g.B.Board.table c.args.board.now in
+    let rule = c.args.rule.now in
+    let direction : Direction = direction_of rule.axis in
+    let board : Grid = g.B.Board.grid c.rewrite_places.new.board in
+    let after : Rewritten = record { grid = board; changed = c.rewrite_places.result } in
+    ap (λ (q : Commands). let r : Result = record {
+      state = record { grid = after.grid; queue = q };
+      changed =
+          after.changed;
+    } in r) c.enter.ensures
+    ∙ attempt_part-written table direction rule.rows c.args.part.now rule.rewrites (commands_shown rule.commands.now)
+    grid c.args.queue.now after c.requires.only c.requires.rewrites
+    (c.requires.some) c.rewrite_places.ensures.rewritten
+
+pub returns-in-Down-clause-attempt : goal.returns-in-Down-clause-attempt
+returns-in-Down-clause-attempt g c =
+    let grid : Grid = g.B.Board.grid c.args.board.now in
+    let table : Option (List ℕ) = g.B.Board.table c.args.board.now in
+    let rule = c.args.rule.now in
+    let direction : Direction = direction_of rule.axis in
+    let m : List CellMeaning = part_meaning table c.args.part.now in
+    let board : Grid = g.B.Board.grid c.rewrite_in_turn.new.board in
+    let after : Rewritten = record { grid = board; changed = c.rewrite_in_turn.result } in
+    ap (λ (q : Commands). let r : Result = record {
+      state = record { grid = after.grid; queue = q };
+      changed =
+          after.changed;
+    } in r) c.enter-in-Down.ensures
+    ∙ attempt_part-written table direction rule.rows c.args.part.now rule.rewrites (commands_shown rule.commands.now)
+    grid c.args.queue.now after c.requires.only c.requires.rewrites
+    (c.requires.some)
+    (c.rewrite_in_turn.ensures.rewritten
+    ∙ ap (λ (axis : Axis). fold (applied ((m ∷ []) ∷ [])) (unchanged grid)
+    (combinations (places grid (direction_of axis) (m ∷ []) ∷ []))) (sym c.in-Down.is))
+
+pub returns-then-lie_alone-clause-table : goal.returns-then-lie_alone-clause-table
+returns-then-lie_alone-clause-table g c = c.rewrite_places.ensures.table
+
+pub returns-in-Down-clause-table : goal.returns-in-Down-clause-table
+returns-in-Down-clause-table g c = c.rewrite_in_turn.ensures.table
+
+pub returns-then-lie_alone-clause-sides : goal.returns-then-lie_alone-clause-sides
+returns-then-lie_alone-clause-sides g c = c.rewrite_places.ensures.sides
+
+pub returns-in-Down-clause-sides : goal.returns-in-Down-clause-sides
+returns-in-Down-clause-sides g c = c.rewrite_in_turn.ensures.sides
+
+pub rewrite_places-requires-clause-whole : goal.rewrite_places-requires-clause-whole
+rewrite_places-requires-clause-whole g c = c.requires.whole
+
+pub rewrite_places-requires-clause-starts : goal.rewrite_places-requires-clause-starts
+rewrite_places-requires-clause-starts g c =
+    c.requires.kept (get_or c.args.rooms.now 0 c.index-rooms-0.result)
+    (slice_get-get_or c.args.rooms.now 0 c.index-rooms-0.result
+    (part_room c.args.rule.now.rows c.args.part.now (length c.args.rooms.now) c.requires.only c.requires.rooms))
+
+pub rewrite_places-requires-clause-alone : goal.rewrite_places-requires-clause-alone
+rewrite_places-requires-clause-alone g c = c.lie_alone.ensures c.if-lie_alone.true
+
+pub returns-then-lie_alone-clause-rooms : goal.returns-then-lie_alone-clause-rooms
+returns-then-lie_alone-clause-rooms g c = refl
+
+pub rewrite_in_turn-requires-clause-whole : goal.rewrite_in_turn-requires-clause-whole
+rewrite_in_turn-requires-clause-whole g c = c.requires.whole
+
+pub rewrite_in_turn-requires-clause-starts : goal.rewrite_in_turn-requires-clause-starts
+rewrite_in_turn-requires-clause-starts g c =
+    subst (λ (axis : Axis). AreStarts (g.B.Board.grid c.args.board.now) (g.B.Board.table c.args.board.now) axis
+    c.args.part.now c.args.starts (get_or c.args.rooms.now 0 c.index-rooms-0.result).starts.items) c.in-Down.is
+    (c.requires.kept (get_or c.args.rooms.now 0 c.index-rooms-0.result)
+    (slice_get-get_or c.args.rooms.now 0 c.index-rooms-0.result
+    (part_room c.args.rule.now.rows c.args.part.now (length c.args.rooms.now) c.requires.only c.requires.rooms)))
+
+pub attempt_rows-requires-clause-long : goal.attempt_rows-requires-clause-long
+attempt_rows-requires-clause-long g c = c.requires.rooms
+
+pub attempt_rows-requires-clause-rewrites : goal.attempt_rows-requires-clause-rewrites
+attempt_rows-requires-clause-rewrites g c = c.requires.rewrites
+
+pub returns-in-Down-clause-rooms : goal.returns-in-Down-clause-rooms
+returns-in-Down-clause-rooms g c = refl
+
+pub returns-in-Right-clause-rooms : goal.returns-in-Right-clause-rooms
+returns-in-Right-clause-rooms g c = c.attempt_rows.ensures.rooms
+
+pub returns-in-Right-clause-attempt : goal.returns-in-Right-clause-attempt
+returns-in-Right-clause-attempt g c = c.attempt_rows.ensures.attempt
+
+pub returns-in-Right-clause-table : goal.returns-in-Right-clause-table
+returns-in-Right-clause-table g c = c.attempt_rows.ensures.table
+
+pub returns-in-Right-clause-sides : goal.returns-in-Right-clause-sides
+returns-in-Right-clause-sides g c = c.attempt_rows.ensures.sides
+
+pub bounds-rooms-0 : goal.bounds-rooms-0
+bounds-rooms-0 g c =
+    part_room c.args.rule.now.rows c.args.part.now (length c.args.rooms.now) c.requires.only c.requires.rooms
