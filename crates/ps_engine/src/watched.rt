@@ -236,6 +236,13 @@ impl<'p, 'r, B: Scan> WatchedProgram<'p, 'r, B> {
         })
     }
 
+    /// Whether it has no section, so that a run of it does nothing.
+    pub fn is_empty(&self) -> bool
+        ensures { result ≡ true → self.now.sections ≡ [] }
+    {
+        self.sections.is_empty()
+    }
+
     /// The sections.
     pub(crate) fn sections(&self) -> &'p [CompiledSection<'r>]
         ensures { result.now ≡ self.now.sections }

@@ -73,6 +73,9 @@ impl<'p, 'r, B: Scan> Rules<B> for GameRules<'p, 'r, B> {
     ghost meant = { λ rules table. sections_meaning table rules };
 
     fn run(&mut self, board: &mut B, queue: &mut Queue) -> Result<(), Memory> {
+        if self.program.is_empty() {
+            return Ok(());
+        }
         let after = {
             let mut during = lent(queue);
             let rooms = self.rooms.as_mut_slice();

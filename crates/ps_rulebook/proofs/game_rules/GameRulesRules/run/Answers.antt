@@ -1,10 +1,21 @@
-use Rattle.std.proofs.Common.{◌∙◌, ℕ, List, Option, ap, ap₂}
+use Rattle.std.proofs.Common.{◌≡◌, ◌∙◌, ℕ, List, [], Option, ap, ap₂, refl, sym}
 use Rattle.ps_engine.specs.RulesInRoom.{sections_meaning}
+use Rattle.ps_model.specs.board.Attempts.{State}
 use Rattle.ps_model.specs.board.Programs.{Section, program_run}
 use Rattle.ps_model.specs.rules.SourceRules.{Commands}
 use Rattle.ps_program.specs.declared.program.CompiledSection.{CompiledSection}
 use Rattle.ps_turn.specs.States.{state_of}
 use Rattle.ps_rulebook.proofs.game_rules.GameRulesRules.run.Goals as goal
+
+-- without a section nothing is run
+none_run : (sections : List Section) (state : State) → sections ≡ [] → state ≡ program_run sections state
+unfolding program_run
+none_run sections state none = rw none refl
+
+pub returns-then-is_empty-clause-ran : goal.returns-then-is_empty-clause-ran
+returns-then-is_empty-clause-ran g c =
+    let table : Option (List ℕ) = g.B.Board.table c.args.board.now in
+    none_run _ _ (ap (sections_meaning table) (sym c.self.view_is ∙ c.is_empty.ensures c.if-is_empty.true))
 
 pub returns-clause-ran : goal.returns-clause-ran
 returns-clause-ran g c =
