@@ -54,15 +54,15 @@ loop-left-preserved g c =
     let watch = c.loop-left.watch in
     let kept = c.loop-left.kept in
     record {
-      settled = rest_is run watch kept now next (c.loop-left.left - 1) c.in_ok-left-2.left step c.loop-left.invariant.keeps
-          c.in_ok-left-2.ensures.rest
+      settled = rest_is run watch kept now next (c.loop-left.left - 1) c.in_ok-left-2.left step
+          c.loop-left.invariant.keeps c.in_ok-left-2.ensures.rest
           ∙ settled_on meant c.loop-left.left (c.loop-left.left - 1) true now next
           (omega (arith, c.loop-left-test.true)) made
           ∙ c.loop-left.invariant.settled;
       table = c.round.ensures.table ∙ c.loop-left.invariant.table;
       sides = c.round.ensures.sides ∙ c.loop-left.invariant.sides;
-      keeps = keeps_on run watch c.step-in-loop-left.new.self kept c.step-in-loop-left.new.kept now next step c.loop-left.invariant.keeps
-          c.in_ok-left-2.ensures.goes;
+      keeps = keeps_on run watch c.step-in-loop-left.new.self kept c.step-in-loop-left.new.kept now next step
+          c.loop-left.invariant.keeps c.in_ok-left-2.ensures.goes;
     }
 
 pub round-requires : goal.round-requires

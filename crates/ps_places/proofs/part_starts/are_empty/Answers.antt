@@ -14,8 +14,8 @@ loop-row-preserved g c = λ row x from less low none.
     let own : at < length starts = omega (arith, c.loop-row-test.true, c.requires) in
     let is : c.index-starts-row.result ≡ columns_on starts at =
     get_or_read_under starts at (length starts) c.index-starts-row.result [] c.index-starts-row.is own refl in
-    let parts = neither_has c.loop-row.joined c.index-starts-row.result c.either-joined.result x c.either-joined.ensures low
-    none in
+    let parts = neither_has c.loop-row.joined c.index-starts-row.result c.either-joined.result x
+    c.either-joined.ensures low none in
     elim (cases_lt row at) [
       | inl before ↦ c.loop-row.invariant row x from before low parts.0
       | inr here ↦
