@@ -36,8 +36,8 @@ impl From<Memory> for RunFault {
     }
 }
 
-/// What plays games, each as its text means it. Who says which game is played where, as a command line does, asks for no
-/// more than this, and so needs nothing of what plays.
+/// What plays games, each as its text means it. Who says which game is played where, as a command line does, asks for
+/// no more than this, and so needs nothing of what plays.
 pub trait Player {
     /// Plays the game whose text is `text`: reads keys from `reader` and writes frames to `writer`, until the game has
     /// ended, the player quits or the keys end.

@@ -35,8 +35,8 @@ impl Model for Slid {
 }
 
 impl Slid {
-    /// How many passes over all cells there are, each of them over all layers, until one moves nothing; that one counts,
-    /// too. So they are those of the layer that has the most.
+    /// How many passes over all cells there are, each of them over all layers, until one moves nothing; that one
+    /// counts, too. So they are those of the layer that has the most.
     pub fn passes_used(&self) -> u32
         ensures { result ≡ self.now }
     {
