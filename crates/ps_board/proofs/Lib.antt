@@ -3,6 +3,7 @@ mod SameSlots
 mod RowsPassed
 mod SameRows
 pub mod ColumnLaws
+pub mod EmptySets
 pub mod Taken
 pub mod RowByRow
 pub mod WordBits

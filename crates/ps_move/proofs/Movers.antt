@@ -3,7 +3,7 @@ use Rattle.std.proofs.Common.{◌≡◌, ◌∙◌, ℕ, ◌+◌, ◌*◌, ◌<�
 use Rattle.std.proofs.Common.{length, refl, sym, ap, arith}
 use Rattle.std.proofs.Math.Bool.{and-true}
 use Rattle.std.proofs.Math.Nat.{mul-le-mul}
-use Rattle.std.proofs.lemmas.Bool.{lt-ltb, or_parts}
+use Rattle.std.proofs.lemmas.Bool.{lt-ltb}
 use Rattle.std.proofs.lemmas.List.{get_or_past}
 use Rattle.ps_model.specs.declared.limits.TheConstants.{SIDE_LIMIT}
 use Rattle.ps_model.specs.declared.pieces.Slot.TheVariants.{Bare}
@@ -19,14 +19,6 @@ abbrev pub IsStillRow : Grid → ℕ → List Bool → ℕ → Type 0
 IsStillRow g layer columns row =
     (column : ℕ) → column < g.width → column_at columns column ≡ false →
     is_moving (slot_at g (column * g.height + row) layer) ≡ false
-
--- what is in neither of two sets
-pub in_neither : (set other joined : List Bool) (x : ℕ) → joined ≡ either_columns set other → x < SIDE_LIMIT →
-    column_at joined x ≡ false → (column_at set x ≡ false) × (column_at other x ≡ false)
-in_neither set other joined x e low out =
-    or_parts (column_at set x) (column_at other x)
-    (sym (ap (λ (cs : List Bool). column_at cs x) e
-    ∙ column_at-where (λ y. column_at set y || column_at other y) x low) ∙ out)
 
 pub not_joined : (set other joined : List Bool) (x : ℕ) → joined ≡ either_columns set other → x < SIDE_LIMIT →
     column_at set x ≡ false → column_at other x ≡ false → column_at joined x ≡ false

@@ -69,19 +69,6 @@ all_below rows others end count is none few below row on =
           sym (ap₂ (λ (a b : Bool). a && not b) on
           (below_at end row (omega (arith, below row on, few)) ∙ t)) ∙ out in absurd (cc)
 
--- a set without a column is empty
-pub empty_of : (set : List Bool) → ((x : ℕ) → x < SIDE_LIMIT → column_at set x ≡ false) → set_columns set ≡ []
-empty_of set none =
-    set_columns-are set (λ x. false) none ∙ none_on (λ x. false) 0 SIDE_LIMIT (λ x low high. refl)
-
--- what isn't in one of two sets is in neither
-pub neither_has : (one other joined : List Bool) (x : ℕ) → joined ≡ either_columns one other → x < SIDE_LIMIT →
-    column_at joined x ≡ false → (column_at one x ≡ false) × (column_at other x ≡ false)
-neither_has one other joined x is low none =
-    or_parts (column_at one x) (column_at other x)
-    (sym (column_at-where (λ y. column_at one y || column_at other y) x low)
-    ∙ ap (λ (set : List Bool). column_at set x) (sym is) ∙ none)
-
 -- rows below an end lie between the first of them and the end
 pub lie_between : (rows left : List Bool) (first end : ℕ) → set_columns rows ≡ first ∷ set_columns left →
     AreRowsBelow rows end → AreRowsBetween rows first end

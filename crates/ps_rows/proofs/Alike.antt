@@ -23,7 +23,7 @@ use Rattle.ps_rows.specs.Members.{on_layer}
 use Rattle.ps_rows.specs.Showing.{numbered, motions_from, motion_plane, motion_planes, object_shown, motion_shown}
 use Rattle.ps_rows.specs.Showing.{slot_shown, cell_shown, cells_shown, AreObjectsShown, AreMotionsShown}
 use Rattle.ps_rows.specs.Sameness.{AreSameRows, IsSamePlane, AreSamePlanes, IsSameLayer}
-use Rattle.ps_rows.proofs.Sets.{alike_at, both_at, empty_of, not_unlike}
+use Rattle.ps_rows.proofs.Sets.{alike_at, both_at, not_unlike}
 use Rattle.ps_rows.proofs.Listed.{find_same}
 use Rattle.ps_rows.proofs.MemberRanges.{listed_member}
 use Rattle.ps_rows.proofs.Moves.{five_true, five_false, five_high, first_motion-same}
@@ -31,6 +31,7 @@ use Rattle.ps_rows.proofs.Rests.{slot_read}
 use Rattle.ps_rows.proofs.Tables.{tabled_same}
 use Rattle.ps_board.proofs.ColumnLaws.{below_at, none_in}
 use Rattle.ps_board.specs.ColumnSets.{both_columns, column_at, columns_below, set_columns, unlike_columns}
+use Rattle.ps_board.proofs.EmptySets.{empty_of}
 use Rattle.ps_model.specs.declared.limits.TheConstants.{SIDE_LIMIT}
 
 -- rows ----------------------------------------------------------------------------------------------------------------

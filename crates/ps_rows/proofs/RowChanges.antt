@@ -14,10 +14,11 @@ use Rattle.ps_rows.specs.RowChanges.{AreRowsChanged, Change, IsLayerWritten, IsR
 use Rattle.ps_rows.specs.RowChanges.{word_after}
 use Rattle.ps_rows.specs.Showing.{motion_planes}
 use Rattle.ps_rows.proofs.Moves.{five_false, five_high}
-use Rattle.ps_rows.proofs.Sets.{alike_at, either_at, empty_of, neither_at, none_at, same_by_unlike, same_set, set_where}
+use Rattle.ps_rows.proofs.Sets.{alike_at, either_at, neither_at, none_at, same_by_unlike, same_set, set_where}
 use Rattle.ps_rows.proofs.Sets.{without_at}
 use Rattle.ps_board.specs.ColumnSets.{column_at, columns_without, either_columns, no_columns, set_columns}
 use Rattle.ps_board.specs.ColumnSets.{unlike_columns}
+use Rattle.ps_board.proofs.EmptySets.{empty_of}
 use Rattle.ps_model.specs.declared.limits.TheConstants.{SIDE_LIMIT}
 
 -- one row -------------------------------------------------------------------------------------------------------------

@@ -2,8 +2,9 @@
 use Rattle.std.proofs.Common.{◌≡◌, ℕ, ◌+◌, ◌*◌, ◌<◌, inl, inr, Bool, List, [], arith}
 use Rattle.std.proofs.lemmas.Bool.{cases_eq}
 use Rattle.ps_board.specs.ColumnSets.{either_columns, set_columns, unlike_columns}
+use Rattle.ps_board.proofs.EmptySets.{empty_of}
 use Rattle.ps_rows.specs.Planes.{IsSet, row_of}
-use Rattle.ps_rows.proofs.Sets.{empty_of, neither_at, not_unlike, same_set}
+use Rattle.ps_rows.proofs.Sets.{neither_at, not_unlike, same_set}
 
 -- one row more is compared
 pub one_word_more : (height plane row : ℕ) (unlike : List Bool) (first second : List (List Bool)) →

@@ -61,9 +61,6 @@ same_set a b is so same = sym is ∙ columns-agree (column_at a) (column_at b) s
 pub none_set : (a : List Bool) → IsSet a → set_columns a ≡ [] → a ≡ no_columns
 none_set a is none = sym is ∙ columns-agree (column_at a) (λ x. false) (λ x low. none_in a x none low)
 
-pub empty_of : (a : List Bool) → ((x : ℕ) → x < SIDE_LIMIT → column_at a x ≡ false) → set_columns a ≡ []
-empty_of a none = set_columns-are a (λ x. false) none ∙ none_on (λ x. false) 0 SIDE_LIMIT (λ x low high. refl)
-
 -- neither of two sets has a column
 pub neither_at : (a b : List Bool) → set_columns (either_columns a b) ≡ [] → (x : ℕ) → x < SIDE_LIMIT →
     (column_at a x ≡ false) × (column_at b x ≡ false)

@@ -4,7 +4,8 @@ use Rattle.ps_board.specs.ColumnSets.{column_at, either_columns, set_columns}
 use Rattle.ps_board.specs.RowsOfGrids.{row_movers}
 use Rattle.ps_board.proofs.CellLaws.{column_at-none}
 use Rattle.ps_board.proofs.Taken.{below-more, passed-all, passed-changed, taken_below}
-use Rattle.ps_move.proofs.Movers.{IsStillRow, in_neither, movers_below, movers_beside, not_joined}
+use Rattle.ps_board.proofs.EmptySets.{in_neither}
+use Rattle.ps_move.proofs.Movers.{IsStillRow, movers_below, movers_beside, not_joined}
 use Rattle.ps_move.proofs.movement.moving_columns.Goals as goal
 
 pub loop-row-init : goal.loop-row-init

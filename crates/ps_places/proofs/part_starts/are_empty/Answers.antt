@@ -4,7 +4,7 @@ use Rattle.std.proofs.lemmas.List.{get_or_read_under}
 use Rattle.ps_board.specs.ColumnSets.{column_at}
 use Rattle.ps_board.proofs.ColumnLaws.{none_in}
 use Rattle.ps_places.specs.PartStarts.{columns_on}
-use Rattle.ps_places.proofs.FoundRows.{empty_of, neither_has}
+use Rattle.ps_board.proofs.EmptySets.{empty_of, in_neither}
 use Rattle.ps_places.proofs.part_starts.are_empty.Goals as goal
 
 pub loop-row-preserved : goal.loop-row-preserved
@@ -14,7 +14,7 @@ loop-row-preserved g c = λ row x from less low none.
     let own : at < length starts = omega (arith, c.loop-row-test.true, c.requires) in
     let is : c.index-starts-row.result ≡ columns_on starts at =
     get_or_read_under starts at (length starts) c.index-starts-row.result [] c.index-starts-row.is own refl in
-    let parts = neither_has c.loop-row.joined c.index-starts-row.result c.either-joined.result x
+    let parts = in_neither c.loop-row.joined c.index-starts-row.result c.either-joined.result x
     c.either-joined.ensures low none in
     elim (cases_lt row at) [
       | inl before ↦ c.loop-row.invariant row x from before low parts.0
