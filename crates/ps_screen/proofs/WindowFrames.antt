@@ -1,52 +1,20 @@
 -- Frames of a part of a board.
 use Rattle.std.proofs.Common.{◌≡◌, ◌∙◌, ℕ, suc, ◌+◌, ◌*◌, ◌-◌, ◌<◌, ◌≤◌, List, [], ◌∷◌, ◌++◌, length, take, drop}
 use Rattle.std.proofs.Common.{length-append, length-drop, append_assoc, drop_of_length-le, sym, ap, ap₂, arith}
-use Rattle.std.specs.Prelude.{codes, encode_utf8, slice_set}
+use Rattle.std.specs.Prelude.{codes, slice_set}
 use Rattle.std.specs.List.{flat_map, range_with_len}
 use Rattle.std.proofs.Math.Nat.{mul-le-mul_left}
 use Rattle.std.proofs.lemmas.List.{length-take-le, set_split, take-take}
 use Rattle.std.proofs.Math.Seq.{take-append-add}
 use Rattle.ps_model.specs.declared.rooms.Window.{Window}
-use Rattle.ps_model.specs.board.Grid.{Grid, cell_at}
+use Rattle.ps_model.specs.board.Grid.{Grid}
 use Rattle.ps_model.specs.names.Names.{Names}
-use Rattle.ps_model.specs.session.Frames.{frame, frame_row, shown_character}
-use Rattle.ps_model.specs.session.Rooms.{whole_board, window_frame, window_row}
-use Rattle.ps_board.specs.Rows.{HaveSameRow}
+use Rattle.ps_model.specs.session.Frames.{frame_row}
+use Rattle.ps_model.specs.session.Rooms.{window_frame, window_row}
 use Rattle.ps_screen.specs.PlainFrames.{IsPlainFrame}
 use Rattle.ps_screen.specs.PlainRows.{column_bytes}
-use Rattle.ps_screen.specs.Windows.{AgreeInWindow, IsWindowOf}
-use Rattle.ps_laws.proofs.common.Lists.{range_lists-agree}
-use Rattle.ps_screen.proofs.KeptRows.{same_character}
+use Rattle.ps_screen.specs.Windows.{IsWindowOf}
 use Rattle.ps_screen.proofs.PlainFrames.{rows_part}
-
--- what shows the same is written the same -----------------------------------------------------------------------------
-
-same_window_row : (names : Names) (g h : Grid) (window : Window) (row : ℕ) → h.height ≡ g.height →
-    window.first_column + window.columns ≤ g.width → HaveSameRow g h row →
-    window_row names h window row ≡ window_row names g window row
-same_window_row names g h window row high within same =
-    ap (λ (text : List ℕ). text ++ codes "\n")
-    (range_lists-agree (column_bytes names h row) (column_bytes names g row) window.first_column window.columns
-    (λ column least inside.
-    ap (λ (n : ℕ). encode_utf8 (shown_character names (cell_at h (column * n + row)))) high
-    ∙ sym (same_character names g h (column * g.height + row) (column * g.height + row)
-    (same column (omega (arith, inside, within))))))
-
-pub same_window_frame : (names : Names) (g h : Grid) (window : Window) → h.height ≡ g.height → IsWindowOf g window →
-    AgreeInWindow window g h → window_frame names h window ≡ window_frame names g window
-same_window_frame names g h window high within same =
-    ap (λ (text : List ℕ). text ++ codes "\n")
-    (range_lists-agree (window_row names h window) (window_row names g window) window.first_row window.rows
-    (λ row least below. same_window_row names g h window row high within.columns (same row least below)))
-
--- a frame of the whole board
-pub same_frame : (names : Names) (g h : Grid) → h.width ≡ g.width → h.height ≡ g.height →
-    IsWindowOf g (whole_board g) → AgreeInWindow (whole_board g) g h → frame names h ≡ frame names g
-same_frame names g h wide high within same =
-    ap₂ (λ (width height : ℕ). let window : Window =
-    record { first_column = 0; columns = width; first_row = 0; rows = height } in window_frame names h window) wide
-    high
-    ∙ same_window_frame names g h (whole_board g) high within same
 
 -- rows that have all columns ------------------------------------------------------------------------------------------
 

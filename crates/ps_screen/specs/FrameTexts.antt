@@ -1,11 +1,9 @@
--- The text of a frame, as a picture keeps it.
-use Rattle.ps_model.specs.declared.rooms.Window.{Window}
+-- The text of a frame, as who has the board keeps it.
 use Rattle.ps_model.specs.board.Grid.{Grid}
 use Rattle.ps_model.specs.names.Names.{Names}
-use Rattle.std.specs.Prelude.{◌≡◌, Bool, List}
+use Rattle.std.specs.Prelude.{IfSome, Bool, List, Option}
 use Rattle.ps_screen.specs.KeptRows.{ArePatchedRows, AreRowsOf}
 use Rattle.ps_screen.specs.PlainFrames.{IsPatchedFrame, IsPlainFrame}
-use Rattle.ps_screen.specs.Windows.{AgreeInWindow}
 use Rattle.ps_screen.specs.declared.frame_texts.FrameText.{FrameText}
 use Rattle.ps_screen.specs.declared.frame_texts.FrameText.TheVariants.{Whole, Rows}
 
@@ -19,9 +17,6 @@ abbrev pub IsPatched : Names → List Bool → Grid → Grid → FrameText → T
 IsPatched names rows g h (Whole text) = IsPatchedFrame names rows g h text
 IsPatched names rows g h (Rows texts) = ArePatchedRows names rows g h texts.items
 
--- it is that of a grid's frame, and the grid shows what another as large does in a part of it
-pub record IsShownIn (names : Names) (window : Window) (now shown : Grid) (kept : FrameText) : Type 0 where
-  pub text : IsTextOf names shown kept
-  pub agree : AgreeInWindow window now shown
-  pub width : shown.width ≡ now.width
-  pub height : shown.height ≡ now.height
+-- if there is one, it is that of a grid's frame
+abbrev pub IsFrameOf : Names → Grid → Option FrameText → Type 0
+IsFrameOf names g frame = IfSome frame (λ text. IsTextOf names g text)

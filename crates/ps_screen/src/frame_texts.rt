@@ -1,4 +1,4 @@
-//! The text of a frame, as a picture keeps it.
+//! The text of a frame, as who has the board keeps it.
 
 ghost use Rattle.std.specs.Prelude.{◌≡◌, ◌++◌, IfOk, OnErr, OnOk, true};
 ghost use Rattle.ps_model.specs.session.Frames.{frame};
@@ -13,7 +13,7 @@ use ps_board::{Board, Columns};
 use ps_model::Memory;
 use std::alloc::Global;
 
-/// The text of a frame.
+/// The text of a frame. It belongs to who has the board, and a [`Picture`](crate::Picture) draws it.
 #[derive(Drop)]
 pub enum FrameText {
     /// All of it, where each of its characters is of one byte.
@@ -22,8 +22,7 @@ pub enum FrameText {
     Rows(Vec<OutputText>),
 }
 
-/// The text of a board's frame, made anew: whole, where each character is of one byte. A text that was kept whole
-/// gives its room.
+/// The text of a board's frame, made anew: whole, where each character is of one byte.
 ///
 /// # Errors
 ///
@@ -33,15 +32,10 @@ pub fn draw_text<B: Board>(
     look: &Look<'_>,
     board: &B,
     space: &mut CellSpace,
-    kept: Option<FrameText>,
 ) -> Result<FrameText, Memory>
     ensures { IfOk result (λ text. IsTextOf look.now (B.grid board.now) text) }
 {
-    let mut whole = match kept {
-        Some(FrameText::Whole(text)) => text,
-        Some(FrameText::Rows(_texts)) => OutputText::new(alloc),
-        None => OutputText::new(alloc),
-    };
+    let mut whole = OutputText::new(alloc);
     if draw_frame(look, board, space, &mut whole)? {
         return Ok(FrameText::Whole(whole));
     }

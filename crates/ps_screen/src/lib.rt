@@ -1,6 +1,7 @@
 //! What a player sees: lines and frames, appended to an output.
 //!
-//! An [`OutputText`] is the text so far. A [`Picture`] makes the frames of one game, and keeps the last of them.
+//! An [`OutputText`] is the text so far. A [`Picture`] makes the frames of one game; the text of a board's frame, a
+//! [`FrameText`], is kept by who has the board.
 #![tactic(auto)]
 
 mod cells;
@@ -16,6 +17,7 @@ mod rooms;
 mod rows;
 mod windows;
 
+pub use frame_texts::FrameText;
 pub use output_text::OutputText;
 pub use picture::Picture;
 pub use ps_board::Board;

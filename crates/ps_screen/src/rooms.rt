@@ -2,10 +2,10 @@
 
 ghost use Rattle.std.specs.Prelude.{◌≡◌, ◌≤◌, ◌+◌};
 ghost use Rattle.ps_model.specs.session.RoomSizes.{IsRoomSize};
-ghost use Rattle.ps_model.specs.session.Rooms.{part_length, part_start, room_seen, room_window, whole_board};
-ghost use Rattle.ps_screen.specs.Windows.{DifferInWindowOn, IsWindowOf};
+ghost use Rattle.ps_model.specs.session.Rooms.{part_length, part_start, room_seen, room_window};
+ghost use Rattle.ps_screen.specs.Windows.{IsWindowOf};
 
-use ps_board::{Board, Columns};
+use ps_board::Board;
 use ps_model::{Room, RoomSize, Window};
 use ps_turn::{TurnGame, first_player_cell};
 
@@ -49,40 +49,4 @@ pub fn room_window<B: Board>(board: &B, size: RoomSize, room: Room) -> Window
         first_row,
         rows,
     }
-}
-
-/// The part of a board that is all of it.
-pub fn whole_board<B: Board>(board: &B) -> Window
-    ensures window { result ≡ whole_board (B.grid board.now) }
-    ensures within { IsWindowOf (B.grid board.now) result }
-{
-    let (width, height) = board.size();
-    Window {
-        first_column: 0,
-        columns: width,
-        first_row: 0,
-        rows: height,
-    }
-}
-
-/// Rows outside of which another board alike shows the same objects in the rows of a part of the board. Where these are
-/// few, each of them is compared by itself.
-pub fn rows_to_draw<B: Board>(board: &B, shown: &B, window: Window) -> Columns<B::Words>
-    requires window { IsWindowOf (B.grid board.now) window }
-    requires width { (B.grid shown.now).width ≡ (B.grid board.now).width }
-    requires height { (B.grid shown.now).height ≡ (B.grid board.now).height }
-    requires layers { (B.grid shown.now).layers ≡ (B.grid board.now).layers }
-    requires table { B.table shown.now ≡ B.table board.now }
-    ensures { DifferInWindowOn result window (B.grid board.now) (B.grid shown.now) }
-{
-    let (_width, height) = board.size();
-    if height < 4 * window.rows {
-        return board.rows_differing(shown);
-    }
-    let mut rows = Columns::none();
-    for step in 0..window.rows {
-        let row = window.first_row + step;
-        rows = rows.with(row, !board.differing(shown, row).is_empty());
-    }
-    rows
 }

@@ -12,7 +12,7 @@ use Rattle.ps_model.specs.session.KeySteps.{back_at, undone}
 use Rattle.ps_model.specs.session.Rooms.{frame_in, room_after}
 use Rattle.ps_model.specs.session.Sessions.{Play, Playing, Session, shown}
 use Rattle.ps_board.specs.Histories.{BoardShown, latest_board}
-use Rattle.ps_stage.specs.Standings.{SessionParts, StageValue, Standing, play_of, script_of}
+use Rattle.ps_stage.specs.Standings.{SessionParts, Standing, play_of, script_of}
 use Rattle.ps_stage.specs.StepsShown.{came}
 use Rattle.ps_session.specs.Histories.{AreOnTable, grids_of}
 
@@ -34,10 +34,6 @@ latest_on_table table boards latest on is = found_on_table table boards (length 
 pub latest_grid : (boards : List BoardShown) (latest : BoardShown) → latest_board boards ≡ Some latest →
     slice_get (grids_of boards) (length (grids_of boards) - 1) ≡ Some latest.grid
 latest_grid boards latest is = rw (length-map, slice_get-map, is) refl
-
--- a stage that is as it was has its text
-pub told_behind : (text : List ℕ) (before now : StageValue) → now ≡ before → before.text ≡ text → now.text ≡ text
-told_behind text before now is told = ap (λ (stage : StageValue). stage.text) is ∙ told
 
 -- the step of a level that has another board, or its own, whatever frames and rooms are
 went_back : (frame : Grid → Room → List ℕ) (rooms : Grid → Room → Room) (grids : List Grid) (level back : Standing)

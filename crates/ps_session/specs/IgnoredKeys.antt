@@ -2,7 +2,6 @@
 -- the end every one is.
 use Rattle.std.specs.Prelude.{◌≡◌, Bool, true, false}
 use Rattle.ps_model.specs.declared.options.Options.{Options}
-use Rattle.ps_model.specs.declared.play.Input.{Input}
 use Rattle.ps_model.specs.declared.play.Input.TheVariants.{Up, Down, Left, Right, Action}
 use Rattle.ps_model.specs.declared.play.Key.{Key}
 use Rattle.ps_model.specs.declared.play.Key.TheVariants.{Move, Undo, Restart, Quit}

@@ -3,4 +3,4 @@ pub mod IgnoredKeys
 pub mod Left
 pub mod Nexts
 pub mod Phases
-pub mod Tables
+pub mod Bases

@@ -45,8 +45,8 @@ next_shown history location (Goes next history_change) =
 
 -- the board of a location is the one that is ready to enter the history
 abbrev pub IsReadyBehind : Option BoardShown → Location Standing → Type 0
-IsReadyBehind ready (Playing level) = ready ≡ Some (record { table = level.table; grid = level.board })
-IsReadyBehind ready (Waiting level pending) = ready ≡ Some (record { table = level.table; grid = level.board })
+IsReadyBehind ready (Playing level) = ready ≡ Some (record { table = level.basis.table; grid = level.board })
+IsReadyBehind ready (Waiting level pending) = ready ≡ Some (record { table = level.basis.table; grid = level.board })
 IsReadyBehind ready (AtMessage entry) = ⊤
 IsReadyBehind ready (Ended ending) = ⊤
 

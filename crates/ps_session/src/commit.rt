@@ -2,13 +2,13 @@
 
 ghost use Rattle.std.specs.Prelude.{◌≡◌, ◌++◌, ℕ, [], ◌∷◌, List, Option, Some};
 ghost use Rattle.ps_model.specs.board.Grid.{Grid};
-ghost use Rattle.ps_stage.specs.Locations.{location_shown, IsOnTable};
-ghost use Rattle.ps_stage.specs.Standings.{play_of};
+ghost use Rattle.ps_stage.specs.Locations.{location_shown, IsOnBasis};
+ghost use Rattle.ps_stage.specs.Standings.{Basis, play_of};
 ghost use Rattle.ps_stage.specs.StepsShown.{stands};
 ghost use Rattle.ps_model.specs.session.Sessions.{kept};
 ghost use Rattle.ps_session.specs.Histories.{AreOnTable, grids_of};
 ghost use Rattle.ps_session.specs.Nexts.{IsReadyFor, IsReadyTo, next_shown, history_behind_location, stood};
-ghost use Rattle.ps_session.specs.Tables.{ComesOnTable};
+ghost use Rattle.ps_session.specs.Bases.{ComesOnBasis};
 
 use crate::nexts::Next;
 use ps_board::{Board, History};
@@ -19,7 +19,7 @@ use std::mem;
 /// A level in which a message waits, or none.
 fn standing<B: Board>(level: PlayedLevel<B>, pending: Option<Pending>) -> Location<PlayedLevel<B>>
     ensures shown { (history : List Grid) → location_shown history result ≡ stands pending (play_of history level) }
-    ensures table { IsOnTable level.table result }
+    ensures basis { IsOnBasis level.basis result }
 {
     match pending {
         None => Location::Playing(level),
@@ -33,7 +33,7 @@ fn stood<B: Board>(
     pending: Option<Pending>,
 ) -> Location<PlayedLevel<B>>
     ensures shown { (history : List Grid) → location_shown history result ≡ stood history location pending }
-    ensures table { (table : Option (List ℕ)) → IsOnTable table location → IsOnTable table result }
+    ensures basis { (basis : Basis) → IsOnBasis basis location → IsOnBasis basis result }
 {
     match location {
         Location::Playing(level) => standing(level, pending),
@@ -75,11 +75,11 @@ fn add_to_history<B: Board, H: History<B>>(
     history: &mut H,
     level: PlayedLevel<B>,
 )
-    requires ready { H.ready history.old ≡ Some (record { table = level.table; grid = level.board }) }
+    requires ready { H.ready history.old ≡ Some (record { table = level.basis.table; grid = level.board }) }
     ensures stage { stage.new ≡ stage.old }
     ensures shown { grids_of (H.boards history.new) ≡ kept (grids_of (H.boards history.old) ++ level.board ∷ []) }
-    ensures boards { (table : Option (List ℕ)) → AreOnTable table (H.boards history.old) → level.table ≡ table
-        → AreOnTable table (H.boards history.new) }
+    ensures boards { (basis : Basis) → AreOnTable basis.table (H.boards history.old) → level.basis ≡ basis
+        → AreOnTable basis.table (H.boards history.new) }
 {
     history.enter();
     stage.keep_level(level);
@@ -96,8 +96,8 @@ fn leave<B: Board, H: History<B>>(
     ensures stage { stage.new ≡ stage.old }
     ensures shown { grids_of (H.boards history.new)
         ≡ history_behind_location history_change (grids_of (H.boards history.old)) location }
-    ensures boards { (table : Option (List ℕ)) → AreOnTable table (H.boards history.old) → IsOnTable table location
-        → AreOnTable table (H.boards history.new) }
+    ensures boards { (basis : Basis) → AreOnTable basis.table (H.boards history.old) → IsOnBasis basis location
+        → AreOnTable basis.table (H.boards history.new) }
 {
     match history_change {
         HistoryChange::Keeps => give_back(stage, location),
@@ -125,10 +125,10 @@ pub fn commit<B: Board, H: History<B>>(
     ensures stage { stage.new ≡ stage.old }
     ensures shown { location_shown (grids_of (H.boards history.new)) location.new
         ≡ next_shown (grids_of (H.boards history.old)) location.old next }
-    ensures location { (table : Option (List ℕ)) → IsOnTable table location.old → ComesOnTable table next
-        → IsOnTable table location.new }
-    ensures boards { (table : Option (List ℕ)) → AreOnTable table (H.boards history.old) → IsOnTable table location.old
-        → AreOnTable table (H.boards history.new) }
+    ensures location { (basis : Basis) → IsOnBasis basis location.old → ComesOnBasis basis next
+        → IsOnBasis basis location.new }
+    ensures boards { (basis : Basis) → AreOnTable basis.table (H.boards history.old) → IsOnBasis basis location.old
+        → AreOnTable basis.table (H.boards history.new) }
 {
     match next {
         Next::Stands(pending) => {

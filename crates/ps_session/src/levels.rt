@@ -6,14 +6,14 @@ ghost use Rattle.ps_model.specs.board.Programs.{Section};
 ghost use Rattle.ps_model.specs.session.KeySteps.{input_taken, key_in_level, quit, undone};
 ghost use Rattle.ps_model.specs.session.Sessions.{with_board_in_history};
 ghost use Rattle.ps_model.specs.session.StartSteps.{restarted};
-ghost use Rattle.ps_stage.specs.Standings.{play_of, script_of, script_for, Standing};
+ghost use Rattle.ps_stage.specs.Standings.{Basis, Standing, basis_of, play_of, script_for, script_of};
 ghost use Rattle.ps_stage.specs.StepsShown.{IsStopped};
 ghost use Rattle.ps_stage.specs.declared.locations.Location.{Location as MeantLocation};
 ghost use Rattle.ps_stage.specs.declared.locations.Location.TheVariants.{Playing};
 ghost use Rattle.ps_session.specs.Histories.{AreOnTable, grids_of};
 ghost use Rattle.ps_session.specs.IgnoredKeys.{is_ignored_in_level};
 ghost use Rattle.ps_session.specs.Nexts.{next_step};
-ghost use Rattle.ps_session.specs.Tables.{AnswersOnTable, ComesOnTable};
+ghost use Rattle.ps_session.specs.Bases.{AnswersOnBasis, ComesOnBasis};
 
 use crate::ignored::is_ignored_in_level;
 use crate::nexts::{Next, next_of};
@@ -32,7 +32,7 @@ pub fn quits<B: Board>(stage: &mut Stage<'_, B>) -> Result<Next<PlayedLevel<B>>,
     ensures game { stage.new.game ≡ stage.old.game }
     ensures came { IfOk result (λ next. (history : List Grid) (location : MeantLocation Standing)
         → quit ≡ next_step history location (Some next) stage.new.text) }
-    ensures table { IfOk result (λ next. (table : Option (List ℕ)) → ComesOnTable table next) }
+    ensures basis { IfOk result (λ next. (basis : Basis) → ComesOnBasis basis next) }
 {
     stage.tell_quit()?;
     Ok(Next::Goes(Location::Ended(Ending::Quit), HistoryChange::Clears))
@@ -50,7 +50,7 @@ fn moves<B: Board, R: Rules<B>>(
     input: Input,
 ) -> Result<Next<PlayedLevel<B>>, Stop>
     requires empty { stage.old.text ≡ [] }
-    requires table { level.old.table ≡ B.table_for stage.old.game.names.layers }
+    requires basis { level.old.basis ≡ basis_of B.table_for stage.old.game.names }
     ensures game { stage.new.game ≡ stage.old.game }
     ensures plain { R.meant rules.new.plain ≡ R.meant rules.old.plain }
     ensures late { R.meant rules.new.late ≡ R.meant rules.old.late }
@@ -63,7 +63,7 @@ fn moves<B: Board, R: Rules<B>>(
         → IsStopped (script_for B.table_for stage.old.game (R.meant rules.old.plain) (R.meant rules.old.late)) stop
         (input_taken (script_for B.table_for stage.old.game (R.meant rules.old.plain) (R.meant rules.old.late))
         (play_of history level.old) input) stage.new.text) }
-    ensures table { IfOk result (λ next. ComesOnTable (B.table_for stage.old.game.names.layers) next) }
+    ensures basis { IfOk result (λ next. ComesOnBasis (basis_of B.table_for stage.old.game.names) next) }
 {
     let change = stage.take_input(rules, level, input)?;
     Ok(next_of(change))
@@ -76,26 +76,32 @@ fn moves<B: Board, R: Rules<B>>(
 /// `Memory`.
 fn undoes<B: Board, H: History<B>>(
     stage: &mut Stage<'_, B>,
-    level: &PlayedLevel<B>,
+    level: &mut PlayedLevel<B>,
     history: &H,
 ) -> Result<Next<PlayedLevel<B>>, Memory>
     requires empty { stage.old.text ≡ [] }
-    requires table { level.now.table ≡ B.table_for stage.old.game.names.layers }
+    requires basis { level.old.basis ≡ basis_of B.table_for stage.old.game.names }
     requires boards { AreOnTable (B.table_for stage.old.game.names.layers) (H.boards history.now) }
     ensures game { stage.new.game ≡ stage.old.game }
+    ensures same { level.new ≡ level.old }
     ensures came { IfOk result (λ next. (plain late : List Section)
-        → undone (script_of stage.old.game plain late) (play_of (grids_of (H.boards history.now)) level.now)
-        ≡ next_step (grids_of (H.boards history.now)) (Playing level.now) (Some next) stage.new.text) }
-    ensures table { IfOk result (λ next. ComesOnTable (B.table_for stage.old.game.names.layers) next) }
+        → undone (script_of stage.old.game plain late) (play_of (grids_of (H.boards history.now)) level.old)
+        ≡ next_step (grids_of (H.boards history.now)) (Playing level.old) (Some next) stage.new.text) }
+    ensures basis { IfOk result (λ next. ComesOnBasis (basis_of B.table_for stage.old.game.names) next) }
 {
     let Some(latest) = history.latest() else {
-        stage.show(level.board(), level.room())?;
+        stage.show(level)?;
         return Ok(Next::Stands(None));
     };
     let room = stage.room_after(latest, level.room());
-    stage.show(latest, room)?;
-    let back = stage.level_at(level, latest, room)?;
-    Ok(Next::Undoes(back))
+    let mut back = stage.level_at(level, latest, room)?;
+    match stage.show(&mut back) {
+        Ok(()) => Ok(Next::Undoes(back)),
+        Err(Memory) => {
+            stage.keep_level(back);
+            Err(Memory)
+        }
+    }
 }
 
 /// The level from the board that a restart goes back to. Undo takes it back.
@@ -106,18 +112,19 @@ fn undoes<B: Board, H: History<B>>(
 fn restarts<B: Board, R: Rules<B>>(
     stage: &mut Stage<'_, B>,
     rules: &mut TurnRules<B, R>,
-    level: &PlayedLevel<B>,
+    level: &mut PlayedLevel<B>,
 ) -> Result<Next<PlayedLevel<B>>, Memory>
     requires empty { stage.old.text ≡ [] }
-    requires table { level.now.table ≡ B.table_for stage.old.game.names.layers }
+    requires basis { level.old.basis ≡ basis_of B.table_for stage.old.game.names }
     ensures game { stage.new.game ≡ stage.old.game }
     ensures plain { R.meant rules.new.plain ≡ R.meant rules.old.plain }
     ensures late { R.meant rules.new.late ≡ R.meant rules.old.late }
+    ensures same { level.new ≡ level.old }
     ensures came { IfOk result (λ next. (history : List Grid)
         → restarted (script_for B.table_for stage.old.game (R.meant rules.old.plain) (R.meant rules.old.late))
-        (with_board_in_history (play_of history level.now)) None
-        ≡ next_step history (Playing level.now) (Some next) stage.new.text) }
-    ensures table { IfOk result (λ next. ComesOnTable (B.table_for stage.old.game.names.layers) next) }
+        (with_board_in_history (play_of history level.old)) None
+        ≡ next_step history (Playing level.old) (Some next) stage.new.text) }
+    ensures basis { IfOk result (λ next. ComesOnBasis (basis_of B.table_for stage.old.game.names) next) }
 {
     let location = stage.restart(rules, level, None)?;
     Ok(Next::Goes(location, HistoryChange::Adds))
@@ -137,7 +144,7 @@ pub fn key_in_level<B: Board, H: History<B>, R: Rules<B>>(
     key: Key,
 ) -> Result<Option<Next<PlayedLevel<B>>>, Stop>
     requires empty { stage.old.text ≡ [] }
-    requires table { level.old.table ≡ B.table_for stage.old.game.names.layers }
+    requires basis { level.old.basis ≡ basis_of B.table_for stage.old.game.names }
     requires boards { AreOnTable (B.table_for stage.old.game.names.layers) (H.boards history.now) }
     ensures game { stage.new.game ≡ stage.old.game }
     ensures plain { R.meant rules.new.plain ≡ R.meant rules.old.plain }
@@ -151,7 +158,7 @@ pub fn key_in_level<B: Board, H: History<B>, R: Rules<B>>(
         IsStopped (script_for B.table_for stage.old.game (R.meant rules.old.plain) (R.meant rules.old.late)) stop
         (key_in_level (script_for B.table_for stage.old.game (R.meant rules.old.plain) (R.meant rules.old.late))
         (play_of (grids_of (H.boards history.now)) level.old) key) stage.new.text) }
-    ensures table { IfOk result (λ next. AnswersOnTable (B.table_for stage.old.game.names.layers) next) }
+    ensures basis { IfOk result (λ next. AnswersOnBasis (basis_of B.table_for stage.old.game.names) next) }
     ensures ignored { is_ignored_in_level stage.old.game.options key ≡ true → result ≡ Ok None }
 {
     if is_ignored_in_level(stage.game().options(), key) {

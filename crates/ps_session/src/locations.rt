@@ -2,13 +2,13 @@
 
 ghost use Rattle.std.specs.Prelude.{◌≡◌, [], true, IfErr, IfOk, None, Ok};
 ghost use Rattle.ps_model.specs.session.KeySteps.{key_step};
-ghost use Rattle.ps_stage.specs.Locations.{location_shown, IsOnTable};
-ghost use Rattle.ps_stage.specs.Standings.{script_for};
+ghost use Rattle.ps_stage.specs.Locations.{location_shown, IsOnBasis};
+ghost use Rattle.ps_stage.specs.Standings.{basis_of, script_for};
 ghost use Rattle.ps_stage.specs.StepsShown.{IsStopped};
 ghost use Rattle.ps_session.specs.Histories.{AreOnTable, grids_of};
 ghost use Rattle.ps_session.specs.IgnoredKeys.{is_ignored};
 ghost use Rattle.ps_session.specs.Nexts.{next_step};
-ghost use Rattle.ps_session.specs.Tables.{AnswersOnTable};
+ghost use Rattle.ps_session.specs.Bases.{AnswersOnBasis};
 
 use crate::levels::key_in_level;
 use crate::messages::{key_at_entry, key_at_level_message};
@@ -31,7 +31,7 @@ pub fn next_at<B: Board, H: History<B>, R: Rules<B>>(
     key: Key,
 ) -> Result<Option<Next<PlayedLevel<B>>>, Stop>
     requires empty { stage.old.text ≡ [] }
-    requires table { IsOnTable (B.table_for stage.old.game.names.layers) location.old }
+    requires basis { IsOnBasis (basis_of B.table_for stage.old.game.names) location.old }
     requires boards { AreOnTable (B.table_for stage.old.game.names.layers) (H.boards history.now) }
     ensures game { stage.new.game ≡ stage.old.game }
     ensures plain { R.meant rules.new.plain ≡ R.meant rules.old.plain }
@@ -45,7 +45,7 @@ pub fn next_at<B: Board, H: History<B>, R: Rules<B>>(
         IsStopped (script_for B.table_for stage.old.game (R.meant rules.old.plain) (R.meant rules.old.late)) stop
         (key_step (script_for B.table_for stage.old.game (R.meant rules.old.plain) (R.meant rules.old.late))
         (location_shown (grids_of (H.boards history.now)) location.old) key) stage.new.text) }
-    ensures table { IfOk result (λ next. AnswersOnTable (B.table_for stage.old.game.names.layers) next) }
+    ensures basis { IfOk result (λ next. AnswersOnBasis (basis_of B.table_for stage.old.game.names) next) }
     ensures ignored { let here = location_shown (grids_of (H.boards history.now)) location.old in
         is_ignored stage.old.game.options here key ≡ true → result ≡ Ok None }
 {

@@ -3,12 +3,12 @@
 ghost use Rattle.std.specs.Prelude.{◌≡◌, [], true, IfErr, IfOk, List, None, Ok};
 ghost use Rattle.ps_model.specs.board.Grid.{Grid};
 ghost use Rattle.ps_model.specs.session.KeySteps.{key_at_entry, key_at_level_message};
-ghost use Rattle.ps_stage.specs.Standings.{play_of, script_for};
+ghost use Rattle.ps_stage.specs.Standings.{basis_of, play_of, script_for};
 ghost use Rattle.ps_stage.specs.StepsShown.{IsStopped, pending_shown};
 ghost use Rattle.ps_stage.specs.declared.locations.Location.TheVariants.{AtMessage, Waiting};
 ghost use Rattle.ps_session.specs.IgnoredKeys.{is_ignored_at_message};
 ghost use Rattle.ps_session.specs.Nexts.{next_step};
-ghost use Rattle.ps_session.specs.Tables.{AnswersOnTable};
+ghost use Rattle.ps_session.specs.Bases.{AnswersOnBasis};
 
 use crate::ignored::is_ignored_at_message;
 use crate::levels::quits;
@@ -26,25 +26,26 @@ use ps_turn::{Rules, TurnRules};
 pub fn key_at_level_message<B: Board, R: Rules<B>>(
     stage: &mut Stage<'_, B>,
     rules: &mut TurnRules<B, R>,
-    level: &PlayedLevel<B>,
+    level: &mut PlayedLevel<B>,
     pending: Pending,
     key: Key,
 ) -> Result<Option<Next<PlayedLevel<B>>>, Stop>
     requires empty { stage.old.text ≡ [] }
-    requires table { level.now.table ≡ B.table_for stage.old.game.names.layers }
+    requires basis { level.old.basis ≡ basis_of B.table_for stage.old.game.names }
     ensures game { stage.new.game ≡ stage.old.game }
     ensures plain { R.meant rules.new.plain ≡ R.meant rules.old.plain }
     ensures late { R.meant rules.new.late ≡ R.meant rules.old.late }
+    ensures same { level.new ≡ level.old }
     ensures came { IfOk result (λ next. (history : List Grid)
         → key_at_level_message
         (script_for B.table_for stage.old.game (R.meant rules.old.plain) (R.meant rules.old.late))
-        (play_of history level.now) (pending_shown pending) key
-        ≡ next_step history (Waiting level.now pending) next stage.new.text) }
+        (play_of history level.old) (pending_shown pending) key
+        ≡ next_step history (Waiting level.old pending) next stage.new.text) }
     ensures stopped { IfErr result (λ stop. (history : List Grid)
         → IsStopped (script_for B.table_for stage.old.game (R.meant rules.old.plain) (R.meant rules.old.late)) stop
         (key_at_level_message (script_for B.table_for stage.old.game (R.meant rules.old.plain) (R.meant rules.old.late))
-        (play_of history level.now) (pending_shown pending) key) stage.new.text) }
-    ensures table { IfOk result (λ next. AnswersOnTable (B.table_for stage.old.game.names.layers) next) }
+        (play_of history level.old) (pending_shown pending) key) stage.new.text) }
+    ensures basis { IfOk result (λ next. AnswersOnBasis (basis_of B.table_for stage.old.game.names) next) }
     ensures ignored { is_ignored_at_message key ≡ true → result ≡ Ok None }
 {
     if is_ignored_at_message(key) {
@@ -81,7 +82,7 @@ pub fn key_at_entry<B: Board, R: Rules<B>>(
         IsStopped (script_for B.table_for stage.old.game (R.meant rules.old.plain) (R.meant rules.old.late)) stop
         (key_at_entry (script_for B.table_for stage.old.game (R.meant rules.old.plain) (R.meant rules.old.late))
         entry.now key) stage.new.text) }
-    ensures table { IfOk result (λ next. AnswersOnTable (B.table_for stage.old.game.names.layers) next) }
+    ensures basis { IfOk result (λ next. AnswersOnBasis (basis_of B.table_for stage.old.game.names) next) }
     ensures ignored { is_ignored_at_message key ≡ true → result ≡ Ok None }
 {
     if is_ignored_at_message(key) {

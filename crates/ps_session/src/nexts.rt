@@ -2,12 +2,12 @@
 
 ghost use Rattle.std.specs.Prelude.{◌≡◌, ℕ, List, Option};
 ghost use Rattle.ps_model.specs.board.Grid.{Grid};
-ghost use Rattle.ps_stage.specs.Locations.{change_shown, GoesOnTable};
-ghost use Rattle.ps_stage.specs.Standings.{Standing};
+ghost use Rattle.ps_stage.specs.Locations.{change_shown, GoesOnBasis};
+ghost use Rattle.ps_stage.specs.Standings.{Basis, Standing};
 ghost use Rattle.ps_stage.specs.declared.locations.Pending.{Pending as MeantPending};
 ghost use Rattle.ps_stage.specs.declared.locations.Location.TheVariants.{Playing, Waiting};
 ghost use Rattle.ps_session.specs.Nexts.{next_shown};
-ghost use Rattle.ps_session.specs.Tables.{ComesOnTable};
+ghost use Rattle.ps_session.specs.Bases.{ComesOnBasis};
 
 use ps_board::Board;
 use ps_stage::{Change, HistoryChange, Location, Pending, PlayedLevel};
@@ -29,7 +29,7 @@ pub fn next_of<B: Board>(change: Change<PlayedLevel<B>>) -> Next<PlayedLevel<B>>
         → next_shown history (Playing level) result ≡ change_shown history level change }
     ensures waiting { (history : List Grid) (level : Standing) (pending : MeantPending)
         → next_shown history (Waiting level pending) result ≡ change_shown history level change }
-    ensures table { (table : Option (List ℕ)) → GoesOnTable table change → ComesOnTable table result }
+    ensures basis { (basis : Basis) → GoesOnBasis basis change → ComesOnBasis basis result }
 {
     match change {
         Change::Stays(pending) => Next::Stands(pending),

@@ -4,9 +4,9 @@ ghost use Rattle.std.specs.Prelude.{◌≡◌, ◌++◌, ◌≤◌, [], IfOk, On
 ghost use Rattle.ps_model.specs.board.Turns.{Script};
 ghost use Rattle.ps_model.specs.session.Sessions.{Step};
 ghost use Rattle.ps_model.specs.session.StartSteps.{enter};
-ghost use Rattle.ps_stage.specs.Locations.{location_shown, IsOnTable};
+ghost use Rattle.ps_stage.specs.Locations.{location_shown, IsOnBasis};
 ghost use Rattle.ps_stage.specs.Sides.{side_at};
-ghost use Rattle.ps_stage.specs.Standings.{script_for};
+ghost use Rattle.ps_stage.specs.Standings.{basis_of, script_for};
 ghost use Rattle.ps_stage.specs.StepsShown.{IsStopped};
 ghost use Rattle.ps_session.specs.Left.{IsLeft};
 ghost use Rattle.ps_session.specs.Nexts.{IsReadyFor};
@@ -97,7 +97,7 @@ pub fn begin<B: Board, R: Rules<B>>(
     ensures game { stage.new.game ≡ stage.old.game }
     ensures plain { R.meant rules.new.plain ≡ R.meant rules.old.plain }
     ensures late { R.meant rules.new.late ≡ R.meant rules.old.late }
-    ensures table { IfOk result (λ location. IsOnTable (B.table_for stage.old.game.names.layers) location) }
+    ensures basis { IfOk result (λ location. IsOnBasis (basis_of B.table_for stage.old.game.names) location) }
     ensures shown { IfOk result (λ location. location_shown [] location
         ≡ (enter (script_for B.table_for stage.old.game (R.meant rules.old.plain) (R.meant rules.old.late))
         entry).session) }

@@ -42,8 +42,8 @@ impl<'g, B: Board, H: History<B>> Drop for Session<'g, B, H> {
 
 impl<'g, B: Board, H: History<B>> Model for Session<'g, B, H> {
     ghost use Rattle.std.specs.Prelude.{◌≡◌};
-    ghost use Rattle.ps_stage.specs.Locations.{location_shown, IsOnTable};
-    ghost use Rattle.ps_stage.specs.Standings.{SessionValue};
+    ghost use Rattle.ps_stage.specs.Locations.{location_shown, IsOnBasis};
+    ghost use Rattle.ps_stage.specs.Standings.{SessionValue, basis_of};
     ghost use Rattle.ps_session.specs.Histories.{AreOnTable, grids_of};
 
     ghost Value = { SessionValue };
@@ -53,7 +53,7 @@ impl<'g, B: Board, H: History<B>> Model for Session<'g, B, H> {
       session = location_shown (grids_of (H.boards s.history)) s.location;
     } };
 
-    ghost invariant = { λ s. IsOnTable (B.table_for s.stage.game.names.layers) s.location
+    ghost invariant = { λ s. IsOnBasis (basis_of B.table_for s.stage.game.names) s.location
         × AreOnTable (B.table_for s.stage.game.names.layers) (H.boards s.history) };
 }
 

@@ -1,9 +1,9 @@
 -- Where a player is, and what comes of a key, as sessions of the definitions.
-use Rattle.std.specs.Prelude.{ℕ, Bool, true, false, Option, List, [], ◌∷◌, ◌++◌, ◌≡◌, ⊤}
+use Rattle.std.specs.Prelude.{Bool, true, false, List, [], ◌∷◌, ◌++◌, ◌≡◌, ⊤}
 use Rattle.ps_model.specs.board.Grid.{Grid}
 use Rattle.ps_model.specs.session.Sessions as model
 use Rattle.ps_model.specs.session.Sessions.{kept}
-use Rattle.ps_stage.specs.Standings.{Standing, play_of}
+use Rattle.ps_stage.specs.Standings.{Basis, Standing, play_of}
 use Rattle.ps_stage.specs.StepsShown.{pending_shown, stands}
 use Rattle.ps_stage.specs.declared.locations.Location.{Location}
 use Rattle.ps_stage.specs.declared.locations.Location.TheVariants.{Playing, Waiting, AtMessage, Ended}
@@ -19,12 +19,12 @@ location_shown history (Waiting level pending) = model.Waiting (play_of history 
 location_shown history (AtMessage entry) = model.AtMessage entry
 location_shown history (Ended ending) = model.Ended ending
 
--- the boards of the level there, if there is one, have this table
-abbrev pub IsOnTable : Option (List ℕ) → Location Standing → Type 0
-IsOnTable table (Playing level) = level.table ≡ table
-IsOnTable table (Waiting level pending) = level.table ≡ table
-IsOnTable table (AtMessage entry) = ⊤
-IsOnTable table (Ended ending) = ⊤
+-- the level there, if there is one, rests on this
+abbrev pub IsOnBasis : Basis → Location Standing → Type 0
+IsOnBasis basis (Playing level) = level.basis ≡ basis
+IsOnBasis basis (Waiting level pending) = level.basis ≡ basis
+IsOnBasis basis (AtMessage entry) = ⊤
+IsOnBasis basis (Ended ending) = ⊤
 
 -- the history behind a step from that board
 abbrev pub history_behind : HistoryChange → List Grid → Grid → List Grid
@@ -43,7 +43,7 @@ change_shown history level (Stays pending) = stands pending (play_of history lev
 change_shown history level (Goes location history_change) =
     location_shown (history_behind history_change history level.board) location
 
--- the boards of the level that it goes to, if there is one, have this table
-abbrev pub GoesOnTable : Option (List ℕ) → Change Standing → Type 0
-GoesOnTable table (Stays pending) = ⊤
-GoesOnTable table (Goes location history_change) = IsOnTable table location
+-- the level that it goes to, if there is one, rests on this
+abbrev pub GoesOnBasis : Basis → Change Standing → Type 0
+GoesOnBasis basis (Stays pending) = ⊤
+GoesOnBasis basis (Goes location history_change) = IsOnBasis basis location

@@ -44,10 +44,19 @@ script_for table_for parts plain late = script_of parts (plain (table_for parts.
 abbrev pub turn_parts : SessionParts → TurnParts
 turn_parts parts = record { names = parts.names; options = parts.options; wins = parts.wins }
 
--- a level that is played, without its history, and the table of its boards
+-- what a level that is played rests on: the table of its boards, and the names that its frame is drawn by
+pub record Basis : Type 0 where
+  pub table : Option (List ℕ)
+  pub names : Names
+
+-- that of the levels of a game with these names, by the table that a board has for layers
+abbrev pub basis_of : (List ℕ → Option (List ℕ)) → Names → Basis
+basis_of table_for names = record { table = table_for names.layers; names = names }
+
+-- a level that is played, without its history, and what it rests on
 pub record Standing : Type 0 where
   pub entry : ℕ
-  pub table : Option (List ℕ)
+  pub basis : Basis
   pub board : Grid
   pub restart_board : Grid
   pub room : Room
@@ -66,7 +75,7 @@ play_of history level = record {
 abbrev pub seen_level : SessionParts → Standing → Standing
 seen_level parts level = record {
   entry = level.entry;
-  table = level.table;
+  basis = level.basis;
   board = level.board;
   restart_board = level.restart_board;
   room = room_after parts.options.flickscreen parts.names level.board level.room;
@@ -76,7 +85,7 @@ seen_level parts level = record {
 abbrev pub with_done : Standing → DoneTurn → Grid → Standing
 with_done level done g = record {
   entry = level.entry;
-  table = level.table;
+  basis = level.basis;
   board = g;
   restart_board = if done.checkpoint then g else level.restart_board;
   room = level.room;

@@ -10,8 +10,8 @@ ghost use Rattle.ps_model.specs.session.KeySteps.{blocked, all_key_turns, gone_o
 ghost use Rattle.ps_model.specs.session.StartSteps.{level_done, start_turns};
 ghost use Rattle.ps_turn.specs.States.{done_shown};
 ghost use Rattle.ps_stage.specs.KeysShown.{IsNext, key_end_step, key_shown, tried_outcome};
-ghost use Rattle.ps_stage.specs.Locations.{change_shown, history_behind, history_change_if, GoesOnTable};
-ghost use Rattle.ps_stage.specs.Standings.{Standing, script_for, play_of};
+ghost use Rattle.ps_stage.specs.Locations.{change_shown, history_behind, history_change_if, GoesOnBasis};
+ghost use Rattle.ps_stage.specs.Standings.{Standing, basis_of, play_of, script_for};
 ghost use Rattle.ps_stage.specs.StepsShown.{IsStopped, came, stands, pending_shown};
 
 use crate::entering::located;
@@ -40,17 +40,19 @@ impl<'g, B: Board> Stage<'g, B> {
     /// Shows the level of a blocked turn, and its message, if it has one.
     fn tell_blocked(
         &mut self,
-        level: &PlayedLevel<B>,
+        level: &mut PlayedLevel<B>,
         message: &Option<Text>,
     ) -> Result<Option<Pending>, Memory>
+        requires { level.old.basis ≡ basis_of B.table_for self.old.game.names }
         ensures game { self.new.game ≡ self.old.game }
+        ensures level { level.new ≡ level.old }
         ensures told { IfOk result (λ pending. (play : Play)
             → after self.old.text (after
-            (frame_in self.old.game.options.flickscreen self.old.game.names level.now.board level.now.room)
+            (frame_in self.old.game.options.flickscreen self.old.game.names level.old.board level.old.room)
             (blocked play message.now))
             ≡ came (stands pending play) self.new.text) }
     {
-        self.show(level.board(), level.room())?;
+        self.show(level)?;
         let Some(message) = message else {
             return Ok(None);
         };
@@ -67,7 +69,7 @@ impl<'g, B: Board> Stage<'g, B> {
         ensures game { self.new.game ≡ self.old.game }
         ensures plain { R.meant rules.new.plain ≡ R.meant rules.old.plain }
         ensures late { R.meant rules.new.late ≡ R.meant rules.old.late }
-        ensures table { IfOk result (λ change. GoesOnTable (B.table_for self.old.game.names.layers) change) }
+        ensures basis { IfOk result (λ change. GoesOnBasis (basis_of B.table_for self.old.game.names) change) }
         ensures came { IfOk result (λ change. (history before : List Grid) (first : Standing) → after self.old.text
             (level_done (script_for B.table_for self.old.game (R.meant rules.old.plain) (R.meant rules.old.late))
             (play_of history level.now))
@@ -87,15 +89,15 @@ impl<'g, B: Board> Stage<'g, B> {
     fn finish_key<R: Rules<B>>(
         &mut self,
         rules: &mut TurnRules<B, R>,
-        level: PlayedLevel<B>,
+        mut level: PlayedLevel<B>,
         end: KeyEnd,
         history_change: HistoryChange,
     ) -> Result<Change<PlayedLevel<B>>, Stop>
-        requires { level.table ≡ B.table_for self.old.game.names.layers }
+        requires { level.basis ≡ basis_of B.table_for self.old.game.names }
         ensures game { self.new.game ≡ self.old.game }
         ensures plain { R.meant rules.new.plain ≡ R.meant rules.old.plain }
         ensures late { R.meant rules.new.late ≡ R.meant rules.old.late }
-        ensures table { IfOk result (λ change. GoesOnTable (B.table_for self.old.game.names.layers) change) }
+        ensures basis { IfOk result (λ change. GoesOnBasis (basis_of B.table_for self.old.game.names) change) }
         ensures came { IfOk result (λ change. (history : List Grid) (first : Standing)
             → key_end_step (script_for B.table_for self.old.game (R.meant rules.old.plain) (R.meant rules.old.late))
             end (play_of (history_behind history_change history first.board) level) self.old.text
@@ -113,7 +115,7 @@ impl<'g, B: Board> Stage<'g, B> {
                 change
             }
             KeyEnd::Restarts(message) => {
-                let location = self.restart(rules, &level, message);
+                let location = self.restart(rules, &mut level, message);
                 self.keep_level(level);
                 Ok(Change::Goes(location?, history_change))
             }
@@ -128,11 +130,11 @@ impl<'g, B: Board> Stage<'g, B> {
         level: &mut PlayedLevel<B>,
         done: &DoneTurn,
     ) -> Result<KeyEnd, Memory>
-        requires { level.old.table ≡ B.table_for self.old.game.names.layers }
+        requires { level.old.basis ≡ basis_of B.table_for self.old.game.names }
         ensures game { self.new.game ≡ self.old.game }
         ensures plain { R.meant rules.new.plain ≡ R.meant rules.old.plain }
         ensures late { R.meant rules.new.late ≡ R.meant rules.old.late }
-        ensures table { level.new.table ≡ level.old.table }
+        ensures basis { level.new.basis ≡ level.old.basis }
         ensures came { IfOk result (λ end. (history : List Grid)
             → after self.old.text
             (key_shown (script_for B.table_for self.old.game (R.meant rules.old.plain) (R.meant rules.old.late))
@@ -156,11 +158,11 @@ impl<'g, B: Board> Stage<'g, B> {
         mut level: PlayedLevel<B>,
         done: &DoneTurn,
     ) -> Result<Change<PlayedLevel<B>>, Stop>
-        requires { level.table ≡ B.table_for self.old.game.names.layers }
+        requires { level.basis ≡ basis_of B.table_for self.old.game.names }
         ensures game { self.new.game ≡ self.old.game }
         ensures plain { R.meant rules.new.plain ≡ R.meant rules.old.plain }
         ensures late { R.meant rules.new.late ≡ R.meant rules.old.late }
-        ensures table { IfOk result (λ change. GoesOnTable (B.table_for self.old.game.names.layers) change) }
+        ensures basis { IfOk result (λ change. GoesOnBasis (basis_of B.table_for self.old.game.names) change) }
         ensures came { IfOk result (λ change. (history : List Grid) (first : Standing)
             → after self.old.text
             (key_shown (script_for B.table_for self.old.game (R.meant rules.old.plain) (R.meant rules.old.late))
@@ -194,7 +196,7 @@ impl<'g, B: Board> Stage<'g, B> {
         level: &mut PlayedLevel<B>,
         input: Input,
     ) -> Result<Tried<PlayedLevel<B>>, Memory>
-        requires { level.old.table ≡ B.table_for self.old.game.names.layers }
+        requires { level.old.basis ≡ basis_of B.table_for self.old.game.names }
         ensures stage { self.new ≡ self.old }
         ensures level { level.new ≡ level.old }
         ensures plain { R.meant rules.new.plain ≡ R.meant rules.old.plain }
@@ -204,31 +206,39 @@ impl<'g, B: Board> Stage<'g, B> {
             (Some input) level.old.board) }
         ensures next { IfOk result (λ tried. IsNext level.old tried) }
     {
-        level.try_turn(self.alloc, &mut self.spares, &self.game, rules, input)
+        level.try_turn(
+            self.alloc,
+            &mut self.spares,
+            &mut self.picture,
+            &self.game,
+            rules,
+            input,
+        )
     }
 
     /// What follows a turn that was tried on a level.
     fn follow_tried<R: Rules<B>>(
         &mut self,
         rules: &mut TurnRules<B, R>,
-        level: &PlayedLevel<B>,
+        level: &mut PlayedLevel<B>,
         tried: Tried<PlayedLevel<B>>,
     ) -> Result<Change<PlayedLevel<B>>, Stop>
-        requires table { level.now.table ≡ B.table_for self.old.game.names.layers }
-        requires next { IsNext level.now tried }
+        requires basis { level.old.basis ≡ basis_of B.table_for self.old.game.names }
+        requires next { IsNext level.old tried }
+        ensures level { level.new ≡ level.old }
         ensures game { self.new.game ≡ self.old.game }
         ensures plain { R.meant rules.new.plain ≡ R.meant rules.old.plain }
         ensures late { R.meant rules.new.late ≡ R.meant rules.old.late }
-        ensures table { IfOk result (λ change. GoesOnTable (B.table_for self.old.game.names.layers) change) }
+        ensures basis { IfOk result (λ change. GoesOnBasis (basis_of B.table_for self.old.game.names) change) }
         ensures came { IfOk result (λ change. (history : List Grid) → after self.old.text
             (turn_taken (script_for B.table_for self.old.game (R.meant rules.old.plain) (R.meant rules.old.late))
-            (play_of history level.now) (tried_outcome tried))
-            ≡ came (change_shown history level.now change) self.new.text) }
+            (play_of history level.old) (tried_outcome tried))
+            ≡ came (change_shown history level.old change) self.new.text) }
         ensures stopped { IfErr result (λ stop. (history : List Grid)
             → IsStopped (script_for B.table_for self.old.game (R.meant rules.old.plain) (R.meant rules.old.late)) stop
             (after self.old.text
             (turn_taken (script_for B.table_for self.old.game (R.meant rules.old.plain) (R.meant rules.old.late))
-            (play_of history level.now) (tried_outcome tried)))
+            (play_of history level.old) (tried_outcome tried)))
             self.new.text) }
     {
         match tried {
@@ -262,12 +272,12 @@ impl<'g, B: Board> Stage<'g, B> {
         level: &mut PlayedLevel<B>,
         input: Input,
     ) -> Result<Change<PlayedLevel<B>>, Stop>
-        requires { level.old.table ≡ B.table_for self.old.game.names.layers }
+        requires { level.old.basis ≡ basis_of B.table_for self.old.game.names }
         ensures level { level.new ≡ level.old }
         ensures game { self.new.game ≡ self.old.game }
         ensures plain { R.meant rules.new.plain ≡ R.meant rules.old.plain }
         ensures late { R.meant rules.new.late ≡ R.meant rules.old.late }
-        ensures table { IfOk result (λ change. GoesOnTable (B.table_for self.old.game.names.layers) change) }
+        ensures basis { IfOk result (λ change. GoesOnBasis (basis_of B.table_for self.old.game.names) change) }
         ensures came { IfOk result (λ change. (history : List Grid) → after self.old.text
             (input_taken (script_for B.table_for self.old.game (R.meant rules.old.plain) (R.meant rules.old.late))
             (play_of history level.old) input)
@@ -284,34 +294,37 @@ impl<'g, B: Board> Stage<'g, B> {
     }
 
     /// The same level once more.
-    fn copied(&mut self, level: &PlayedLevel<B>) -> Result<PlayedLevel<B>, Memory>
+    fn copied(&mut self, level: &mut PlayedLevel<B>) -> Result<PlayedLevel<B>, Memory>
+        requires { level.old.basis ≡ basis_of B.table_for self.old.game.names }
         ensures stage { self.new ≡ self.old }
-        ensures copy { IfOk result (λ copy. copy ≡ level.now) }
+        ensures level { level.new ≡ level.old }
+        ensures copy { IfOk result (λ copy. copy ≡ level.old) }
     {
-        level.try_copy(self.alloc, &mut self.spares)
+        level.try_copy(self.alloc, &mut self.spares, self.game.names())
     }
 
     /// The again turns of a key that are left come behind a message.
     fn go_on_with_key<R: Rules<B>>(
         &mut self,
         rules: &mut TurnRules<B, R>,
-        level: &PlayedLevel<B>,
+        level: &mut PlayedLevel<B>,
         left: u32,
     ) -> Result<Change<PlayedLevel<B>>, Stop>
-        requires { level.now.table ≡ B.table_for self.old.game.names.layers }
+        requires { level.old.basis ≡ basis_of B.table_for self.old.game.names }
+        ensures level { level.new ≡ level.old }
         ensures game { self.new.game ≡ self.old.game }
         ensures plain { R.meant rules.new.plain ≡ R.meant rules.old.plain }
         ensures late { R.meant rules.new.late ≡ R.meant rules.old.late }
-        ensures table { IfOk result (λ change. GoesOnTable (B.table_for self.old.game.names.layers) change) }
+        ensures basis { IfOk result (λ change. GoesOnBasis (basis_of B.table_for self.old.game.names) change) }
         ensures came { IfOk result (λ change. (history : List Grid) (first : Standing) → after self.old.text
             (key_turns (script_for B.table_for self.old.game (R.meant rules.old.plain) (R.meant rules.old.late)) left
-            (play_of history level.now))
+            (play_of history level.old))
             ≡ came (change_shown history first change) self.new.text) }
         ensures stopped { IfErr result (λ stop. (history : List Grid)
             → IsStopped (script_for B.table_for self.old.game (R.meant rules.old.plain) (R.meant rules.old.late)) stop
             (after self.old.text
             (key_turns (script_for B.table_for self.old.game (R.meant rules.old.plain) (R.meant rules.old.late)) left
-            (play_of history level.now)))
+            (play_of history level.old)))
             self.new.text) }
     {
         let mut next = self.copied(level)?;
@@ -323,23 +336,24 @@ impl<'g, B: Board> Stage<'g, B> {
     fn go_on_with_start<R: Rules<B>>(
         &mut self,
         rules: &mut TurnRules<B, R>,
-        level: &PlayedLevel<B>,
+        level: &mut PlayedLevel<B>,
         left: u32,
     ) -> Result<Change<PlayedLevel<B>>, Stop>
-        requires { level.now.table ≡ B.table_for self.old.game.names.layers }
+        requires { level.old.basis ≡ basis_of B.table_for self.old.game.names }
+        ensures level { level.new ≡ level.old }
         ensures game { self.new.game ≡ self.old.game }
         ensures plain { R.meant rules.new.plain ≡ R.meant rules.old.plain }
         ensures late { R.meant rules.new.late ≡ R.meant rules.old.late }
-        ensures table { IfOk result (λ change. GoesOnTable (B.table_for self.old.game.names.layers) change) }
+        ensures basis { IfOk result (λ change. GoesOnBasis (basis_of B.table_for self.old.game.names) change) }
         ensures came { IfOk result (λ change. (history : List Grid) (first : Standing) → after self.old.text
             (start_turns (script_for B.table_for self.old.game (R.meant rules.old.plain) (R.meant rules.old.late)) left
-            (play_of history level.now))
+            (play_of history level.old))
             ≡ came (change_shown history first change) self.new.text) }
         ensures stopped { IfErr result (λ stop. (history : List Grid)
             → IsStopped (script_for B.table_for self.old.game (R.meant rules.old.plain) (R.meant rules.old.late)) stop
             (after self.old.text
             (start_turns (script_for B.table_for self.old.game (R.meant rules.old.plain) (R.meant rules.old.late)) left
-            (play_of history level.now)))
+            (play_of history level.old)))
             self.new.text) }
     {
         let mut next = self.copied(level)?;
@@ -357,23 +371,24 @@ impl<'g, B: Board> Stage<'g, B> {
     pub fn go_on<R: Rules<B>>(
         &mut self,
         rules: &mut TurnRules<B, R>,
-        level: &PlayedLevel<B>,
+        level: &mut PlayedLevel<B>,
         pending: Pending,
     ) -> Result<Change<PlayedLevel<B>>, Stop>
-        requires { level.now.table ≡ B.table_for self.old.game.names.layers }
+        requires { level.old.basis ≡ basis_of B.table_for self.old.game.names }
+        ensures level { level.new ≡ level.old }
         ensures game { self.new.game ≡ self.old.game }
         ensures plain { R.meant rules.new.plain ≡ R.meant rules.old.plain }
         ensures late { R.meant rules.new.late ≡ R.meant rules.old.late }
-        ensures table { IfOk result (λ change. GoesOnTable (B.table_for self.old.game.names.layers) change) }
+        ensures basis { IfOk result (λ change. GoesOnBasis (basis_of B.table_for self.old.game.names) change) }
         ensures came { IfOk result (λ change. (history : List Grid) → after self.old.text
             (gone_on (script_for B.table_for self.old.game (R.meant rules.old.plain) (R.meant rules.old.late))
-            (play_of history level.now) (pending_shown pending))
-            ≡ came (change_shown history level.now change) self.new.text) }
+            (play_of history level.old) (pending_shown pending))
+            ≡ came (change_shown history level.old change) self.new.text) }
         ensures stopped { IfErr result (λ stop. (history : List Grid)
             → IsStopped (script_for B.table_for self.old.game (R.meant rules.old.plain) (R.meant rules.old.late)) stop
             (after self.old.text
             (gone_on (script_for B.table_for self.old.game (R.meant rules.old.plain) (R.meant rules.old.late))
-            (play_of history level.now) (pending_shown pending)))
+            (play_of history level.old) (pending_shown pending)))
             self.new.text) }
     {
         match pending {

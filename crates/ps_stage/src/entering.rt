@@ -8,10 +8,10 @@ ghost use Rattle.ps_model.specs.session.Sessions.{after, is_level, level_number}
 ghost use Rattle.ps_model.specs.session.StartSteps.{entered, enter, level_done, restarted};
 ghost use Rattle.ps_levels.specs.EntriesShown.{entry_shown, entries_shown};
 ghost use Rattle.ps_stage.specs.Playable.{IsPlayable, LevelFits};
-ghost use Rattle.ps_stage.specs.Standings.{script_of, script_for, play_of};
+ghost use Rattle.ps_stage.specs.Standings.{Basis, basis_of, play_of, script_for, script_of};
 ghost use Rattle.ps_stage.specs.Sides.{side_at};
 ghost use Rattle.ps_stage.specs.StepsShown.{IsStopped, came, stands};
-ghost use Rattle.ps_stage.specs.Locations.{location_shown, IsOnTable};
+ghost use Rattle.ps_stage.specs.Locations.{location_shown, IsOnBasis};
 
 use crate::entries::EntryNumber;
 use crate::levels::PlayedLevel;
@@ -64,7 +64,7 @@ pub(crate) fn located<B: Board>(
     pending: Option<Pending>,
 ) -> Location<PlayedLevel<B>>
     ensures shown { (history : List Grid) → location_shown history result ≡ stands pending (play_of history level) }
-    ensures table { (table : Option (List ℕ)) → level.table ≡ table → IsOnTable table result }
+    ensures basis { (basis : Basis) → level.basis ≡ basis → IsOnBasis basis result }
 {
     match pending {
         None => Location::Playing(level),
@@ -87,7 +87,7 @@ impl<'g, B: Board> Stage<'g, B> {
         ensures game { self.new.game ≡ self.old.game }
         ensures plain { R.meant rules.new.plain ≡ R.meant rules.old.plain }
         ensures late { R.meant rules.new.late ≡ R.meant rules.old.late }
-        ensures table { IfOk result (λ location. IsOnTable (B.table_for self.old.game.names.layers) location) }
+        ensures basis { IfOk result (λ location. IsOnBasis (basis_of B.table_for self.old.game.names) location) }
         ensures came { IfOk result (λ location. after self.old.text
             (entered (script_for B.table_for self.old.game (R.meant rules.old.plain) (R.meant rules.old.late))
             entry (Some (LevelEntry level.now)))
@@ -120,7 +120,7 @@ impl<'g, B: Board> Stage<'g, B> {
         ensures game { self.new.game ≡ self.old.game }
         ensures plain { R.meant rules.new.plain ≡ R.meant rules.old.plain }
         ensures late { R.meant rules.new.late ≡ R.meant rules.old.late }
-        ensures table { IfOk result (λ location. IsOnTable (B.table_for self.old.game.names.layers) location) }
+        ensures basis { IfOk result (λ location. IsOnBasis (basis_of B.table_for self.old.game.names) location) }
         ensures came { IfOk result (λ location. after self.old.text
             (enter (script_for B.table_for self.old.game (R.meant rules.old.plain) (R.meant rules.old.late)) entry)
             ≡ came (location_shown [] location) self.new.text) }
@@ -156,7 +156,7 @@ impl<'g, B: Board> Stage<'g, B> {
         ensures game { self.new.game ≡ self.old.game }
         ensures plain { R.meant rules.new.plain ≡ R.meant rules.old.plain }
         ensures late { R.meant rules.new.late ≡ R.meant rules.old.late }
-        ensures table { IfOk result (λ location. IsOnTable (B.table_for self.old.game.names.layers) location) }
+        ensures basis { IfOk result (λ location. IsOnBasis (basis_of B.table_for self.old.game.names) location) }
         ensures came { IfOk result (λ location. after self.old.text
             (enter (script_for B.table_for self.old.game (R.meant rules.old.plain) (R.meant rules.old.late)) entry)
             ≡ came (location_shown [] location) self.new.text) }
@@ -186,7 +186,7 @@ impl<'g, B: Board> Stage<'g, B> {
         ensures game { self.new.game ≡ self.old.game }
         ensures plain { R.meant rules.new.plain ≡ R.meant rules.old.plain }
         ensures late { R.meant rules.new.late ≡ R.meant rules.old.late }
-        ensures table { IfOk result (λ location. IsOnTable (B.table_for self.old.game.names.layers) location) }
+        ensures basis { IfOk result (λ location. IsOnBasis (basis_of B.table_for self.old.game.names) location) }
         ensures came { IfOk result (λ location. (history : List Grid) → after self.old.text
             (level_done (script_for B.table_for self.old.game (R.meant rules.old.plain) (R.meant rules.old.late))
             (play_of history level.now))
@@ -212,20 +212,27 @@ impl<'g, B: Board> Stage<'g, B> {
     pub fn restart<R: Rules<B>>(
         &mut self,
         rules: &mut TurnRules<B, R>,
-        level: &PlayedLevel<B>,
+        level: &mut PlayedLevel<B>,
         message: Option<Text>,
     ) -> Result<Location<PlayedLevel<B>>, Memory>
-        requires { level.now.table ≡ B.table_for self.old.game.names.layers }
+        requires { level.old.basis ≡ basis_of B.table_for self.old.game.names }
+        ensures level { level.new ≡ level.old }
         ensures game { self.new.game ≡ self.old.game }
         ensures plain { R.meant rules.new.plain ≡ R.meant rules.old.plain }
         ensures late { R.meant rules.new.late ≡ R.meant rules.old.late }
-        ensures table { IfOk result (λ location. IsOnTable (B.table_for self.old.game.names.layers) location) }
+        ensures basis { IfOk result (λ location. IsOnBasis (basis_of B.table_for self.old.game.names) location) }
         ensures came { IfOk result (λ location. (history : List Grid) → after self.old.text
             (restarted (script_for B.table_for self.old.game (R.meant rules.old.plain) (R.meant rules.old.late))
-            (play_of history level.now) message)
+            (play_of history level.old) message)
             ≡ came (location_shown history location) self.new.text) }
     {
-        let mut again = match level.restarted(self.alloc, &mut self.spares) {
+        let again = level.restarted(
+            self.alloc,
+            &mut self.spares,
+            &mut self.picture,
+            self.game.names(),
+        );
+        let mut again = match again {
             Ok(again) => again,
             Err(Memory) => {
                 drop(message);

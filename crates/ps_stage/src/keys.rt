@@ -8,7 +8,7 @@ ghost use Rattle.ps_model.specs.session.Sessions.{Play, Step, after};
 ghost use Rattle.ps_model.specs.session.KeySteps.{key_pending, key_told, key_turns, all_key_turns};
 ghost use Rattle.ps_turn.specs.States.{done_shown};
 ghost use Rattle.ps_stage.specs.KeysShown.{key_end_step, key_outcome_shown, key_shown, key_told_step};
-ghost use Rattle.ps_stage.specs.Standings.{script_for, script_of, play_of};
+ghost use Rattle.ps_stage.specs.Standings.{basis_of, play_of, script_for, script_of};
 ghost use Rattle.ps_stage.specs.StepsShown.{pending_shown};
 
 use crate::levels::{Counting, PlayedLevel};
@@ -61,8 +61,9 @@ impl<'g, B: Board> Stage<'g, B> {
         done: &DoneTurn,
         left: u32,
     ) -> Result<KeyTold, Memory>
+        requires { level.old.basis ≡ basis_of B.table_for self.old.game.names }
         ensures game { self.new.game ≡ self.old.game }
-        ensures table { level.new.table ≡ level.old.table }
+        ensures basis { level.new.basis ≡ level.old.basis }
         ensures told { IfOk result (λ told. (history : List Grid) (plain late : List Section) (turns : Play → Step)
             → after self.old.text (key_shown (script_of self.old.game plain late) (play_of history level.old)
             (done_shown done.now level.old.board) left turns)
@@ -80,8 +81,9 @@ impl<'g, B: Board> Stage<'g, B> {
         turned: Turned,
         left: u32,
     ) -> Result<KeyTold, Memory>
+        requires { level.old.basis ≡ basis_of B.table_for self.old.game.names }
         ensures game { self.new.game ≡ self.old.game }
-        ensures table { level.new.table ≡ level.old.table }
+        ensures basis { level.new.basis ≡ level.old.basis }
         ensures told { IfOk result (λ told. (history : List Grid) (plain late : List Section) (turns : Play → Step)
             → after self.old.text
             (key_outcome_shown (script_of self.old.game plain late) (play_of history level.old) turned left turns)
@@ -114,11 +116,11 @@ impl<'g, B: Board> Stage<'g, B> {
         level: &mut PlayedLevel<B>,
         left: u32,
     ) -> Result<KeyTold, Memory>
-        requires { level.old.table ≡ B.table_for self.old.game.names.layers }
+        requires { level.old.basis ≡ basis_of B.table_for self.old.game.names }
         ensures game { self.new.game ≡ self.old.game }
         ensures plain { R.meant rules.new.plain ≡ R.meant rules.old.plain }
         ensures late { R.meant rules.new.late ≡ R.meant rules.old.late }
-        ensures table { level.new.table ≡ level.old.table }
+        ensures basis { level.new.basis ≡ level.old.basis }
         ensures told { IfOk result (λ told. (history : List Grid) → after self.old.text
             (key_turns (script_for B.table_for self.old.game (R.meant rules.old.plain) (R.meant rules.old.late))
             (suc left) (play_of history level.old))
@@ -138,11 +140,11 @@ impl<'g, B: Board> Stage<'g, B> {
         level: &mut PlayedLevel<B>,
         most: u32,
     ) -> Result<KeyEnd, Memory>
-        requires { level.old.table ≡ B.table_for self.old.game.names.layers }
+        requires { level.old.basis ≡ basis_of B.table_for self.old.game.names }
         ensures game { self.new.game ≡ self.old.game }
         ensures plain { R.meant rules.new.plain ≡ R.meant rules.old.plain }
         ensures late { R.meant rules.new.late ≡ R.meant rules.old.late }
-        ensures table { level.new.table ≡ level.old.table }
+        ensures basis { level.new.basis ≡ level.old.basis }
         ensures came { IfOk result (λ end. (history : List Grid) → after self.old.text
             (key_turns (script_for B.table_for self.old.game (R.meant rules.old.plain) (R.meant rules.old.late)) most
             (play_of history level.old))
@@ -166,11 +168,11 @@ impl<'g, B: Board> Stage<'g, B> {
         rules: &mut TurnRules<B, R>,
         level: &mut PlayedLevel<B>,
     ) -> Result<KeyEnd, Memory>
-        requires { level.old.table ≡ B.table_for self.old.game.names.layers }
+        requires { level.old.basis ≡ basis_of B.table_for self.old.game.names }
         ensures game { self.new.game ≡ self.old.game }
         ensures plain { R.meant rules.new.plain ≡ R.meant rules.old.plain }
         ensures late { R.meant rules.new.late ≡ R.meant rules.old.late }
-        ensures table { level.new.table ≡ level.old.table }
+        ensures basis { level.new.basis ≡ level.old.basis }
         ensures came { IfOk result (λ end. (history : List Grid) → after self.old.text
             (all_key_turns (script_for B.table_for self.old.game (R.meant rules.old.plain) (R.meant rules.old.late))
             (play_of history level.old))

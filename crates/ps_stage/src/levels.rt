@@ -1,14 +1,16 @@
 //! A level that is played.
 
-ghost use Rattle.std.specs.Prelude.{◌≡◌, IfOk, IfSome, OnErr, OnOk, Some, false, if◌then◌else◌};
+ghost use Rattle.std.specs.Prelude.{◌≡◌, ◌++◌, IfOk, IfSome, OnErr, OnOk, Some, false, if◌then◌else◌};
 ghost use Rattle.ps_model.specs.board.Grid.{Grid};
 ghost use Rattle.ps_model.specs.board.Levels.{loaded};
 ghost use Rattle.ps_model.specs.board.Turns.{turn};
+ghost use Rattle.ps_model.specs.session.Rooms.{frame_in};
 ghost use Rattle.ps_model.specs.session.StartSteps.{first_room};
+ghost use Rattle.ps_screen.specs.FrameTexts.{IsFrameOf};
 ghost use Rattle.ps_turn.specs.States.{HaveSameSides, outcome_shown, is_done};
 ghost use Rattle.ps_stage.specs.KeysShown.{IsNext, tried_outcome};
 ghost use Rattle.ps_stage.specs.Playable.{IsPlayable, LevelFits};
-ghost use Rattle.ps_stage.specs.Standings.{script_for, seen_level, with_done};
+ghost use Rattle.ps_stage.specs.Standings.{basis_of, script_for, seen_level, with_done};
 ghost use Rattle.ps_stage.specs.StepsShown.{board_taken, counts, taken};
 
 use crate::entries::EntryNumber;
@@ -17,24 +19,30 @@ use crate::loading::load;
 use crate::spares::SpareBoards;
 use ps_board::Board;
 use ps_levels::Level;
-use ps_model::{Input, Memory, Room};
+use ps_model::{Input, Memory, Room, RoomSize};
 use ps_names::Names;
+use ps_screen::{FrameText, OutputText, Picture};
 use ps_text::Text;
 use ps_turn::{DoneTurn, Rules, TurnRules, Turned, turn};
 use std::alloc::Global;
 use std::marker::Model;
 use std::mem;
 use std::rc::Rc;
+use std::snapshot::Snapshot;
 
 /// A level that is played: its entry, its board, the board that a restart goes back to, which the levels behind its
 /// turns share until a checkpoint, and the room that the last frame showed. Turns work on a board of their own, which
-/// shows the same between them, if there is one.
+/// shows the same between them, if there is one. The text of its board's frame goes with it, if it was drawn: behind a
+/// turn what the turn has changed is drawn anew.
 pub struct PlayedLevel<B: Board> {
     entry: EntryNumber,
     board: Box<B>,
     spare: Option<Box<B>>,
     restart_board: Rc<Box<B>, Global>,
     room: Room,
+    frame: Option<FrameText>,
+    /// The names that the frame is drawn by.
+    names: Snapshot<Names>,
 }
 
 /// Written out, so that who owns a level calls this on each way out, instead of dropping its boards there.
@@ -46,19 +54,22 @@ impl<B: Board> Drop for PlayedLevel<B> {
             spare: _spare,
             restart_board: _restart_board,
             room: _,
+            frame: _frame,
+            names: _names,
         } = self;
     }
 }
 
 impl<B: Board> Model for PlayedLevel<B> {
     ghost use Rattle.std.specs.Prelude.{◌≡◌, IfSome};
+    ghost use Rattle.ps_screen.specs.FrameTexts.{IsFrameOf};
     ghost use Rattle.ps_stage.specs.Standings.{Standing};
 
     ghost Value = { Standing };
 
     ghost view = { λ l. record {
       entry = l.entry;
-      table = B.table l.board.value;
+      basis = record { table = B.table l.board.value; names = l.names.value };
       board = B.grid l.board.value;
       restart_board = B.grid l.restart_board.value.value;
       room = l.room;
@@ -66,7 +77,8 @@ impl<B: Board> Model for PlayedLevel<B> {
 
     ghost invariant = { λ l. IfSome l.spare (λ spare. B.grid spare.value ≡ B.grid l.board.value)
         × (IfSome l.spare (λ spare. B.table spare.value ≡ B.table l.board.value)
-        × (B.table l.restart_board.value.value ≡ B.table l.board.value)) };
+        × ((B.table l.restart_board.value.value ≡ B.table l.board.value)
+        × IsFrameOf l.names.value (B.grid l.board.value) l.frame)) };
 }
 
 /// Which done turns count. One that doesn't is as if not run.
@@ -132,28 +144,32 @@ fn run_turn<B: Board, R: Rules<B>>(
 }
 
 /// A turn of a game on a board, and on a second one that is equal to it before and behind the turn. The board has what
-/// a turn that is done and counts came to; else it is as before.
+/// a turn that is done and counts came to, and the text of its frame goes with it; else it is as before.
 ///
 /// # Errors
 ///
-/// `Memory`, and the board is as before.
+/// `Memory`, and the board is as before, or as the turn left it.
 fn counted_turn<B: Board, R: Rules<B>>(
     game: &SessionGame<'_>,
     rules: &mut TurnRules<B, R>,
     input: Option<Input>,
     counting: Counting,
+    picture: &mut Picture<'_>,
     board: &mut Box<B>,
     spare: &mut Box<B>,
+    frame: &mut Option<FrameText>,
 ) -> Result<Turned, Memory>
     requires equal { B.grid spare.old.value ≡ B.grid board.old.value }
     requires table { B.table spare.old.value ≡ B.table board.old.value }
     requires own { B.table board.old.value ≡ B.table_for game.now.names.layers }
+    requires frame { IsFrameOf picture.old (B.grid board.old.value) frame.old }
     ensures turned { IfOk result (λ turned. (g : Grid)
         × (outcome_shown turned g
         ≡ turn (script_for B.table_for game.now (R.meant rules.old.plain) (R.meant rules.old.late)) input
         (B.grid board.old.value))
         × (B.grid board.new.value ≡ board_taken counting turned (B.grid board.old.value) g)) }
-    ensures kept { OnErr result (B.grid board.new.value ≡ B.grid board.old.value) }
+    ensures picture { picture.new ≡ picture.old }
+    ensures frame { IsFrameOf picture.old (B.grid board.new.value) frame.new }
     ensures equal { B.grid spare.new.value ≡ B.grid board.new.value }
     ensures table { B.table board.new.value ≡ B.table board.old.value }
     ensures spare_table { B.table spare.new.value ≡ B.table board.old.value }
@@ -169,7 +185,10 @@ fn counted_turn<B: Board, R: Rules<B>>(
         return Ok(turned);
     }
     mem::swap(board, spare);
+    let rows = spare.rows_differing(&**board);
+    let drawn = picture.redraw(frame, &**spare, &**board, rows);
     board.copy_into(&mut **spare);
+    drawn?;
     Ok(turned)
 }
 
@@ -222,7 +241,8 @@ fn boards_beside<B: Board>(
     Ok((spare, restart_board))
 }
 
-/// A level of these boards: the first is copied, and the second shared. The last frame showed that room.
+/// A level of these boards: the first is copied, and the second shared. The last frame showed that room; the text of the
+/// board's frame is this one, drawn by these names, if it was.
 ///
 /// # Errors
 ///
@@ -234,10 +254,14 @@ fn level_of<B: Board>(
     board: &B,
     restart_board: &Rc<Box<B>, Global>,
     room: Room,
+    frame: Option<FrameText>,
+    names: &Names,
 ) -> Result<PlayedLevel<B>, Memory>
-    requires { B.table restart_board.now.value.value ≡ B.table board.now }
+    requires table { B.table restart_board.now.value.value ≡ B.table board.now }
+    requires frame { IsFrameOf names.now (B.grid board.now) frame }
     ensures entry { IfOk result (λ level. level.entry ≡ entry) }
-    ensures table { IfOk result (λ level. level.table ≡ B.table board.now) }
+    ensures table { IfOk result (λ level. level.basis.table ≡ B.table board.now) }
+    ensures names { IfOk result (λ level. level.basis.names ≡ names.now) }
     ensures board { IfOk result (λ level. level.board ≡ B.grid board.now) }
     ensures restart_board { IfOk result (λ level. level.restart_board ≡ B.grid restart_board.now.value.value) }
     ensures room { IfOk result (λ level. level.room ≡ room) }
@@ -250,8 +274,11 @@ fn level_of<B: Board>(
             spare: Some(spare),
             restart_board,
             room,
+            frame,
+            names: Snapshot::of(names),
         }),
         Err(Memory) => {
+            drop(frame);
             spares.keep(copy);
             Err(Memory)
         }
@@ -283,6 +310,30 @@ fn restart_board_behind<B: Board>(
     let copy = spares.copy_of(alloc, board)?;
     let next = Rc::new(alloc, copy)?;
     Ok(next)
+}
+
+/// The text of the frame of another board, made of that of a board, if there is one and the boards are alike. In which
+/// rows they differ is looked for.
+///
+/// # Errors
+///
+/// `Memory`.
+fn frame_on<B: Board>(
+    picture: &mut Picture<'_>,
+    frame: Option<FrameText>,
+    board: &B,
+    other: &B,
+) -> Result<Option<FrameText>, Memory>
+    requires { IsFrameOf picture.old (B.grid board.now) frame }
+    ensures picture { picture.new ≡ picture.old }
+    ensures frame { IfOk result (λ frame. IsFrameOf picture.old (B.grid other.now) frame) }
+{
+    if !board.is_alike(other) {
+        return Ok(None);
+    }
+    let mut frame = frame;
+    picture.redraw(&mut frame, board, other, board.rows_differing(other))?;
+    Ok(frame)
 }
 
 /// What the level behind a done turn needs beside the board that the turn came to: a board that shows the same, for the
@@ -326,7 +377,7 @@ impl<B: Board> PlayedLevel<B> {
         requires playable { IsPlayable names.now level.now }
         requires fits { LevelFits B.Words.limit level.now }
         ensures entry { IfOk result (λ played. played.entry ≡ entry) }
-        ensures table { IfOk result (λ played. played.table ≡ B.table_for names.now.layers) }
+        ensures basis { IfOk result (λ played. played.basis ≡ basis_of B.table_for names.now) }
         ensures board { IfOk result (λ played. played.board ≡ loaded names.now level.now) }
         ensures restart_board { IfOk result (λ played. played.restart_board ≡ loaded names.now level.now) }
         ensures room { IfOk result (λ played. played.room ≡ first_room) }
@@ -342,21 +393,27 @@ impl<B: Board> PlayedLevel<B> {
             spare: Some(spare),
             restart_board,
             room: Room { x: 0, y: 0 },
+            frame: None,
+            names: Snapshot::of(names),
         })
     }
 
-    /// The same level once more.
+    /// The same level once more, for the game of these names. It has the text of the frame, if it was drawn.
     ///
     /// # Errors
     ///
     /// `Memory`.
     pub(crate) fn try_copy(
-        &self,
+        &mut self,
         alloc: Global,
         spares: &mut SpareBoards<B>,
+        names: &Names,
     ) -> Result<PlayedLevel<B>, Memory>
-        ensures { IfOk result (λ copy. copy ≡ self.now) }
+        requires { self.old.basis.names ≡ names.now }
+        ensures level { self.new ≡ self.old }
+        ensures copy { IfOk result (λ copy. copy ≡ self.old) }
     {
+        let frame = self.frame.take();
         level_of(
             alloc,
             spares,
@@ -364,28 +421,38 @@ impl<B: Board> PlayedLevel<B> {
             &*self.board,
             &self.restart_board,
             self.room,
+            frame,
+            names,
         )
     }
 
-    /// The level with a board that the history had. The last frame showed that room.
+    /// The level with a board that the history had, for the game of these names. The last frame showed that room. The
+    /// text of the board's frame goes with it, if the level's own was drawn and the boards are alike.
     ///
     /// # Errors
     ///
     /// `Memory`.
     pub(crate) fn with_board(
-        &self,
+        &mut self,
         alloc: Global,
         spares: &mut SpareBoards<B>,
+        picture: &mut Picture<'_>,
+        names: &Names,
         other: &B,
         room: Room,
     ) -> Result<PlayedLevel<B>, Memory>
-        requires { B.table other.now ≡ self.now.table }
-        ensures entry { IfOk result (λ copy. copy.entry ≡ self.now.entry) }
-        ensures table { IfOk result (λ copy. copy.table ≡ self.now.table) }
+        requires table { B.table other.now ≡ self.old.basis.table }
+        requires names { self.old.basis.names ≡ names.now }
+        requires picture { picture.old ≡ names.now }
+        ensures level { self.new ≡ self.old }
+        ensures picture { picture.new ≡ picture.old }
+        ensures entry { IfOk result (λ copy. copy.entry ≡ self.old.entry) }
+        ensures basis { IfOk result (λ copy. copy.basis ≡ self.old.basis) }
         ensures board { IfOk result (λ copy. copy.board ≡ B.grid other.now) }
-        ensures restart_board { IfOk result (λ copy. copy.restart_board ≡ self.now.restart_board) }
+        ensures restart_board { IfOk result (λ copy. copy.restart_board ≡ self.old.restart_board) }
         ensures room { IfOk result (λ copy. copy.room ≡ room) }
     {
+        let frame = frame_on(picture, self.frame.take(), &*self.board, other)?;
         level_of(
             alloc,
             spares,
@@ -393,6 +460,8 @@ impl<B: Board> PlayedLevel<B> {
             other,
             &self.restart_board,
             room,
+            frame,
+            names,
         )
     }
 
@@ -402,17 +471,38 @@ impl<B: Board> PlayedLevel<B> {
     ///
     /// `Memory`.
     pub(crate) fn restarted(
-        &self,
+        &mut self,
         alloc: Global,
         spares: &mut SpareBoards<B>,
+        picture: &mut Picture<'_>,
+        names: &Names,
     ) -> Result<PlayedLevel<B>, Memory>
-        ensures entry { IfOk result (λ copy. copy.entry ≡ self.now.entry) }
-        ensures table { IfOk result (λ copy. copy.table ≡ self.now.table) }
-        ensures board { IfOk result (λ copy. copy.board ≡ self.now.restart_board) }
-        ensures restart_board { IfOk result (λ copy. copy.restart_board ≡ self.now.restart_board) }
-        ensures room { IfOk result (λ copy. copy.room ≡ self.now.room) }
+        requires names { self.old.basis.names ≡ names.now }
+        requires picture { picture.old ≡ names.now }
+        ensures level { self.new ≡ self.old }
+        ensures picture { picture.new ≡ picture.old }
+        ensures entry { IfOk result (λ copy. copy.entry ≡ self.old.entry) }
+        ensures basis { IfOk result (λ copy. copy.basis ≡ self.old.basis) }
+        ensures board { IfOk result (λ copy. copy.board ≡ self.old.restart_board) }
+        ensures restart_board { IfOk result (λ copy. copy.restart_board ≡ self.old.restart_board) }
+        ensures room { IfOk result (λ copy. copy.room ≡ self.old.room) }
     {
-        self.with_board(alloc, spares, &**self.restart_board, self.room)
+        let frame = frame_on(
+            picture,
+            self.frame.take(),
+            &*self.board,
+            &**self.restart_board,
+        )?;
+        level_of(
+            alloc,
+            spares,
+            self.entry.copied(),
+            &**self.restart_board,
+            &self.restart_board,
+            self.room,
+            frame,
+            names,
+        )
     }
 
     /// The place of its entry.
@@ -425,7 +515,7 @@ impl<B: Board> PlayedLevel<B> {
     /// Its board.
     pub fn board(&self) -> &B
         ensures grid { B.grid result.now ≡ self.now.board }
-        ensures table { B.table result.now ≡ self.now.table }
+        ensures table { B.table result.now ≡ self.now.basis.table }
     {
         &*self.board
     }
@@ -435,6 +525,28 @@ impl<B: Board> PlayedLevel<B> {
         ensures { result ≡ self.now.room }
     {
         self.room
+    }
+
+    /// Adds its board's frame to an output: of the room that it has, where there are rooms of that size, and else of
+    /// the whole board.
+    ///
+    /// # Errors
+    ///
+    /// `Memory`, and the output is as before.
+    pub(crate) fn show(
+        &mut self,
+        picture: &mut Picture<'_>,
+        size: Option<RoomSize>,
+        output: &mut OutputText,
+    ) -> Result<(), Memory>
+        requires { self.old.basis.names ≡ picture.old }
+        ensures level { self.new ≡ self.old }
+        ensures picture { picture.new ≡ picture.old }
+        ensures shown { OnOk result
+            (output.new ≡ output.old ++ frame_in size picture.old self.old.board self.old.room) }
+        ensures kept { OnErr result (output.new ≡ output.old) }
+    {
+        picture.show(&mut self.frame, &*self.board, size, self.room, output)
     }
 
     /// It has the room that the next frame of its board shows. No memory is taken.
@@ -452,6 +564,8 @@ impl<B: Board> PlayedLevel<B> {
             spare,
             restart_board: _restart_board,
             room: _,
+            frame: _frame,
+            names: _names,
         } = self;
         spares.keep_any(spare);
         spares.keep(board);
@@ -467,23 +581,35 @@ impl<B: Board> PlayedLevel<B> {
         &mut self,
         alloc: Global,
         spares: &mut SpareBoards<B>,
+        picture: &mut Picture<'_>,
         game: &SessionGame<'_>,
         rules: &mut TurnRules<B, R>,
         input: Option<Input>,
         counting: Counting,
     ) -> Result<Turned, Memory>
-        requires { self.old.table ≡ B.table_for game.now.names.layers }
+        requires basis { self.old.basis ≡ basis_of B.table_for game.now.names }
+        requires picture { picture.old ≡ game.now.names }
+        ensures picture { picture.new ≡ picture.old }
         ensures turned { IfOk result (λ turned. (g : Grid)
             × (outcome_shown turned g
             ≡ turn (script_for B.table_for game.now (R.meant rules.old.plain) (R.meant rules.old.late)) input
             self.old.board)
             × (self.new ≡ taken counting turned self.old g)) }
-        ensures table { self.new.table ≡ self.old.table }
+        ensures basis { self.new.basis ≡ self.old.basis }
         ensures plain { R.meant rules.new.plain ≡ R.meant rules.old.plain }
         ensures late { R.meant rules.new.late ≡ R.meant rules.old.late }
     {
         let mut spare = lent(alloc, spares, &*self.board, self.spare.take())?;
-        let turned = counted_turn(game, rules, input, counting, &mut self.board, &mut spare);
+        let turned = counted_turn(
+            game,
+            rules,
+            input,
+            counting,
+            picture,
+            &mut self.board,
+            &mut spare,
+            &mut self.frame,
+        );
         put_back(&mut self.spare, spare);
         let turned = turned?;
         self.keep_checkpoint(alloc, spares, counting, &turned)
@@ -500,7 +626,7 @@ impl<B: Board> PlayedLevel<B> {
         turned: &Turned,
     ) -> Result<(), Memory>
         ensures kept { OnOk result (self.new ≡ taken counting turned.now self.old self.old.board) }
-        ensures table { self.new.table ≡ self.old.table }
+        ensures basis { self.new.basis ≡ self.old.basis }
     {
         let Turned::Done(done) = turned else {
             return Ok(());
@@ -518,9 +644,42 @@ impl<B: Board> PlayedLevel<B> {
         Ok(())
     }
 
+    /// What the level behind a done turn needs beside the board that the turn came to: the text of that board's frame in
+    /// place of that of its own; a board that shows the same, for the next turn; and the one that a restart goes back
+    /// to.
+    ///
+    /// # Errors
+    ///
+    /// `Memory`.
+    fn behind(
+        &self,
+        alloc: Global,
+        spares: &mut SpareBoards<B>,
+        picture: &mut Picture<'_>,
+        board: &B,
+        frame: &mut Option<FrameText>,
+        done: &DoneTurn,
+    ) -> Result<(Box<B>, Rc<Box<B>, Global>), Memory>
+        requires sides { HaveSameSides (B.grid board.now) self.now.board }
+        requires table { B.table board.now ≡ self.now.basis.table }
+        requires frame { IsFrameOf picture.old self.now.board frame.old }
+        ensures picture { picture.new ≡ picture.old }
+        ensures frame { IsFrameOf picture.old (B.grid board.now) frame.new }
+        ensures spare { IfOk result (λ both. B.grid both.0.value ≡ B.grid board.now) }
+        ensures spare_table { IfOk result (λ both. B.table both.0.value ≡ B.table board.now) }
+        ensures grid { IfOk result (λ both. B.grid both.1.value.value
+            ≡ (if done.now.checkpoint then B.grid board.now else self.now.restart_board)) }
+        ensures table { IfOk result (λ both. B.table both.1.value.value ≡ B.table board.now) }
+    {
+        let rows = self.board.rows_differing(board);
+        picture.redraw(frame, &*self.board, board, rows)?;
+        boards_behind(alloc, spares, board, &self.restart_board, done)
+    }
+
     /// Tries a turn with an input. The level stays as it is; where the turn is done, the level behind it has the board
-    /// that the turn came to, and one copy of it is made. A turn that isn't done takes no memory for boards, unless the
-    /// level behind an earlier one was given away and none of the spare boards is alike, or its rules keep one.
+    /// that the turn came to, of which one copy is made, and the text of its frame, if it was drawn. A turn that isn't
+    /// done takes no memory for boards, unless the level behind an earlier one was given away and none of the spare
+    /// boards is alike, or its rules keep one.
     ///
     /// # Errors
     ///
@@ -529,11 +688,14 @@ impl<B: Board> PlayedLevel<B> {
         &mut self,
         alloc: Global,
         spares: &mut SpareBoards<B>,
+        picture: &mut Picture<'_>,
         game: &SessionGame<'_>,
         rules: &mut TurnRules<B, R>,
         input: Input,
     ) -> Result<Tried<PlayedLevel<B>>, Memory>
-        requires { self.old.table ≡ B.table_for game.now.names.layers }
+        requires basis { self.old.basis ≡ basis_of B.table_for game.now.names }
+        requires picture { picture.old ≡ game.now.names }
+        ensures picture { picture.new ≡ picture.old }
         ensures level { self.new ≡ self.old }
         ensures outcome { IfOk result (λ tried. tried_outcome tried
             ≡ turn (script_for B.table_for game.now (R.meant rules.old.plain) (R.meant rules.old.late)) (Some input)
@@ -558,7 +720,8 @@ impl<B: Board> PlayedLevel<B> {
                 return Err(Memory);
             }
         };
-        match boards_behind(alloc, spares, &*spare, &self.restart_board, &done) {
+        let mut frame = self.frame.take();
+        match self.behind(alloc, spares, picture, &*spare, &mut frame, &done) {
             Ok((copy, restart_board)) => {
                 let next = PlayedLevel {
                     entry: self.entry.copied(),
@@ -566,11 +729,14 @@ impl<B: Board> PlayedLevel<B> {
                     spare: Some(copy),
                     restart_board,
                     room: self.room,
+                    frame,
+                    names: Snapshot::of(game.names()),
                 };
                 Ok(Tried::Done(next, done))
             }
             Err(Memory) => {
                 drop(done);
+                drop(frame);
                 self.board.copy_into(&mut *spare);
                 put_back(&mut self.spare, spare);
                 Err(Memory)

@@ -25,7 +25,7 @@ pub struct Stage<'g, B: Board> {
     pub(crate) game: SessionGame<'g>,
     /// Which levels its boards are for.
     pub(crate) sides: BoardSides,
-    picture: Picture<'g, B>,
+    pub(crate) picture: Picture<'g>,
     pub(crate) spares: SpareBoards<B>,
     pub(crate) text: OutputText,
 }
@@ -149,18 +149,20 @@ impl<'g, B: Board> Stage<'g, B> {
         self.game.room_after(board, last)
     }
 
-    /// Adds a frame, of this room where the game has rooms.
+    /// Adds a frame of a level's board, of the room that it has where the game has rooms.
     ///
     /// # Errors
     ///
     /// `Memory`.
-    pub fn show(&mut self, board: &B, room: Room) -> Result<(), Memory>
+    pub fn show(&mut self, level: &mut PlayedLevel<B>) -> Result<(), Memory>
+        requires { level.old.basis.names ≡ self.old.game.names }
         ensures game { self.new.game ≡ self.old.game }
+        ensures level { level.new ≡ level.old }
         ensures shown { OnOk result (self.new.text ≡ self.old.text
-            ++ frame_in self.old.game.options.flickscreen self.old.game.names (B.grid board.now) room) }
+            ++ frame_in self.old.game.options.flickscreen self.old.game.names level.old.board level.old.room) }
     {
         let size = self.game.options().flickscreen;
-        self.picture.show_in(board, size, room, &mut self.text)
+        level.show(&mut self.picture, size, &mut self.text)
     }
 
     /// Keeps the boards of a level that nobody plays any more, to be used again. No memory is taken.
@@ -177,19 +179,28 @@ impl<'g, B: Board> Stage<'g, B> {
     /// `Memory`.
     pub fn level_at(
         &mut self,
-        level: &PlayedLevel<B>,
+        level: &mut PlayedLevel<B>,
         board: &B,
         room: Room,
     ) -> Result<PlayedLevel<B>, Memory>
-        requires { B.table board.now ≡ level.now.table }
+        requires table { B.table board.now ≡ level.old.basis.table }
+        requires names { level.old.basis.names ≡ self.old.game.names }
         ensures stage { self.new ≡ self.old }
-        ensures entry { IfOk result (λ back. back.entry ≡ level.now.entry) }
-        ensures table { IfOk result (λ back. back.table ≡ level.now.table) }
+        ensures level { level.new ≡ level.old }
+        ensures entry { IfOk result (λ back. back.entry ≡ level.old.entry) }
+        ensures basis { IfOk result (λ back. back.basis ≡ level.old.basis) }
         ensures board { IfOk result (λ back. back.board ≡ B.grid board.now) }
-        ensures restart_board { IfOk result (λ back. back.restart_board ≡ level.now.restart_board) }
+        ensures restart_board { IfOk result (λ back. back.restart_board ≡ level.old.restart_board) }
         ensures room { IfOk result (λ back. back.room ≡ room) }
     {
-        level.with_board(self.alloc, &mut self.spares, board, room)
+        level.with_board(
+            self.alloc,
+            &mut self.spares,
+            &mut self.picture,
+            self.game.names(),
+            board,
+            room,
+        )
     }
 
     /// Adds the line of a message.

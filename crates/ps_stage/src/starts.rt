@@ -9,7 +9,7 @@ ghost use Rattle.ps_model.specs.board.Turns.{turn};
 ghost use Rattle.ps_model.specs.session.Sessions.{Play, Step, after, shown};
 ghost use Rattle.ps_model.specs.session.StartSteps.{start_pending, start_told, start_turns, all_start_turns};
 ghost use Rattle.ps_model.specs.session.StartSteps.{started, start_step};
-ghost use Rattle.ps_stage.specs.Standings.{script_for, script_of, seen_level, play_of};
+ghost use Rattle.ps_stage.specs.Standings.{basis_of, play_of, script_for, script_of, seen_level};
 ghost use Rattle.ps_stage.specs.StepsShown.{told_step, start_shown, start_outcome_shown, message_of, is_again};
 ghost use Rattle.ps_stage.specs.StepsShown.{came, stands, pending_shown, taken};
 ghost use Rattle.ps_turn.specs.States.{outcome_shown};
@@ -97,13 +97,14 @@ impl<'g, B: Board> Stage<'g, B> {
 
     /// Shows a level with the room that is seen there.
     pub(crate) fn show_level(&mut self, level: &mut PlayedLevel<B>) -> Result<(), Memory>
+        requires { level.old.basis ≡ basis_of B.table_for self.old.game.names }
         ensures game { self.new.game ≡ self.old.game }
         ensures level { level.new ≡ seen_level self.old.game level.old }
         ensures shown { OnOk result ((history : List Grid) (plain late : List Section) → self.new.text
             ≡ self.old.text ++ shown (script_of self.old.game plain late) (play_of history level.new)) }
     {
         level.see(&self.game);
-        self.show(level.board(), level.room())
+        self.show(level)
     }
 
     /// Shows the board behind a done turn of a start, if the turn changed it, and tells what comes behind the frame.
@@ -113,8 +114,9 @@ impl<'g, B: Board> Stage<'g, B> {
         done: &DoneTurn,
         left: u32,
     ) -> Result<StartTold, Memory>
+        requires { level.old.basis ≡ basis_of B.table_for self.old.game.names }
         ensures game { self.new.game ≡ self.old.game }
-        ensures table { level.new.table ≡ level.old.table }
+        ensures basis { level.new.basis ≡ level.old.basis }
         ensures told { IfOk result (λ told. (history : List Grid) (plain late : List Section) (turns : Play → Step)
             → after self.old.text
             (start_shown (script_of self.old.game plain late) (play_of history level.old) done.now left turns)
@@ -134,11 +136,11 @@ impl<'g, B: Board> Stage<'g, B> {
         level: &mut PlayedLevel<B>,
         counting: Counting,
     ) -> Result<Turned, Memory>
-        requires { level.old.table ≡ B.table_for self.old.game.names.layers }
+        requires { level.old.basis ≡ basis_of B.table_for self.old.game.names }
         ensures stage { self.new ≡ self.old }
         ensures plain { R.meant rules.new.plain ≡ R.meant rules.old.plain }
         ensures late { R.meant rules.new.late ≡ R.meant rules.old.late }
-        ensures table { level.new.table ≡ level.old.table }
+        ensures basis { level.new.basis ≡ level.old.basis }
         ensures turned { IfOk result (λ turned. (g : Grid)
             × (outcome_shown turned g
             ≡ turn (script_for B.table_for self.old.game (R.meant rules.old.plain) (R.meant rules.old.late)) None
@@ -148,6 +150,7 @@ impl<'g, B: Board> Stage<'g, B> {
         level.take_turn(
             self.alloc,
             &mut self.spares,
+            &mut self.picture,
             &self.game,
             rules,
             None,
@@ -162,8 +165,9 @@ impl<'g, B: Board> Stage<'g, B> {
         turned: &Turned,
         left: u32,
     ) -> Result<StartTold, Memory>
+        requires { level.old.basis ≡ basis_of B.table_for self.old.game.names }
         ensures game { self.new.game ≡ self.old.game }
-        ensures table { level.new.table ≡ level.old.table }
+        ensures basis { level.new.basis ≡ level.old.basis }
         ensures told { IfOk result (λ told. (history : List Grid) (plain late : List Section) (turns : Play → Step)
             → after self.old.text
             (start_outcome_shown (script_of self.old.game plain late) (play_of history level.old) turned.now left turns)
@@ -182,11 +186,11 @@ impl<'g, B: Board> Stage<'g, B> {
         level: &mut PlayedLevel<B>,
         left: u32,
     ) -> Result<StartTold, Memory>
-        requires { level.old.table ≡ B.table_for self.old.game.names.layers }
+        requires { level.old.basis ≡ basis_of B.table_for self.old.game.names }
         ensures game { self.new.game ≡ self.old.game }
         ensures plain { R.meant rules.new.plain ≡ R.meant rules.old.plain }
         ensures late { R.meant rules.new.late ≡ R.meant rules.old.late }
-        ensures table { level.new.table ≡ level.old.table }
+        ensures basis { level.new.basis ≡ level.old.basis }
         ensures told { IfOk result (λ told. (history : List Grid)
             → after self.old.text (start_turns
             (script_for B.table_for self.old.game (R.meant rules.old.plain) (R.meant rules.old.late))
@@ -207,11 +211,11 @@ impl<'g, B: Board> Stage<'g, B> {
         level: &mut PlayedLevel<B>,
         most: u32,
     ) -> Result<Option<Pending>, Memory>
-        requires { level.old.table ≡ B.table_for self.old.game.names.layers }
+        requires { level.old.basis ≡ basis_of B.table_for self.old.game.names }
         ensures game { self.new.game ≡ self.old.game }
         ensures plain { R.meant rules.new.plain ≡ R.meant rules.old.plain }
         ensures late { R.meant rules.new.late ≡ R.meant rules.old.late }
-        ensures table { level.new.table ≡ level.old.table }
+        ensures basis { level.new.basis ≡ level.old.basis }
         ensures came { IfOk result (λ pending. (history : List Grid)
             → after self.old.text (start_turns
             (script_for B.table_for self.old.game (R.meant rules.old.plain) (R.meant rules.old.late)) most
@@ -235,11 +239,11 @@ impl<'g, B: Board> Stage<'g, B> {
         rules: &mut TurnRules<B, R>,
         level: &mut PlayedLevel<B>,
     ) -> Result<Option<Pending>, Memory>
-        requires { level.old.table ≡ B.table_for self.old.game.names.layers }
+        requires { level.old.basis ≡ basis_of B.table_for self.old.game.names }
         ensures game { self.new.game ≡ self.old.game }
         ensures plain { R.meant rules.new.plain ≡ R.meant rules.old.plain }
         ensures late { R.meant rules.new.late ≡ R.meant rules.old.late }
-        ensures table { level.new.table ≡ level.old.table }
+        ensures basis { level.new.basis ≡ level.old.basis }
         ensures came { IfOk result (λ pending. (history : List Grid)
             → after self.old.text (all_start_turns
             (script_for B.table_for self.old.game (R.meant rules.old.plain) (R.meant rules.old.late))
@@ -258,11 +262,11 @@ impl<'g, B: Board> Stage<'g, B> {
         message: &Option<Text>,
         again: bool,
     ) -> Result<Option<Pending>, Memory>
-        requires { level.old.table ≡ B.table_for self.old.game.names.layers }
+        requires { level.old.basis ≡ basis_of B.table_for self.old.game.names }
         ensures game { self.new.game ≡ self.old.game }
         ensures plain { R.meant rules.new.plain ≡ R.meant rules.old.plain }
         ensures late { R.meant rules.new.late ≡ R.meant rules.old.late }
-        ensures table { level.new.table ≡ level.old.table }
+        ensures basis { level.new.basis ≡ level.old.basis }
         ensures came { IfOk result (λ pending. (history : List Grid)
             → after self.old.text (started
             (script_for B.table_for self.old.game (R.meant rules.old.plain) (R.meant rules.old.late))
@@ -284,11 +288,11 @@ impl<'g, B: Board> Stage<'g, B> {
         level: &mut PlayedLevel<B>,
         message: &Option<Text>,
     ) -> Result<Option<Pending>, Memory>
-        requires { level.old.table ≡ B.table_for self.old.game.names.layers }
+        requires { level.old.basis ≡ basis_of B.table_for self.old.game.names }
         ensures game { self.new.game ≡ self.old.game }
         ensures plain { R.meant rules.new.plain ≡ R.meant rules.old.plain }
         ensures late { R.meant rules.new.late ≡ R.meant rules.old.late }
-        ensures table { level.new.table ≡ level.old.table }
+        ensures basis { level.new.basis ≡ level.old.basis }
         ensures came { IfOk result (λ pending. (history : List Grid)
             → after self.old.text (start_step
             (script_for B.table_for self.old.game (R.meant rules.old.plain) (R.meant rules.old.late))
@@ -312,11 +316,11 @@ impl<'g, B: Board> Stage<'g, B> {
         level: &mut PlayedLevel<B>,
         message: Option<Text>,
     ) -> Result<Option<Pending>, Memory>
-        requires { level.old.table ≡ B.table_for self.old.game.names.layers }
+        requires { level.old.basis ≡ basis_of B.table_for self.old.game.names }
         ensures game { self.new.game ≡ self.old.game }
         ensures plain { R.meant rules.new.plain ≡ R.meant rules.old.plain }
         ensures late { R.meant rules.new.late ≡ R.meant rules.old.late }
-        ensures table { level.new.table ≡ level.old.table }
+        ensures basis { level.new.basis ≡ level.old.basis }
         ensures came { IfOk result (λ pending. (history : List Grid)
             → after self.old.text (start_step
             (script_for B.table_for self.old.game (R.meant rules.old.plain) (R.meant rules.old.late))

@@ -6,8 +6,8 @@ use Rattle.ps_session.proofs.HistoryBoards.{before_on_table, grids-before}
 use Rattle.ps_session.proofs.commit.commit.Goals as goal
 
 pub returns-in-Stands-clause-location : goal.returns-in-Stands-clause-location
-returns-in-Stands-clause-location g c = λ table here comes.
-    c.stood.ensures.table table (rw c.replace-before.ensures.value here)
+returns-in-Stands-clause-location g c = λ basis here comes.
+    c.stood.ensures.basis basis (rw c.replace-before.ensures.value here)
 
 pub returns-in-Undoes-clause-shown : goal.returns-in-Undoes-clause-shown
 returns-in-Undoes-clause-shown g c =
@@ -16,9 +16,9 @@ returns-in-Undoes-clause-shown g c =
     (grids-before (g.H.History.boards c.args.history.now)))
 
 pub returns-in-Undoes-clause-boards : goal.returns-in-Undoes-clause-boards
-returns-in-Undoes-clause-boards g c = λ table boards here.
-    rw c.go_back.ensures (before_on_table table (g.H.History.boards c.args.history.now) boards)
+returns-in-Undoes-clause-boards g c = λ basis boards here.
+    rw c.go_back.ensures (before_on_table basis.table (g.H.History.boards c.args.history.now) boards)
 
 pub returns-in-Goes-clause-boards : goal.returns-in-Goes-clause-boards
-returns-in-Goes-clause-boards g c = λ table boards here.
-    c.leave.ensures.boards table boards (rw c.replace-before-in-Goes.ensures.value here)
+returns-in-Goes-clause-boards g c = λ basis boards here.
+    c.leave.ensures.boards basis boards (rw c.replace-before-in-Goes.ensures.value here)

@@ -26,7 +26,7 @@ returns-then-is_ignored_in_level g c =
           (g.R.Rules.meant c.args.rules.now.late)) (play_of (grids_of (g.H.History.boards c.args.history.now))
           c.args.level.now) c.args.key ignored;
       stopped = tt;
-      table = tt;
+      basis = tt;
       ignored = λ e. refl;
     }
 
@@ -47,7 +47,7 @@ returns-in_ok-next-in-Move g c =
       came = moved_by script play c.in-Move.input c.args.key c.in-Move.is heeded
           ∙ c.in_ok-next-in-Move.ensures.came grids;
       stopped = tt;
-      table = c.in_ok-next-in-Move.ensures.table;
+      basis = c.in_ok-next-in-Move.ensures.basis;
       ignored = λ e. absurd (true≢false (sym e ∙ heeded));
     }
 
@@ -64,11 +64,11 @@ returns-in_ok-next-in-Undo g c =
       game = c.in_ok-next-in-Undo.ensures.game;
       plain = refl;
       late = refl;
-      same = refl;
+      same = c.in_ok-next-in-Undo.ensures.same;
       came = undone_by script play c.args.key c.in-Undo.is heeded
           ∙ c.in_ok-next-in-Undo.ensures.came script.plain script.late;
       stopped = tt;
-      table = c.in_ok-next-in-Undo.ensures.table;
+      basis = c.in_ok-next-in-Undo.ensures.basis;
       ignored = λ e. absurd (true≢false (sym e ∙ heeded));
     }
 
@@ -85,10 +85,10 @@ returns-in_ok-next-in-Restart g c =
       game = c.in_ok-next-in-Restart.ensures.game;
       plain = c.in_ok-next-in-Restart.ensures.plain;
       late = c.in_ok-next-in-Restart.ensures.late;
-      same = refl;
+      same = c.in_ok-next-in-Restart.ensures.same;
       came = restarted_by script play c.args.key c.in-Restart.is heeded ∙ c.in_ok-next-in-Restart.ensures.came grids;
       stopped = tt;
-      table = c.in_ok-next-in-Restart.ensures.table;
+      basis = c.in_ok-next-in-Restart.ensures.basis;
       ignored = λ e. absurd (true≢false (sym e ∙ heeded));
     }
 
@@ -109,7 +109,7 @@ returns-in_ok-next-in-Quit g c =
       came = ap (key_in_level script play) c.in-Quit.is
           ∙ c.in_ok-next-in-Quit.ensures.came grids (Playing c.args.level.now);
       stopped = tt;
-      table = c.in_ok-next-in-Quit.ensures.table _;
+      basis = c.in_ok-next-in-Quit.ensures.basis _;
       ignored = λ e. absurd (true≢false (sym e ∙ heeded));
     }
 

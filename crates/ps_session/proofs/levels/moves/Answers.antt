@@ -1,4 +1,4 @@
 use Rattle.ps_session.proofs.levels.moves.Goals as goal
 
-pub returns-clause-table : goal.returns-clause-table
-returns-clause-table g c = c.next_of.ensures.table _ c.in_ok-change.ensures.table
+pub returns-clause-basis : goal.returns-clause-basis
+returns-clause-basis g c = c.next_of.ensures.basis _ c.in_ok-change.ensures.basis

@@ -21,12 +21,12 @@ returns-then-is_ignored_at_message g c =
           (g.R.Rules.meant c.args.rules.now.plain) (g.R.Rules.meant c.args.rules.now.late)) c.args.entry.now c.args.key
           ignored;
       stopped = tt;
-      table = tt;
+      basis = tt;
       ignored = λ e. refl;
     }
 
-pub returns-in-Quit-clause-table : goal.returns-in-Quit-clause-table
-returns-in-Quit-clause-table g c = c.in_ok-next.ensures.table _
+pub returns-in-Quit-clause-basis : goal.returns-in-Quit-clause-basis
+returns-in-Quit-clause-basis g c = c.in_ok-next.ensures.basis _
 
 pub returns : goal.returns
 returns g c =
@@ -43,6 +43,6 @@ returns g c =
           ∙ ap (λ (text : List ℕ). after text (enter script c.next.result)) (sym c.requires.empty)
           ∙ c.in_ok-location.ensures.came;
       stopped = tt;
-      table = c.in_ok-location.ensures.table;
+      basis = c.in_ok-location.ensures.basis;
       ignored = λ e. absurd (true≢false (sym e ∙ heeded));
     }

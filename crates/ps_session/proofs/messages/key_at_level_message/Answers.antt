@@ -1,4 +1,4 @@
-use Rattle.std.proofs.Common.{rules, ◌≡◌, ◌∙◌, ℕ, false, List, sym, ap}
+use Rattle.std.proofs.Common.{◌≡◌, ◌∙◌, ℕ, false, List, sym, ap}
 use Rattle.std.proofs.lemmas.Bool.{true≢false}
 use Rattle.ps_model.specs.board.Turns.{Script}
 use Rattle.ps_model.specs.session.KeySteps.{gone_on}
@@ -9,8 +9,8 @@ use Rattle.ps_session.specs.IgnoredKeys.{is_ignored_at_message}
 use Rattle.ps_session.proofs.Dismissed.{dismissed}
 use Rattle.ps_session.proofs.messages.key_at_level_message.Goals as goal
 
-pub returns-in-Quit-clause-table : goal.returns-in-Quit-clause-table
-returns-in-Quit-clause-table g c = c.in_ok-next.ensures.table _
+pub returns-in-Quit-clause-basis : goal.returns-in-Quit-clause-basis
+returns-in-Quit-clause-basis g c = c.in_ok-next.ensures.basis _
 
 pub returns : goal.returns
 returns g c =
@@ -22,6 +22,7 @@ returns g c =
       game = c.in_ok-change.ensures.game;
       plain = c.in_ok-change.ensures.plain;
       late = c.in_ok-change.ensures.late;
+      same = c.in_ok-change.ensures.level;
       came = λ history.
           let play : Play = play_of history c.args.level.now in
           dismissed script play (pending_shown c.args.pending) c.args.key heeded c.in_default.not-Quit
@@ -31,6 +32,6 @@ returns g c =
           ∙ ap (λ (session : Session). came session c.go_on.new.self.text)
           (sym (c.next_of.ensures.waiting history c.args.level.now c.args.pending));
       stopped = tt;
-      table = c.next_of.ensures.table _ c.in_ok-change.ensures.table;
+      basis = c.next_of.ensures.basis _ c.in_ok-change.ensures.basis;
       ignored = λ e. absurd (true≢false (sym e ∙ heeded));
     }

@@ -13,7 +13,7 @@ returns g c =
       game = c.in_ok-move_text.ensures.game ∙ c.in_ok-location.ensures.game;
       plain = c.in_ok-location.ensures.plain;
       late = c.in_ok-location.ensures.late;
-      table = c.in_ok-location.ensures.table;
+      basis = c.in_ok-location.ensures.basis;
       shown = sym (ap (λ (step : Step). step.session) c.in_ok-location.ensures.came);
       written = begun_text step _ c.args.stage.now.text c.begin.new.self.text c.args.output.now
           c.move_text.new.output c.requires.empty c.in_ok-location.ensures.came c.in_ok-move_text.ensures.moved;

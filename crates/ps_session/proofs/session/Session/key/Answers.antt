@@ -1,13 +1,12 @@
-use Rattle.std.proofs.Common.{◌≡◌, ◌∙◌, ℕ, List, None, Some, subst, refl, ap}
-use Rattle.std.specs.Prelude.{Option}
+use Rattle.std.proofs.Common.{◌≡◌, ◌∙◌, List, None, Some, subst, refl, ap}
 use Rattle.ps_model.specs.session.KeySteps.{key_step}
 use Rattle.ps_model.specs.session.Sessions.{Step}
 use Rattle.ps_board.specs.Histories.{BoardShown}
-use Rattle.ps_stage.specs.Locations.{IsOnTable, location_shown}
-use Rattle.ps_stage.specs.Standings.{SessionValue, StageValue, script_for}
+use Rattle.ps_stage.specs.Locations.{IsOnBasis, location_shown}
+use Rattle.ps_stage.specs.Standings.{Basis, SessionValue, StageValue, basis_of, script_for}
 use Rattle.ps_session.specs.Histories.{AreOnTable, grids_of}
 use Rattle.ps_session.specs.Nexts.{next_shown, next_step}
-use Rattle.ps_session.specs.Tables.{AnswersOnTable}
+use Rattle.ps_session.specs.Bases.{AnswersOnBasis}
 use Rattle.ps_session.proofs.KeyEnds.{error_came, game_of_value, ignored_inside, left_of_value, no_text_come}
 use Rattle.ps_session.proofs.KeyEnds.{none_came, same_value, session_come, step_of_value, text_come}
 use Rattle.ps_session.proofs.session.Session.key.Goals as goal
@@ -15,7 +14,7 @@ use Rattle.ps_session.proofs.session.Session.key.Goals as goal
 pub next_at-found-requires : goal.next_at-found-requires
 next_at-found-requires g c = record {
   empty = c.forget_text.ensures.text;
-  table = rw c.forget_text.ensures.game c.self.invariant.0;
+  basis = rw c.forget_text.ensures.game c.self.invariant.0;
   boards = rw c.forget_text.ensures.game c.self.invariant.1;
 }
 
@@ -140,15 +139,15 @@ returns g c =
 
 pub invariant_of-self-2 : goal.invariant_of-self-2
 invariant_of-self-2 g c =
-    let table : Option (List ℕ) = g.B.Board.table_for c.self.inside.stage.game.names.layers in
+    let basis : Basis = basis_of g.B.Board.table_for c.self.inside.stage.game.names in
     let game : c.commit.new.stage.game ≡ c.self.inside.stage.game =
     ap (λ (stage : StageValue). stage.game) c.commit.ensures.stage ∙ c.prepare-done.ensures.game
     ∙ c.in-Ok-Some.ensures.game ∙ c.forget_text.ensures.game in
-    let here : IsOnTable table c.next_at-found.new.location = rw c.in-Ok-Some.ensures.same c.self.invariant.0 in
-    let answers : AnswersOnTable table c.in-Ok-Some.field-0 =
-    rw (← c.forget_text.ensures.game) c.in-Ok-Some.ensures.table in
-    let comes : AnswersOnTable table (Some c.in-Ok-Some.next) =
-    subst (AnswersOnTable table) c.in-Ok-Some.field-0-is answers in
-    let before : AreOnTable table (g.H.History.boards c.prepare-done.new.history) =
+    let here : IsOnBasis basis c.next_at-found.new.location = rw c.in-Ok-Some.ensures.same c.self.invariant.0 in
+    let answers : AnswersOnBasis basis c.in-Ok-Some.field-0 =
+    rw (← c.forget_text.ensures.game) c.in-Ok-Some.ensures.basis in
+    let comes : AnswersOnBasis basis (Some c.in-Ok-Some.next) =
+    subst (AnswersOnBasis basis) c.in-Ok-Some.field-0-is answers in
+    let before : AreOnTable basis.table (g.H.History.boards c.prepare-done.new.history) =
     rw c.prepare-done.ensures.boards c.self.invariant.1 in
-    rw game (c.commit.ensures.location table here comes, c.commit.ensures.boards table before here)
+    rw game (c.commit.ensures.location basis here comes, c.commit.ensures.boards basis before here)

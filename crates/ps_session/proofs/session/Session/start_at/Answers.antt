@@ -1,6 +1,6 @@
 use Rattle.std.proofs.Common.{◌∙◌, subst, sym}
-use Rattle.ps_stage.specs.Locations.{IsOnTable}
-use Rattle.ps_stage.specs.Standings.{SessionParts}
+use Rattle.ps_stage.specs.Locations.{IsOnBasis}
+use Rattle.ps_stage.specs.Standings.{SessionParts, basis_of}
 use Rattle.ps_session.proofs.HistoryBoards.{none_on_table}
 use Rattle.ps_session.proofs.Starts.{started_session, started_text}
 use Rattle.ps_session.proofs.session.Session.start_at.Goals as goal
@@ -13,8 +13,8 @@ begin-requires g c = record {
 
 pub invariant_of-result : goal.invariant_of-result
 invariant_of-result g c = (
-  subst (λ (game : SessionParts). IsOnTable (g.B.Board.table_for game.names.layers) c.in_ok-location.location)
-      (sym c.in_ok-location.ensures.game) c.in_ok-location.ensures.table,
+  subst (λ (game : SessionParts). IsOnBasis (basis_of g.B.Board.table_for game.names) c.in_ok-location.location)
+      (sym c.in_ok-location.ensures.game) c.in_ok-location.ensures.basis,
   none_on_table (g.B.Board.table_for c.begin.new.stage.game.names.layers)
       (g.H.History.boards c.in_ok-history.history) c.in_ok-history.ensures,
 )

@@ -15,5 +15,5 @@ returns-in-Err-clause-level g c = c.self.view_is
 pub returns-in-Ok-clause-level : goal.returns-in-Ok-clause-level
 returns-in-Ok-clause-level g c = c.self.view_is
 
-pub returns-in-Err-boards_behind-clause-level : goal.returns-in-Err-boards_behind-clause-level
-returns-in-Err-boards_behind-clause-level g c = c.self.view_is
+pub returns-in-Err-behind-clause-level : goal.returns-in-Err-behind-clause-level
+returns-in-Err-behind-clause-level g c = c.self.view_is

@@ -7,18 +7,18 @@ use Rattle.ps_model.specs.names.Names.{Names}
 use Rattle.ps_model.specs.session.Frames.{written_line}
 use Rattle.ps_model.specs.session.Sessions.{Session, after}
 use Rattle.ps_model.specs.session.StartSteps.{start_step}
-use Rattle.ps_stage.specs.Standings.{StageValue, play_of, script_for}
+use Rattle.ps_stage.specs.Standings.{StageValue, basis_of, play_of, script_for}
 use Rattle.ps_stage.specs.StepsShown.{came}
 use Rattle.ps_stage.proofs.Entered.{level_entered}
 use Rattle.ps_stage.proofs.stage.Stage.enter_level.Goals as goal
 
-pub returns-clause-table : goal.returns-clause-table
-returns-clause-table g c =
-    c.located.ensures.table _
-    (c.in_ok-pending.ensures.table
-    ∙ c.in_ok-played.ensures.table
-    ∙ ap (λ (names : Names). g.B.Board.table_for names.layers) c.names.ensures.names
-    ∙ ap (λ (stage : StageValue). g.B.Board.table_for stage.game.names.layers) c.self.view_is)
+pub returns-clause-basis : goal.returns-clause-basis
+returns-clause-basis g c =
+    c.located.ensures.basis _
+    (c.in_ok-pending.ensures.basis
+    ∙ c.in_ok-played.ensures.basis
+    ∙ ap (basis_of g.B.Board.table_for) c.names.ensures.names
+    ∙ ap (λ (stage : StageValue). basis_of g.B.Board.table_for stage.game.names) c.self.view_is)
 
 pub returns-clause-came : goal.returns-clause-came
 returns-clause-came g c =

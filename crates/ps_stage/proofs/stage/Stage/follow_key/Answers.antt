@@ -3,7 +3,7 @@ use Rattle.ps_model.specs.board.Turns.{Script}
 use Rattle.ps_stage.specs.declared.locations.HistoryChange.{HistoryChange}
 use Rattle.ps_stage.specs.KeysShown.{key_end_step}
 use Rattle.ps_stage.specs.Locations.{history_behind, history_change_if}
-use Rattle.ps_stage.specs.Standings.{SessionParts, script_for, play_of}
+use Rattle.ps_stage.specs.Standings.{SessionParts, basis_of, play_of, script_for}
 use Rattle.ps_stage.proofs.KeyChanges.{stopped_as}
 use Rattle.ps_stage.proofs.Results.{if_err, if_ok}
 use Rattle.ps_stage.proofs.Scripts.{same_script}
@@ -52,5 +52,5 @@ returns-in-Ok-clause-stopped g c =
 
 pub finish_key-requires : goal.finish_key-requires
 finish_key-requires g c =
-    c.in-Ok.ensures.table ∙ c.requires
-    ∙ sym (ap (λ (parts : SessionParts). g.B.Board.table_for parts.names.layers) c.in-Ok.ensures.game)
+    c.in-Ok.ensures.basis ∙ c.requires
+    ∙ sym (ap (λ (parts : SessionParts). basis_of g.B.Board.table_for parts.names) c.in-Ok.ensures.game)

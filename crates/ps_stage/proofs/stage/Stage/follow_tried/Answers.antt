@@ -42,5 +42,5 @@ returns-in-Done-clause-stopped g c =
 
 pub follow_key-change-requires : goal.follow_key-change-requires
 follow_key-change-requires g c =
-    ap (λ (level : Standing). level.table) (subst (IsNext c.args.level.now) c.in-Done.is c.requires.next)
-    ∙ c.requires.table
+    ap (λ (level : Standing). level.basis) (subst (IsNext c.args.level.now) c.in-Done.is c.requires.next)
+    ∙ c.requires.basis

@@ -1,5 +1,5 @@
 use Rattle.std.proofs.Common.{◌∙◌, sym, ap}
-use Rattle.ps_stage.specs.Standings.{SessionParts, StageValue, Standing, script_for}
+use Rattle.ps_stage.specs.Standings.{SessionParts, StageValue, Standing, basis_of, script_for}
 use Rattle.ps_stage.proofs.KeyChanges.{key_gone_on, stopped_as}
 use Rattle.ps_stage.proofs.Results.{if_err, if_ok}
 use Rattle.ps_stage.proofs.Scripts.{same_script}
@@ -7,11 +7,11 @@ use Rattle.ps_stage.proofs.stage.Stage.go_on_with_key.Goals as goal
 
 pub finish_key-requires : goal.finish_key-requires
 finish_key-requires g c =
-    c.in_ok-end.ensures.table
-    ∙ ap (λ (level : Standing). level.table) c.in_ok-next.ensures.copy
+    c.in_ok-end.ensures.basis
+    ∙ ap (λ (level : Standing). level.basis) c.in_ok-next.ensures.copy
     ∙ c.requires
-    ∙ sym (ap (λ (parts : SessionParts). g.B.Board.table_for parts.names.layers) c.in_ok-end.ensures.game
-    ∙ ap (λ (stage : StageValue). g.B.Board.table_for stage.game.names.layers) c.in_ok-next.ensures.stage)
+    ∙ sym (ap (λ (parts : SessionParts). basis_of g.B.Board.table_for parts.names) c.in_ok-end.ensures.game
+    ∙ ap (λ (stage : StageValue). basis_of g.B.Board.table_for stage.game.names) c.in_ok-next.ensures.stage)
 
 pub returns-clause-came : goal.returns-clause-came
 returns-clause-came g c =

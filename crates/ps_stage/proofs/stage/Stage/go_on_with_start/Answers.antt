@@ -5,11 +5,11 @@ use Rattle.ps_stage.specs.Standings.{StageValue, Standing, script_for, play_of}
 use Rattle.ps_stage.specs.StepsShown.{came}
 use Rattle.ps_stage.proofs.stage.Stage.go_on_with_start.Goals as goal
 
-pub returns-clause-table : goal.returns-clause-table
-returns-clause-table g c =
-    c.located.ensures.table _
-    (c.in_ok-pending.ensures.table
-    ∙ ap (λ (level : Standing). level.table) c.in_ok-next.ensures.copy
+pub returns-clause-basis : goal.returns-clause-basis
+returns-clause-basis g c =
+    c.located.ensures.basis _
+    (c.in_ok-pending.ensures.basis
+    ∙ ap (λ (level : Standing). level.basis) c.in_ok-next.ensures.copy
     ∙ c.requires)
 
 pub returns-clause-came : goal.returns-clause-came

@@ -35,7 +35,7 @@ loop-left-preserved g c =
       game = c.in_ok-end.ensures.game ∙ c.loop-left.invariant.game;
       plain = c.in_ok-end.ensures.plain ∙ c.loop-left.invariant.plain;
       late = c.in_ok-end.ensures.late ∙ c.loop-left.invariant.late;
-      table = c.in_ok-end.ensures.table ∙ c.loop-left.invariant.table;
+      basis = c.in_ok-end.ensures.basis ∙ c.loop-left.invariant.basis;
       rest = λ history.
           one_more key_turns g.B.Board.table_for c.args.self.now.game c.loop-left.self.game
           (g.R.Rules.meant c.args.rules.now.plain) (g.R.Rules.meant c.args.rules.now.late)

@@ -32,7 +32,7 @@ loop-left-preserved g c =
       game = c.in_ok-pending.ensures.game ∙ c.loop-left.invariant.game;
       plain = c.in_ok-pending.ensures.plain ∙ c.loop-left.invariant.plain;
       late = c.in_ok-pending.ensures.late ∙ c.loop-left.invariant.late;
-      table = c.in_ok-pending.ensures.table ∙ c.loop-left.invariant.table;
+      basis = c.in_ok-pending.ensures.basis ∙ c.loop-left.invariant.basis;
       rest = λ history.
           one_more start_turns g.B.Board.table_for c.args.self.now.game c.loop-left.self.game
           (g.R.Rules.meant c.args.rules.now.plain) (g.R.Rules.meant c.args.rules.now.late)

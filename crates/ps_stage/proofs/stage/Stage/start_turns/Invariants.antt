@@ -18,7 +18,7 @@ invariant-loop-left g l =
       game : l.self.game ≡ l.fn.self.game;
       plain : g.R.Rules.meant l.rules.plain ≡ g.R.Rules.meant l.fn.rules.plain;
       late : g.R.Rules.meant l.rules.late ≡ g.R.Rules.meant l.fn.rules.late;
-      table : l.level.table ≡ l.fn.level.table;
+      basis : l.level.basis ≡ l.fn.level.basis;
       rest : (history : List Grid) → after l.fn.self.text (start_turns script l.most (play_of history l.fn.level)) ≡
           after l.self.text (start_turns script l.left (play_of history l.level));
     }

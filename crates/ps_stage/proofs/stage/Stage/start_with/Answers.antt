@@ -1,7 +1,7 @@
 use Rattle.std.proofs.Common.{◌≡◌, ◌∙◌, List, ℕ, true, sym, ap, rules}
 use Rattle.std.specs.Prelude.{Option}
 use Rattle.std.specs.Option.{option_or}
-use Rattle.ps_stage.specs.Standings.{StageValue}
+use Rattle.ps_stage.specs.Standings.{StageValue, basis_of}
 use Rattle.ps_stage.proofs.Results.{if_ok}
 use Rattle.ps_stage.proofs.ShownLevels.{start_ran_of}
 use Rattle.ps_stage.proofs.stage.Stage.start_with.Goals as goal
@@ -23,5 +23,5 @@ returns-clause-came g c =
 
 pub started-pending-requires : goal.started-pending-requires
 started-pending-requires g c =
-    c.in_ok-turned.ensures.table ∙ c.requires
-    ∙ sym (ap (λ (stage : StageValue). g.B.Board.table_for stage.game.names.layers) c.in_ok-turned.ensures.stage)
+    c.in_ok-turned.ensures.basis ∙ c.requires
+    ∙ sym (ap (λ (stage : StageValue). basis_of g.B.Board.table_for stage.game.names) c.in_ok-turned.ensures.stage)

@@ -1,7 +1,7 @@
 use Rattle.std.proofs.Common.{◌∙◌, sym, subst, ap}
 use Rattle.ps_stage.specs.KeysShown.{IsNext, tried_outcome}
 use Rattle.ps_stage.specs.Locations.{change_shown}
-use Rattle.ps_stage.specs.Standings.{StageValue, Standing}
+use Rattle.ps_stage.specs.Standings.{StageValue, Standing, basis_of}
 use Rattle.ps_stage.specs.StepsShown.{came}
 use Rattle.ps_stage.proofs.KeyChanges.{stopped_as, taken_of}
 use Rattle.ps_stage.proofs.Results.{if_err, if_ok}
@@ -37,11 +37,11 @@ returns-clause-stopped g c =
     c.in_ok-tried.ensures.plain c.in_ok-tried.ensures.late c.in_ok-tried.ensures.level c.in_ok-tried.ensures.outcome)
     (stops history))
 
-pub follow_tried-requires-clause-table : goal.follow_tried-requires-clause-table
-follow_tried-requires-clause-table g c =
-    ap (λ (level : Standing). level.table) c.in_ok-tried.ensures.level
+pub follow_tried-requires-clause-basis : goal.follow_tried-requires-clause-basis
+follow_tried-requires-clause-basis g c =
+    ap (λ (level : Standing). level.basis) c.in_ok-tried.ensures.level
     ∙ c.requires
-    ∙ sym (ap (λ (stage : StageValue). g.B.Board.table_for stage.game.names.layers) c.in_ok-tried.ensures.stage)
+    ∙ sym (ap (λ (stage : StageValue). basis_of g.B.Board.table_for stage.game.names) c.in_ok-tried.ensures.stage)
 
 pub follow_tried-requires-clause-next : goal.follow_tried-requires-clause-next
 follow_tried-requires-clause-next g c =
