@@ -26,6 +26,10 @@ use std::alloc::Global;
 ///
 /// A board may keep the layer of each object of its game, and then an object may be put on its own layer alone. What
 /// stands on a layer may be put on the same layer elsewhere.
+///
+/// A board has an origin: what it showed when it was last made to show what another board does, or else when it was
+/// made. It tells in which rows it may show other objects than that, so that two boards that have come of one another
+/// needn't be compared.
 pub trait Board: Drop {
     /// What the board shows.
     ghost grid: { Self → Grid };
@@ -33,6 +37,9 @@ pub trait Board: Drop {
     /// The layer of each object, where objects may stand on no other one; nothing, where any object may stand on any
     /// layer.
     ghost table: { Self → Option (List ℕ) };
+
+    /// What the board showed when it was last made to show what another one does, or else when it was made.
+    ghost origin: { Self → Grid };
 
     /// The table of a board for a game whose objects stand on these layers.
     ghost table_for: { List ℕ → Option (List ℕ) };
@@ -61,7 +68,8 @@ pub trait Board: Drop {
     /// Another board that shows the same. Without memory there is none, and this one stays as it is.
     fn try_copy(&self, alloc: Global) -> Result<Self, Memory>
         ensures grid { IfOk result (λ board. grid board ≡ grid self.now) }
-        ensures table { IfOk result (λ board. table board ≡ table self.now) };
+        ensures table { IfOk result (λ board. table board ≡ table self.now) }
+        ensures origin { IfOk result (λ board. origin board ≡ grid self.now) };
 
     /// The number of columns, and the number of rows.
     fn size(&self) -> (u32, u32)
@@ -92,12 +100,14 @@ pub trait Board: Drop {
         requires still { object ≡ None → motion ≡ Still }
         requires room { IfSome object (λ put. HasRoom (table self.old) put layer.0) }
         ensures grid { grid self.new ≡ with_slot (grid self.old) cell layer.0 (slot_of object motion) }
-        ensures table { table self.new ≡ table self.old };
+        ensures table { table self.new ≡ table self.old }
+        ensures origin { origin self.new ≡ origin self.old };
 
     /// Brings every object to rest.
     fn clear_moves(&mut self)
         ensures grid { grid self.new ≡ at_rest (grid self.old) }
-        ensures table { table self.new ≡ table self.old };
+        ensures table { table self.new ≡ table self.old }
+        ensures origin { origin self.new ≡ origin self.old };
 
     /// Makes another board of the same size, with as many layers and the same room, show what this one does.
     fn copy_into(&self, other: &mut Self)
@@ -106,7 +116,8 @@ pub trait Board: Drop {
         requires layers { (grid other.old).layers ≡ (grid self.now).layers }
         requires table { table other.old ≡ table self.now }
         ensures grid { grid other.new ≡ grid self.now }
-        ensures table { table other.new ≡ table self.now };
+        ensures table { table other.new ≡ table self.now }
+        ensures origin { origin other.new ≡ grid self.now };
 
     /// Whether another board of the same size, with as many layers and the same room, shows the same.
     fn same(&self, other: &Self) -> bool
@@ -174,8 +185,14 @@ pub trait Board: Drop {
         requires table { table other.now ≡ table self.now }
         ensures { DifferOnlyOn result (grid self.now) (grid other.now) };
 
+    /// Rows, as a set of their numbers, outside of which the board shows the same objects, at rest or not, as its
+    /// origin. There may be more of them, and all of them, as a board needn't note it.
+    fn rows_touched(&self) -> Columns<Self::Words>
+        ensures { DifferOnlyOn result (origin self.now) (grid self.now) };
+
     /// Makes these rows of another board of the same size, with as many layers and the same room, show the same objects
-    /// as here. Its other rows keep their objects. What is about to move there may come to rest.
+    /// as here. Its other rows keep their objects. What is about to move there may come to rest. Its origin is then
+    /// what it shows.
     fn copy_rows(&self, other: &mut Self, rows: &Columns<Self::Words>)
         requires width { (grid other.old).width ≡ (grid self.now).width }
         requires height { (grid other.old).height ≡ (grid self.now).height }
@@ -186,7 +203,8 @@ pub trait Board: Drop {
         ensures width { (grid other.new).width ≡ (grid self.now).width }
         ensures height { (grid other.new).height ≡ (grid self.now).height }
         ensures layers { (grid other.new).layers ≡ (grid self.now).layers }
-        ensures table { table other.new ≡ table self.now };
+        ensures table { table other.new ≡ table self.now }
+        ensures origin { origin other.new ≡ grid other.new };
 }
 
 /// Recalls that a board has the shape of one: from 1 to `SIDE_LIMIT` columns and rows, from 1 to `LAYER_LIMIT` layers,

@@ -13,6 +13,7 @@ use crate::many_words::{ManyWords, WORDS_LIMIT};
 use crate::slots::{copy_slots, is_moving, same_slots, slot_holds};
 use ps_model::{LayerId, Memory, Motion, ObjectId, Slot};
 use std::alloc::Global;
+use std::snapshot::Snapshot;
 
 /// A board as one list of slots: the cells in the order of their numbers, and of each cell its layers, the lowest
 /// first.
@@ -22,6 +23,8 @@ pub struct ListBoard {
     height: u32,
     layers: u32,
     slots: Vec<Slot>,
+    /// What the slots were when the board was last made to show what another one does, or else when it was made.
+    origin: Snapshot<Vec<Slot>>,
     ghost some_column: { 0 < width },
     ghost columns: { width ≤ SIDE_LIMIT },
     ghost some_row: { 0 < height },
@@ -116,6 +119,13 @@ impl Board for ListBoard {
 
     ghost table = { λ _. None };
 
+    ghost origin = { λ b. record {
+      width = b.width;
+      height = b.height;
+      layers = b.layers;
+      cells = first_chunks b.layers (b.width * b.height) b.origin.value.items;
+    } };
+
     ghost table_for = { λ _. None };
 
     type Words = ManyWords<WORDS_LIMIT>;
@@ -130,21 +140,25 @@ impl Board for ListBoard {
     ) -> Result<ListBoard, Memory> {
         let count = width * height * layers;
         let slots = Vec::from_elem(alloc, Slot::Bare, count as usize)?;
+        let origin = Snapshot::of(&slots);
         Ok(ListBoard {
             width,
             height,
             layers,
             slots,
+            origin,
         })
     }
 
     fn try_copy(&self, alloc: Global) -> Result<ListBoard, Memory> {
         let slots = Vec::from_slice(alloc, &self.slots)?;
+        let origin = Snapshot::of(&slots);
         Ok(ListBoard {
             width: self.width,
             height: self.height,
             layers: self.layers,
             slots,
+            origin,
         })
     }
 
@@ -183,6 +197,7 @@ impl Board for ListBoard {
 
     fn copy_into(&self, other: &mut ListBoard) {
         other.slots.copy_from_slice(&self.slots);
+        other.origin = Snapshot::of(&other.slots);
     }
 
     fn same(&self, other: &ListBoard) -> bool {
@@ -245,10 +260,16 @@ impl Board for ListBoard {
         Columns::below(self.height)
     }
 
+    /// All rows, likewise.
+    fn rows_touched(&self) -> Columns<ManyWords<WORDS_LIMIT>> {
+        Columns::below(self.height)
+    }
+
     /// Motions are copied too.
     fn copy_rows(&self, other: &mut ListBoard, rows: &Columns<ManyWords<WORDS_LIMIT>>) {
         let (layers, height) = (self.layers as usize, self.height as usize);
         let others = other.slots.as_mut_slice();
         copy_slots(self.slots.as_slice(), layers, height, rows, others);
+        other.origin = Snapshot::of(&other.slots);
     }
 }

@@ -76,6 +76,7 @@ fn rewrite_found<'r, B: Scan>(
         let all : Meant = record { state = after; changed = result } in
         all ≡ attempt (rule_meaning (B.table board.old) rule.now) before }
     ensures table { B.table board.new ≡ B.table board.old }
+    ensures origin { B.origin board.new ≡ B.origin board.old }
     ensures sides { sides_of (B.grid board.new) ≡ sides_of (B.grid board.old) }
     ensures rooms { length rooms.new ≡ length rooms.old }
 {
@@ -112,6 +113,7 @@ pub fn attempt_part<'r, B: Scan>(
         let all : Meant = record { state = after; changed = result } in
         all ≡ attempt (rule_meaning (B.table board.old) rule.now) before }
     ensures table { B.table board.new ≡ B.table board.old }
+    ensures origin { B.origin board.new ≡ B.origin board.old }
     ensures sides { sides_of (B.grid board.new) ≡ sides_of (B.grid board.old) }
     ensures rooms { length rooms.new ≡ length rooms.old }
 {

@@ -54,6 +54,7 @@ fn play_loop<'r, B: Scan>(
         IfOk result (λ left. record { state = after; repeats = left.repeats; stopped = left.stopped } ≡ all) }
     ensures changed { IfOk result (λ left. left.changed ≡ true) }
     ensures table { B.table board.new ≡ B.table board.old }
+    ensures origin { B.origin board.new ≡ B.origin board.old }
     ensures sides { sides_of (B.grid board.new) ≡ sides_of (B.grid board.old) }
     ensures rooms { length rooms.new ≡ length rooms.old }
 {
@@ -101,6 +102,7 @@ fn play_section<'r, B: Scan>(
         IfOk result (λ left. record { state = after; repeats = left.repeats; stopped = left.stopped } ≡ all) }
     ensures unchanged { IfOk result (λ left. left.changed ≡ false → B.grid board.new ≡ B.grid board.old) }
     ensures table { B.table board.new ≡ B.table board.old }
+    ensures origin { B.origin board.new ≡ B.origin board.old }
     ensures sides { sides_of (B.grid board.new) ≡ sides_of (B.grid board.old) }
     ensures rooms { length rooms.new ≡ length rooms.old }
 {
@@ -137,6 +139,7 @@ fn play_sections<'r, B: Scan>(
         let after : State = record { grid = B.grid board.new; queue = queue.new } in
         OnOk result (after ≡ program_run (sections_meaning (B.table board.old) sections.now) before) }
     ensures table { B.table board.new ≡ B.table board.old }
+    ensures origin { B.origin board.new ≡ B.origin board.old }
     ensures sides { sides_of (B.grid board.new) ≡ sides_of (B.grid board.old) }
     ensures rooms { length rooms.new ≡ length rooms.old }
 {
@@ -185,6 +188,7 @@ fn play_next<'r, 's: 'r, B: Scan>(
         IfOk result (λ left. record { state = after; repeats = left.repeats; stopped = left.stopped } ≡ all) }
     ensures unchanged { IfOk result (λ left. left.changed ≡ false → B.grid board.new ≡ B.grid board.old) }
     ensures table { B.table board.new ≡ B.table board.old }
+    ensures origin { B.origin board.new ≡ B.origin board.old }
     ensures sides { sides_of (B.grid board.new) ≡ sides_of (B.grid board.old) }
     ensures rooms { length rooms.new ≡ length rooms.old }
     ensures program { program.new ≡ program.old }
@@ -220,6 +224,7 @@ fn play_watched<'r, 's: 'r, B: Scan>(
         let sections = program.old.sections in
         OnOk result (after ≡ program_run (sections_meaning (B.table board.old) sections) before) }
     ensures table { B.table board.new ≡ B.table board.old }
+    ensures origin { B.origin board.new ≡ B.origin board.old }
     ensures sides { sides_of (B.grid board.new) ≡ sides_of (B.grid board.old) }
     ensures rooms { length rooms.new ≡ length rooms.old }
     ensures program { program.new ≡ program.old }
@@ -258,6 +263,7 @@ fn play_program<'r, 's: 'r, B: Scan>(
         let sections = program.old.sections in
         OnOk result (after ≡ program_run (sections_meaning (B.table board.old) sections) before) }
     ensures table { B.table board.new ≡ B.table board.old }
+    ensures origin { B.origin board.new ≡ B.origin board.old }
     ensures sides { sides_of (B.grid board.new) ≡ sides_of (B.grid board.old) }
     ensures rooms { length rooms.new ≡ length rooms.old }
     ensures sections { program.new.sections ≡ program.old.sections }
@@ -298,6 +304,7 @@ pub fn run_program<'r, 's: 'r, B: Scan>(
         IsRunnable (B.table board.old) sections
         → OnOk result (after ≡ program_run (meaning_of_program sections) before) }
     ensures table { B.table board.new ≡ B.table board.old }
+    ensures origin { B.origin board.new ≡ B.origin board.old }
     ensures sides { sides_of (B.grid board.new) ≡ sides_of (B.grid board.old) }
     ensures rooms { length rooms.new ≡ length rooms.old }
     ensures sections { program.new.sections ≡ program.old.sections }

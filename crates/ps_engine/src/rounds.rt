@@ -33,6 +33,7 @@ fn round<'r, B: Scan>(
         record { state = after; changed = result }
         ≡ round (rules_meaning (B.table board.old) rules.now) before }
     ensures table { B.table board.new ≡ B.table board.old }
+    ensures origin { B.origin board.new ≡ B.origin board.old }
     ensures sides { sides_of (B.grid board.new) ≡ sides_of (B.grid board.old) }
     ensures rooms { length rooms.new ≡ length rooms.old }
 {
@@ -70,6 +71,7 @@ fn play_rounds<'r, B: Scan>(
         let all : Meant = record { state = after; changed = true } in
         OnOk result (all ≡ settled (rules_meaning (B.table board.old) rules.now) most true before) }
     ensures table { B.table board.new ≡ B.table board.old }
+    ensures origin { B.origin board.new ≡ B.origin board.old }
     ensures sides { sides_of (B.grid board.new) ≡ sides_of (B.grid board.old) }
     ensures rooms { length rooms.new ≡ length rooms.old }
 {
@@ -105,6 +107,7 @@ pub fn play_group<'r, B: Scan>(
         IfOk result (λ changed. record { state = after; changed = changed }
         ≡ group (rules_meaning (B.table board.old) rules.now) before) }
     ensures table { B.table board.new ≡ B.table board.old }
+    ensures origin { B.origin board.new ≡ B.origin board.old }
     ensures sides { sides_of (B.grid board.new) ≡ sides_of (B.grid board.old) }
     ensures rooms { length rooms.new ≡ length rooms.old }
 {
@@ -133,6 +136,7 @@ pub fn pass<'r, B: Scan>(
         IfOk result (λ changed. record { state = after; changed = changed }
         ≡ pass (groups_meaning (B.table board.old) groups.now) before) }
     ensures table { B.table board.new ≡ B.table board.old }
+    ensures origin { B.origin board.new ≡ B.origin board.old }
     ensures sides { sides_of (B.grid board.new) ≡ sides_of (B.grid board.old) }
     ensures rooms { length rooms.new ≡ length rooms.old }
 {

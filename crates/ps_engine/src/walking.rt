@@ -33,6 +33,7 @@ fn rewrite_rows<B: Scan>(
         record { grid = B.grid board.new; changed = result }
         ≡ rewritten_rows before (rows_meaning (B.table board.old) rows.now) places }
     ensures table { B.table board.new ≡ B.table board.old }
+    ensures origin { B.origin board.new ≡ B.origin board.old }
     ensures sides { sides_of (B.grid board.new) ≡ sides_of (B.grid board.old) }
 {
     if rows.is_empty() {
@@ -208,6 +209,7 @@ pub fn walk<B: Scan>(
         record { grid = B.grid board.new; changed = result }
         ≡ fold (applied (rows_meaning (B.table board.old) rows.now)) before (chosen choices ∷ behind choices) }
     ensures table { B.table board.new ≡ B.table board.old }
+    ensures origin { B.origin board.new ≡ B.origin board.old }
     ensures sides { sides_of (B.grid board.new) ≡ sides_of (B.grid board.old) }
     ensures long { length rooms.new ≡ length rooms.old }
 {

@@ -50,6 +50,7 @@ fn write_behind<B: Scan>(
         record { grid = B.grid board.new; changed = result }
         ≡ rewritten_where before becomes (is_behind axis before.height steps row columns) }
     ensures table { B.table board.new ≡ B.table board.old }
+    ensures origin { B.origin board.new ≡ B.origin board.old }
     ensures sides { sides_of (B.grid board.new) ≡ sides_of (B.grid board.old) }
 {
     recall_shape(board);
@@ -75,6 +76,7 @@ fn write_targets<B: Scan>(
         record { grid = B.grid board.new; changed = result }
         ≡ rewritten_where before becomes (is_written axis before.height steps rows room.now.starts.items) }
     ensures table { B.table board.new ≡ B.table board.old }
+    ensures origin { B.origin board.new ≡ B.origin board.old }
     ensures sides { sides_of (B.grid board.new) ≡ sides_of (B.grid board.old) }
 {
     recall_shape(board);
@@ -104,6 +106,7 @@ pub fn attempt_writer<'r, B: Scan>(
         let all : Meant = record { state = after; changed = result } in
         all ≡ attempt (rule_meaning (B.table board.old) rule.now) before }
     ensures table { B.table board.new ≡ B.table board.old }
+    ensures origin { B.origin board.new ≡ B.origin board.old }
     ensures sides { sides_of (B.grid board.new) ≡ sides_of (B.grid board.old) }
 {
     recall_shape(board);

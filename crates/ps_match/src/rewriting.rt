@@ -26,6 +26,7 @@ fn write_if<B: Rooms>(
         let all = rewritten_where (B.grid board.old) becomes (λ n. wanted && nat_eq n cell) in
         result ≡ (changed || all.changed) }
     ensures table { B.table board.new ≡ B.table board.old }
+    ensures origin { B.origin board.new ≡ B.origin board.old }
 {
     recall_shape(board);
     if !wanted {
@@ -48,6 +49,7 @@ pub fn rewrite_row<B: Rooms>(
         record { grid = B.grid board.new; changed = result }
         ≡ rewritten_where before becomes (is_on_row before.height row columns) }
     ensures table { B.table board.new ≡ B.table board.old }
+    ensures origin { B.origin board.new ≡ B.origin board.old }
     ensures sides { sides_of (B.grid board.new) ≡ sides_of (B.grid board.old) }
 {
     let (width, height) = board.size();

@@ -27,6 +27,7 @@ pub fn rewrite_ahead<B: Scan>(
         record { grid = B.grid board.new; changed = result }
         ≡ rewritten_where before becomes (is_on_row before.height row (columns_ahead columns steps)) }
     ensures table { B.table board.new ≡ B.table board.old }
+    ensures origin { B.origin board.new ≡ B.origin board.old }
     ensures sides { sides_of (B.grid board.new) ≡ sides_of (B.grid board.old) }
 {
     recall_shape(board);

@@ -70,6 +70,7 @@ pub trait Scan: Board {
             record { grid = Self.grid self.new; changed = result }
             ≡ rewritten_cell before meaning cell (slice_get before.grid.cells cell) }
         ensures table { Self.table self.new ≡ Self.table self.old }
+        ensures origin { Self.origin self.new ≡ Self.origin self.old }
         ensures sides { sides_of (Self.grid self.new) ≡ sides_of (Self.grid self.old) };
 
     /// Writes the cells of a row of the board whose columns are in a set, and no other cell, and answers whether one of
@@ -82,5 +83,6 @@ pub trait Scan: Board {
             record { grid = Self.grid self.new; changed = result }
             ≡ rewritten_where before becomes (is_on_row before.height row columns.now) }
         ensures table { Self.table self.new ≡ Self.table self.old }
+        ensures origin { Self.origin self.new ≡ Self.origin self.old }
         ensures sides { sides_of (Self.grid self.new) ≡ sides_of (Self.grid self.old) };
 }

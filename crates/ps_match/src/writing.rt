@@ -36,6 +36,7 @@ fn put_slot<B: Board>(board: &mut B, cell: u32, layer: LayerId, slot: Slot)
     requires room { SlotHasRoom (B.table board.old) layer.0 slot }
     ensures grid { B.grid board.new ≡ with_slot (B.grid board.old) cell layer.0 slot }
     ensures table { B.table board.new ≡ B.table board.old }
+    ensures origin { B.origin board.new ≡ B.origin board.old }
 {
     match slot {
         Slot::Bare => board.put(cell, layer, None, Motion::Still),
@@ -80,6 +81,7 @@ fn write_slot<B: Rooms>(
         let write = write_in_room (B.table board.old) (write_shown write.now) in
         result ≡ (changed || not (same_slot before (slot_after write layer.0 before))) }
     ensures table { B.table board.new ≡ B.table board.old }
+    ensures origin { B.origin board.new ≡ B.origin board.old }
 {
     if !touches(write, layer) {
         return changed;
@@ -102,6 +104,7 @@ pub fn write_cell<B: Rooms>(board: &mut B, write: &CellWrite, cell: u32, changed
         let write = write_in_room (B.table board.old) (write_shown write.now) in
         result ≡ (changed || not (same_cell before (cell_written write before))) }
     ensures table { B.table board.new ≡ B.table board.old }
+    ensures origin { B.origin board.new ≡ B.origin board.old }
 {
     let mut any = changed;
     for layer in 0..board.layers() {

@@ -63,6 +63,7 @@ pub fn slide<B: Board>(board: &mut B, moving: &mut CellSet<B>) -> Slid
     ensures one_pass { result ≡ 1 → B.grid board.new ≡ at_rest (B.grid board.old) }
     ensures few_passes { result ≤ going_count (B.grid board.old) + 1 }
     ensures table { B.table board.new ≡ B.table board.old }
+    ensures origin { B.origin board.new ≡ B.origin board.old }
 {
     let (_, height) = board.size();
     let rows = board.rows_moving_any().both(Columns::below(height));
@@ -115,6 +116,7 @@ fn slide_layer<B: Board>(
     requires beside { few ≡ false → IsStillBeside (B.grid board.old) moving.now }
     ensures passes { ArePasses result (B.grid board.old) (B.grid board.new) layer.0 (layer.0 + 1) }
     ensures table { B.table board.new ≡ B.table board.old }
+    ensures origin { B.origin board.new ≡ B.origin board.old }
 {
     let mut passes = 0;
     while pass(board, layer, rows, few, moving) {
@@ -140,6 +142,7 @@ fn pass<B: Board>(
     ensures part { let old = B.grid board.old in
         IsPart result old (B.grid board.new) layer.0 0 (old.width * old.height) }
     ensures table { B.table board.new ≡ B.table board.old }
+    ensures origin { B.origin board.new ≡ B.origin board.old }
 {
     let mut left = moving_columns(board, layer, rows);
     let mut went = false;
@@ -213,6 +216,7 @@ fn visit_column<B: Board>(
     ensures part { let old = B.grid board.old in
         IsPart result old (B.grid board.new) layer.0 (column * old.height) ((column + 1) * old.height) }
     ensures table { B.table board.new ≡ B.table board.old }
+    ensures origin { B.origin board.new ≡ B.origin board.old }
 {
     let (_, height) = board.size();
     let mut left = rows;
@@ -229,6 +233,7 @@ fn visit<B: Board>(board: &mut B, cell: u32, layer: LayerId) -> bool
     ensures grid { B.grid board.new ≡ visited (B.grid board.old) layer.0 cell }
     ensures went { result ≡ is_some (way (B.grid board.old) layer.0 cell) }
     ensures table { B.table board.new ≡ B.table board.old }
+    ensures origin { B.origin board.new ≡ B.origin board.old }
 {
     let Some(to) = way(board, cell, layer) else {
         return false;

@@ -204,6 +204,7 @@ impl<W: ColumnWords> RowRoom<Columns<W>> {
             record { grid = B.grid board.new; changed = result }
             ≡ rewritten_along before (cells_meaning (B.table board.old) row.now.parts) place }
         ensures table { B.table board.new ≡ B.table board.old }
+        ensures origin { B.origin board.new ≡ B.origin board.old }
         ensures sides { sides_of (B.grid board.new) ≡ sides_of (B.grid board.old) }
     {
         let parts = row.parts.as_slice();
@@ -238,6 +239,7 @@ impl<W: ColumnWords> RowRoom<Columns<W>> {
             record { grid = B.grid board.new; changed = result }
             ≡ rewritten_along before (cells_meaning (B.table board.old) row.now.parts) place }
         ensures table { B.table board.new ≡ B.table board.old }
+        ensures origin { B.origin board.new ≡ B.origin board.old }
         ensures sides { sides_of (B.grid board.new) ≡ sides_of (B.grid board.old) }
     {
         recall_shape(board);

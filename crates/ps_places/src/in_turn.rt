@@ -34,6 +34,7 @@ fn rewrite_fitting<B: Scan>(
         record { grid = B.grid board.new; changed = result }
         ≡ row_in_turn grid.width grid.height (part_meaning (B.table board.old) part.now) row columns before }
     ensures table { B.table board.new ≡ B.table board.old }
+    ensures origin { B.origin board.new ≡ B.origin board.old }
     ensures sides { sides_of (B.grid board.new) ≡ sides_of (B.grid board.old) }
 {
     recall_shape(board);
@@ -60,6 +61,7 @@ fn rewrite_downwards<B: Scan>(
         record { grid = B.grid board.new; changed = result }
         ≡ fold (applied ((meant ∷ []) ∷ [])) before (combinations (all ∷ [])) }
     ensures table { B.table board.new ≡ B.table board.old }
+    ensures origin { B.origin board.new ≡ B.origin board.old }
     ensures sides { sides_of (B.grid board.new) ≡ sides_of (B.grid board.old) }
 {
     recall_shape(board);
@@ -89,6 +91,7 @@ impl<W: ColumnWords> RowRoom<Columns<W>> {
             record { grid = B.grid board.new; changed = result }
             ≡ fold (applied ((meant ∷ []) ∷ [])) before (combinations (all ∷ [])) }
         ensures table { B.table board.new ≡ B.table board.old }
+        ensures origin { B.origin board.new ≡ B.origin board.old }
         ensures sides { sides_of (B.grid board.new) ≡ sides_of (B.grid board.old) }
     {
         rewrite_downwards(board, part, rows, self.starts.as_slice())

@@ -61,6 +61,7 @@ pub fn rewrite_part<B: Scan>(
         record { grid = B.grid board.new; changed = result }
         ≡ rewritten_along before (part_meaning (B.table board.old) part.now) cells }
     ensures table { B.table board.new ≡ B.table board.old }
+    ensures origin { B.origin board.new ≡ B.origin board.old }
     ensures sides { sides_of (B.grid board.new) ≡ sides_of (B.grid board.old) }
 {
     let (_width, height) = board.size();
@@ -87,6 +88,7 @@ fn write_fitting<B: Scan>(board: &mut B, cell: &CompiledCell, number: u32, chang
         record { grid = B.grid board.new; changed = result }
         ≡ rewritten_cell before (cell_meaning (B.table board.old) cell.now) number found }
     ensures table { B.table board.new ≡ B.table board.old }
+    ensures origin { B.origin board.new ≡ B.origin board.old }
     ensures sides { sides_of (B.grid board.new) ≡ sides_of (B.grid board.old) }
 {
     if cell.changes {
@@ -112,6 +114,7 @@ pub fn rewrite_fitting_part<B: Scan>(
         record { grid = B.grid board.new; changed = result }
         ≡ rewritten_along before (part_meaning (B.table board.old) part.now) cells }
     ensures table { B.table board.new ≡ B.table board.old }
+    ensures origin { B.origin board.new ≡ B.origin board.old }
     ensures sides { sides_of (B.grid board.new) ≡ sides_of (B.grid board.old) }
 {
     let (_width, height) = board.size();

@@ -32,6 +32,7 @@ fn rewrite_cell<B: Scan>(
         record { grid = B.grid board.new; changed = result }
         ≡ cell_changed before (B.table board.old) axis row columns steps cell.now }
     ensures table { B.table board.new ≡ B.table board.old }
+    ensures origin { B.origin board.new ≡ B.origin board.old }
     ensures sides { sides_of (B.grid board.new) ≡ sides_of (B.grid board.old) }
 {
     recall_shape(board);
@@ -60,6 +61,7 @@ pub fn rewrite_row<B: Scan>(
         record { grid = B.grid board.new; changed = result }
         ≡ cells_changed before (B.table board.old) axis row columns 0 part.now }
     ensures table { B.table board.new ≡ B.table board.old }
+    ensures origin { B.origin board.new ≡ B.origin board.old }
     ensures sides { sides_of (B.grid board.new) ≡ sides_of (B.grid board.old) }
 {
     let mut any = changed;
@@ -89,6 +91,7 @@ fn rewrite_rows<B: Scan>(
         record { grid = B.grid board.new; changed = result }
         ≡ fold (applied ((meant ∷ []) ∷ [])) before (combinations (all ∷ [])) }
     ensures table { B.table board.new ≡ B.table board.old }
+    ensures origin { B.origin board.new ≡ B.origin board.old }
     ensures sides { sides_of (B.grid board.new) ≡ sides_of (B.grid board.old) }
 {
     recall_shape(board);
@@ -120,6 +123,7 @@ impl<W: ColumnWords> RowRoom<Columns<W>> {
             record { grid = B.grid board.new; changed = result }
             ≡ fold (applied ((meant ∷ []) ∷ [])) before (combinations (all ∷ [])) }
         ensures table { B.table board.new ≡ B.table board.old }
+        ensures origin { B.origin board.new ≡ B.origin board.old }
         ensures sides { sides_of (B.grid board.new) ≡ sides_of (B.grid board.old) }
     {
         rewrite_rows(board, axis, part, rows, self.starts.as_slice())

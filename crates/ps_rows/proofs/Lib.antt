@@ -38,5 +38,6 @@ pub mod RowHistories
 pub mod TopicsTold
 pub mod LayersTouched
 pub mod Untouched
+pub mod Touched
 mod Passed
 mod Joined

@@ -7,8 +7,7 @@ use Rattle.ps_model.specs.declared.limits.TheConstants.{SIDE_LIMIT}
 use Rattle.ps_board.specs.ColumnSets.{both_columns, column_at, columns_below, columns_where, columns_without}
 use Rattle.ps_board.specs.ColumnSets.{either_columns, no_columns, set_columns, unlike_columns}
 use Rattle.ps_board.proofs.ColumnLaws.{below_at, column_at-all, column_at-where, columns-again, columns-agree}
-use Rattle.ps_board.proofs.ColumnLaws.{none_in, none_on}
-use Rattle.ps_board.proofs.ColumnLaws.{set_columns-are}
+use Rattle.ps_board.proofs.ColumnLaws.{none_in}
 use Rattle.ps_rows.specs.Planes.{IsSet}
 
 -- a column of sets that are made of others

@@ -50,3 +50,8 @@ HasUnlikeOf height row planes words all column word =
 abbrev pub DifferOnlyOnRows : ℕ → ℕ → List (List Bool) → List (List Bool) → List Bool → Type 0
 DifferOnlyOnRows height plane first second rows = (row : ℕ) → row < height → column_at rows row ≡ false →
     row_of first (plane * height + row) ≡ row_of second (plane * height + row)
+
+-- so many planes, the first ones, have
+abbrev pub PlanesDifferOnlyOn : ℕ → ℕ → List (List Bool) → List (List Bool) → List Bool → Type 0
+PlanesDifferOnlyOn height planes first second rows = (plane : ℕ) → plane < planes →
+    DifferOnlyOnRows height plane first second rows

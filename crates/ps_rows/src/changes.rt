@@ -2,11 +2,12 @@
 
 ghost use Rattle.std.specs.Prelude.{◌≡◌, ◌+◌, ◌*◌, ◌<◌, ◌≤◌, ◌^◌, ℕ, [], None, Some, false, nat_eq, true, vec_len};
 ghost use Rattle.std.specs.List.{list_any};
-ghost use Rattle.ps_board.specs.ColumnSets.{either_columns, set_columns};
+ghost use Rattle.ps_board.specs.ColumnSets.{either_columns, no_columns, set_columns};
 ghost use Rattle.ps_rows.specs.Planes.{HavePlanes};
 ghost use Rattle.ps_rows.specs.RowChanges.{AreRowsChanged, AreRowsLeft, IsLayerWritten, IsRowLeft};
 ghost use Rattle.ps_rows.specs.RowChanges.{clearing, motions_change, moves_kept, objects_change};
 ghost use Rattle.ps_rows.specs.RowChanges.{row_after, set_in, word_after};
+ghost use Rattle.ps_rows.specs.Sameness.{PlanesDifferOnlyOn};
 ghost use Rattle.ps_rows.specs.Showing.{motion_plane, motion_planes};
 
 use crate::motions::motion_plane;
@@ -263,7 +264,7 @@ fn change_motions<W: ColumnWords>(
 }
 
 /// Changes the row of a layer, whose objects have those places among the planes, and whose motions have those from the
-/// first on, and answers whether a row has other columns then.
+/// first on, and answers whether a row of an object has other columns then, and whether any row has.
 #[inline(always)]
 pub fn change_layer<W: ColumnWords>(
     planes: &mut Planes<W>,
@@ -272,7 +273,7 @@ pub fn change_layer<W: ColumnWords>(
     objects: RowChange<Columns<W>>,
     first: u32,
     motions: RowChange<Columns<W>>,
-) -> bool
+) -> (bool, bool)
     requires row { row < planes.old.height }
     requires planes { HavePlanes planes.old.height planes.old.words.items places.now }
     requires below { (plane : ℕ) → list_any (nat_eq plane) places.now ≡ true → plane < first }
@@ -282,10 +283,13 @@ pub fn change_layer<W: ColumnWords>(
         IsLayerWritten p.height row p.words.items planes.new.words.items places.now objects first motions }
     ensures height { planes.new.height ≡ planes.old.height }
     ensures count { vec_len planes.new.words ≡ vec_len planes.old.words }
-    ensures quiet { result ≡ false → planes.new.words.items ≡ planes.old.words.items }
+    ensures objects { let p = planes.old in result.0 ≡ false →
+        PlanesDifferOnlyOn p.height first p.words.items planes.new.words.items no_columns }
+    ensures quiet { result.1 ≡ false → planes.new.words.items ≡ planes.old.words.items }
     ensures left { let p = planes.old in AreRowsLeft p.height row objects p.words.items places.now →
-        AreRowsLeft p.height row motions p.words.items (motion_planes first) → result ≡ false }
+        AreRowsLeft p.height row motions p.words.items (motion_planes first) → result.1 ≡ false }
 {
     let changed = change_rows(planes, row, objects, places, false);
-    change_motions(planes, row, first, motions, changed)
+    let any = change_motions(planes, row, first, motions, changed);
+    (changed, any)
 }

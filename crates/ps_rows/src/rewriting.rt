@@ -157,6 +157,7 @@ impl<W: ColumnWords> RowBoard<W> {
         ensures height { self.new.planes.height ≡ self.old.planes.height }
         ensures layers { self.new.layers ≡ self.old.layers }
         ensures table { self.new.members.table.items ≡ self.old.members.table.items }
+        ensures origin { self.new.origin.value ≡ self.old.origin.value }
     {
         if touches(write, LayerId(layer)) {
             return self.write_layer(write, layer, row, columns);
@@ -182,6 +183,7 @@ impl<W: ColumnWords> RowBoard<W> {
         ensures height { self.new.planes.height ≡ self.old.planes.height }
         ensures layers { self.new.layers ≡ self.old.layers }
         ensures table { self.new.members.table.items ≡ self.old.members.table.items }
+        ensures origin { self.new.origin.value ≡ self.old.origin.value }
     {
         let mut any = false;
         let mut left = touched_layers(write, self.layers());
@@ -203,6 +205,7 @@ impl<W: ColumnWords> RowBoard<W> {
         ensures height { self.new.planes.height ≡ self.old.planes.height }
         ensures layers { self.new.layers ≡ self.old.layers }
         ensures table { self.new.members.table.items ≡ self.old.members.table.items }
+        ensures origin { self.new.origin.value ≡ self.old.origin.value }
     {
         let mut any = self.write_touched(write, row, columns);
         for layer in WORD_BITS..self.layers() {

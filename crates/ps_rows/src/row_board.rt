@@ -1,16 +1,16 @@
 //! A board of rows of bits.
 
 ghost use Rattle.std.specs.Prelude.{◌≡◌, ◌+◌, ◌*◌, ◌/◌, ◌^◌, ◌<◌, ◌≤◌, ◌&&◌, ℕ, IfOk, IfSome, Some, List, []};
-ghost use Rattle.std.specs.Prelude.{false, length, nat_eq, nat_lt, true};
+ghost use Rattle.std.specs.Prelude.{false, if◌then◌else◌, length, nat_eq, nat_lt, true};
 ghost use Rattle.std.specs.Prelude.{option_map, slice_get, slice_index_or, vec_len};
 ghost use Rattle.ps_model.specs.board.Movement.{is_number};
 ghost use Rattle.ps_model.specs.declared.limits.TheConstants.{LAYER_LIMIT, SIDE_LIMIT};
-ghost use Rattle.ps_board.specs.ColumnSets.{columns_below, no_columns};
+ghost use Rattle.ps_board.specs.ColumnSets.{columns_below, no_columns, with_column};
 ghost use Rattle.ps_rows.specs.Planes.{AreEmptyFrom, AreSameFrom, HavePlanes, row_of};
 ghost use Rattle.ps_program.specs.ProgramShown.{write_shown};
 ghost use Rattle.ps_rows.specs.RowDifferences.{rows_changed};
 ghost use Rattle.ps_rows.specs.RowTests.{IsRowOf, IsWithin};
-ghost use Rattle.ps_rows.specs.Sameness.{DifferOnlyOnRows, IsSameLayer};
+ghost use Rattle.ps_rows.specs.Sameness.{DifferOnlyOnRows, IsSameLayer, PlanesDifferOnlyOn};
 ghost use Rattle.ps_rows.specs.Showing.{AreMotionsShown, AreObjectsShown, cleared_from, grid_shown};
 ghost use Rattle.ps_rows.specs.Showing.{motions_from, numbered, object_shown, with_slot_in};
 ghost use Rattle.ps_rows.specs.SlotsWritten.{AreSlotsLeft, AreSlotsWritten, in_columns};
@@ -26,6 +26,7 @@ use ps_board::{Board, ColumnWords, Columns};
 use ps_model::{LayerId, LayeredObject, Memory, Motion, MotionTest, ObjectId};
 use ps_program::CellWrite;
 use std::alloc::Global;
+use std::snapshot::Snapshot;
 
 /// A board with one plane for each object of its game and, behind them, five for each layer: of the objects there that
 /// are about to go up, down, left or right, or to act. A plane has the columns of each row of the board, the highest
@@ -43,6 +44,11 @@ pub struct RowBoard<W: ColumnWords> {
     pub(crate) planes: Planes<W>,
     /// Whether a plane of motions may have a column. Where none has, these planes needn't be looked at.
     may_move: bool,
+    /// The rows of all planes when the board was last made to show what another one does, or else when it was made.
+    /// Contracts alone read it.
+    origin: Snapshot<Vec<Columns<W>>>,
+    /// Each row in which the plane of an object has other columns than then. There may be more of them.
+    touched: Columns<W>,
     ghost some_column: { 0 < width },
     ghost columns: { width ≤ SIDE_LIMIT },
     ghost narrow: { width ≤ W.limit },
@@ -55,6 +61,32 @@ pub struct RowBoard<W: ColumnWords> {
     ghost motions: { AreMotionsShown members.table.items layers planes.height planes.words.items
         (width * planes.height) },
     ghost rest: { may_move ≡ false → AreEmptyFrom (length members.table.items * planes.height) planes.words.items },
+    ghost noted: { PlanesDifferOnlyOn planes.height (length members.table.items) origin.value.items planes.words.items
+        touched },
+}
+
+/// Adds a row to a set, if something changed there.
+#[inline(always)]
+fn note_row<W: ColumnWords>(rows: &mut Columns<W>, row: u32, changed: bool)
+    requires { row < W.limit }
+    ensures { rows.new ≡ (if changed then with_column rows.old row true else rows.old) }
+{
+    if changed {
+        *rows = rows.with(row, true);
+    }
+}
+
+/// Makes the rows of planes an origin, from which none of them differs.
+fn start_anew<W: ColumnWords>(
+    planes: &Planes<W>,
+    origin: &mut Snapshot<Vec<Columns<W>>>,
+    touched: &mut Columns<W>,
+)
+    ensures origin { origin.new.value ≡ planes.now.words }
+    ensures touched { touched.new ≡ no_columns }
+{
+    *origin = Snapshot::of(&planes.words);
+    *touched = Columns::none();
 }
 
 /// Puts an object with its motion into a cell of a layer, whose objects have these planes and whose motions have those
@@ -197,7 +229,8 @@ impl<W: ColumnWords> RowBoard<W> {
         self.planes.first_plane(cell, planes)
     }
 
-    /// Writes a layer of a row in these columns, and answers whether one of its slots changed.
+    /// Writes a layer of a row in these columns, and answers whether one of its slots changed. The row is noted where
+    /// an object came or went.
     #[inline(always)]
     pub(crate) fn write_layer(
         &mut self,
@@ -222,12 +255,15 @@ impl<W: ColumnWords> RowBoard<W> {
         ensures height { self.new.planes.height ≡ self.old.planes.height }
         ensures layers { self.new.layers ≡ self.old.layers }
         ensures table { self.new.members.table.items ≡ self.old.members.table.items }
+        ensures origin { self.new.origin.value ≡ self.old.origin.value }
     {
         let (objects, motions) = self.layer_change(write, layer, row, columns);
         let first = self.motions_from(layer);
         let places = self.members.of(layer);
         self.may_move = true;
-        change_layer(&mut self.planes, row, places, objects, first, motions)
+        let (moved, any) = change_layer(&mut self.planes, row, places, objects, first, motions);
+        note_row(&mut self.touched, row, moved);
+        any
     }
 
     /// Whether it is known that no plane of motions has a column.
@@ -306,7 +342,8 @@ impl<W: ColumnWords> RowBoard<W> {
         differences(alloc, &self.planes, &other.planes, planes)
     }
 
-    /// Changes rows by what differs from a board.
+    /// Changes rows by what differs from a board. All rows are noted: to know in which an object comes or goes, each
+    /// difference would have to be looked at.
     pub(crate) fn change_rows(&mut self, rows: &[RowDifference<Columns<W>>])
         requires objects { let b = self.old in let p = b.planes in AreObjectsShown b.members.table.items p.height
             (rows_changed p.height p.words.items rows.now) (b.width * p.height) }
@@ -320,6 +357,7 @@ impl<W: ColumnWords> RowBoard<W> {
         ensures table { self.new.members.table.items ≡ self.old.members.table.items }
     {
         self.may_move = self.may_move | reach(rows, self.members.count());
+        self.touched = Columns::below(self.planes.height);
         change_rows(&mut self.planes, rows);
     }
 
@@ -355,6 +393,8 @@ impl<W: ColumnWords> Board for RowBoard<W> {
 
     ghost table = { λ b. Some b.members.table.items };
 
+    ghost origin = { λ b. grid_shown b.members.table.items b.width b.planes.height b.layers b.origin.value.items };
+
     ghost table_for = { λ layers. Some layers };
 
     type Words = W;
@@ -369,6 +409,7 @@ impl<W: ColumnWords> Board for RowBoard<W> {
     ) -> Result<RowBoard<W>, Memory> {
         let members = Members::try_new(alloc, layers, own_layers)?;
         let planes = Planes::try_new(alloc, members.count() + 5 * layers, height)?;
+        let origin = Snapshot::of(&planes.words);
         Ok(RowBoard {
             width,
             all_columns: Columns::below(width),
@@ -376,12 +417,15 @@ impl<W: ColumnWords> Board for RowBoard<W> {
             members,
             planes,
             may_move: true,
+            origin,
+            touched: Columns::none(),
         })
     }
 
     fn try_copy(&self, alloc: Global) -> Result<RowBoard<W>, Memory> {
         let members = self.members.try_copy(alloc)?;
         let planes = self.planes.try_copy(alloc)?;
+        let origin = Snapshot::of(&planes.words);
         Ok(RowBoard {
             width: self.width,
             all_columns: self.all_columns,
@@ -389,6 +433,8 @@ impl<W: ColumnWords> Board for RowBoard<W> {
             members,
             planes,
             may_move: !self.rests(),
+            origin,
+            touched: Columns::none(),
         })
     }
 
@@ -409,12 +455,14 @@ impl<W: ColumnWords> Board for RowBoard<W> {
         first_motion(&self.planes, cell, first)
     }
 
+    /// The row of the cell is noted.
     fn put(&mut self, cell: u32, layer: LayerId, object: Option<ObjectId>, motion: Motion) {
         let first = self.motions_from(layer.0);
         let objects = self.members.of(layer.0);
         let object = number_of(object);
         self.may_move = true;
         put_slot(&mut self.planes, cell, objects, object, first, motion);
+        self.touched = self.touched.with(cell % self.planes.height, true);
     }
 
     fn clear_moves(&mut self) {
@@ -427,6 +475,7 @@ impl<W: ColumnWords> Board for RowBoard<W> {
         let planes = self.planes_used(other);
         self.planes.copy_into(&mut other.planes, planes as usize);
         other.may_move = self.may_move;
+        start_anew(&other.planes, &mut other.origin, &mut other.touched);
     }
 
     fn movers(&self, layer: LayerId, row: u32) -> Columns<W> {
@@ -497,11 +546,17 @@ impl<W: ColumnWords> Board for RowBoard<W> {
         self.planes.rows_differing(&other.planes, objects)
     }
 
+    /// The rows that were noted.
+    fn rows_touched(&self) -> Columns<W> {
+        self.touched
+    }
+
     /// These rows are copied in the planes of all objects, and what moved on the other board is brought to rest.
     fn copy_rows(&self, other: &mut RowBoard<W>, rows: &Columns<W>) {
         let objects = self.members.count();
         self.planes.copy_rows(&mut other.planes, objects, *rows);
         other.planes.clear_moved(objects, other.may_move);
         other.may_move = false;
+        start_anew(&other.planes, &mut other.origin, &mut other.touched);
     }
 }

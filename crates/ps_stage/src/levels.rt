@@ -76,9 +76,10 @@ impl<B: Board> Model for PlayedLevel<B> {
     } };
 
     ghost invariant = { λ l. IfSome l.spare (λ spare. B.grid spare.value ≡ B.grid l.board.value)
+        × (IfSome l.spare (λ spare. B.origin spare.value ≡ B.grid l.board.value)
         × (IfSome l.spare (λ spare. B.table spare.value ≡ B.table l.board.value)
         × ((B.table l.restart_board.value.value ≡ B.table l.board.value)
-        × IsFrameOf l.names.value (B.grid l.board.value) l.frame)) };
+        × IsFrameOf l.names.value (B.grid l.board.value) l.frame))) };
 }
 
 /// Which done turns count. One that doesn't is as if not run.
@@ -127,6 +128,7 @@ fn run_turn<B: Board, R: Rules<B>>(
     after: &mut B,
 ) -> Result<Turned, Memory>
     requires equal { B.grid after.old ≡ B.grid before.now }
+    requires origin { B.origin after.old ≡ B.grid before.now }
     requires table { B.table after.old ≡ B.table before.now }
     requires own { B.table before.now ≡ B.table_for game.now.names.layers }
     ensures outcome { IfOk result (λ turned. outcome_shown turned (B.grid after.new)
@@ -135,6 +137,7 @@ fn run_turn<B: Board, R: Rules<B>>(
     ensures undone { IfOk result (λ turned. is_done turned ≡ false → B.grid after.new ≡ B.grid before.now) }
     ensures stands { OnErr result (B.grid after.new ≡ B.grid before.now) }
     ensures sides { HaveSameSides (B.grid after.new) (B.grid before.now) }
+    ensures origin { B.origin after.new ≡ B.grid before.now }
     ensures table { B.table after.new ≡ B.table before.now }
     ensures plain { R.meant rules.new.plain ≡ R.meant rules.old.plain }
     ensures late { R.meant rules.new.late ≡ R.meant rules.old.late }
@@ -160,6 +163,7 @@ fn counted_turn<B: Board, R: Rules<B>>(
     frame: &mut Option<FrameText>,
 ) -> Result<Turned, Memory>
     requires equal { B.grid spare.old.value ≡ B.grid board.old.value }
+    requires origin { B.origin spare.old.value ≡ B.grid board.old.value }
     requires table { B.table spare.old.value ≡ B.table board.old.value }
     requires own { B.table board.old.value ≡ B.table_for game.now.names.layers }
     requires frame { IsFrameOf picture.old (B.grid board.old.value) frame.old }
@@ -171,6 +175,7 @@ fn counted_turn<B: Board, R: Rules<B>>(
     ensures picture { picture.new ≡ picture.old }
     ensures frame { IsFrameOf picture.old (B.grid board.new.value) frame.new }
     ensures equal { B.grid spare.new.value ≡ B.grid board.new.value }
+    ensures origin { B.origin spare.new.value ≡ B.grid board.new.value }
     ensures table { B.table board.new.value ≡ B.table board.old.value }
     ensures spare_table { B.table spare.new.value ≡ B.table board.old.value }
     ensures plain { R.meant rules.new.plain ≡ R.meant rules.old.plain }
@@ -185,7 +190,7 @@ fn counted_turn<B: Board, R: Rules<B>>(
         return Ok(turned);
     }
     mem::swap(board, spare);
-    let rows = spare.rows_differing(&**board);
+    let rows = board.rows_touched();
     let drawn = picture.redraw(frame, &**spare, &**board, rows);
     board.copy_into(&mut **spare);
     drawn?;
@@ -204,8 +209,10 @@ fn lent<B: Board>(
     spare: Option<Box<B>>,
 ) -> Result<Box<B>, Memory>
     requires grid { IfSome spare (λ spare. B.grid spare.value ≡ B.grid board.now) }
+    requires origin { IfSome spare (λ spare. B.origin spare.value ≡ B.grid board.now) }
     requires table { IfSome spare (λ spare. B.table spare.value ≡ B.table board.now) }
     ensures grid { IfOk result (λ lent. B.grid lent.value ≡ B.grid board.now) }
+    ensures origin { IfOk result (λ lent. B.origin lent.value ≡ B.grid board.now) }
     ensures table { IfOk result (λ lent. B.table lent.value ≡ B.table board.now) }
 {
     let Some(spare) = spare else {
@@ -233,6 +240,7 @@ fn boards_beside<B: Board>(
     restart_board: &Rc<Box<B>, Global>,
 ) -> Result<(Box<B>, Rc<Box<B>, Global>), Memory>
     ensures spare { IfOk result (λ both. B.grid both.0.value ≡ B.grid board.now) }
+    ensures spare_origin { IfOk result (λ both. B.origin both.0.value ≡ B.grid board.now) }
     ensures spare_table { IfOk result (λ both. B.table both.0.value ≡ B.table board.now) }
     ensures restart_board { IfOk result (λ both. both.1.value ≡ restart_board.now.value) }
 {
@@ -351,6 +359,7 @@ fn boards_behind<B: Board>(
 ) -> Result<(Box<B>, Rc<Box<B>, Global>), Memory>
     requires { B.table restart_board.now.value.value ≡ B.table board.now }
     ensures spare { IfOk result (λ both. B.grid both.0.value ≡ B.grid board.now) }
+    ensures spare_origin { IfOk result (λ both. B.origin both.0.value ≡ B.grid board.now) }
     ensures spare_table { IfOk result (λ both. B.table both.0.value ≡ B.table board.now) }
     ensures grid { IfOk result (λ both. B.grid both.1.value.value
         ≡ (if done.now.checkpoint then B.grid board.now else B.grid restart_board.now.value.value)) }
@@ -646,7 +655,7 @@ impl<B: Board> PlayedLevel<B> {
 
     /// What the level behind a done turn needs beside the board that the turn came to: the text of that board's frame in
     /// place of that of its own; a board that shows the same, for the next turn; and the one that a restart goes back
-    /// to.
+    /// to. The board tells in which rows the turn has touched it.
     ///
     /// # Errors
     ///
@@ -661,18 +670,19 @@ impl<B: Board> PlayedLevel<B> {
         done: &DoneTurn,
     ) -> Result<(Box<B>, Rc<Box<B>, Global>), Memory>
         requires sides { HaveSameSides (B.grid board.now) self.now.board }
+        requires origin { B.origin board.now ≡ self.now.board }
         requires table { B.table board.now ≡ self.now.basis.table }
         requires frame { IsFrameOf picture.old self.now.board frame.old }
         ensures picture { picture.new ≡ picture.old }
         ensures frame { IsFrameOf picture.old (B.grid board.now) frame.new }
         ensures spare { IfOk result (λ both. B.grid both.0.value ≡ B.grid board.now) }
+        ensures spare_origin { IfOk result (λ both. B.origin both.0.value ≡ B.grid board.now) }
         ensures spare_table { IfOk result (λ both. B.table both.0.value ≡ B.table board.now) }
         ensures grid { IfOk result (λ both. B.grid both.1.value.value
             ≡ (if done.now.checkpoint then B.grid board.now else self.now.restart_board)) }
         ensures table { IfOk result (λ both. B.table both.1.value.value ≡ B.table board.now) }
     {
-        let rows = self.board.rows_differing(board);
-        picture.redraw(frame, &*self.board, board, rows)?;
+        picture.redraw(frame, &*self.board, board, board.rows_touched())?;
         boards_behind(alloc, spares, board, &self.restart_board, done)
     }
 

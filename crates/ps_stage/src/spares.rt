@@ -71,6 +71,7 @@ impl<B: Board> SpareBoards<B> {
     /// `Memory`, where no spare board is alike.
     pub fn copy_of(&mut self, alloc: Global, board: &B) -> Result<Box<B>, Memory>
         ensures grid { IfOk result (λ copy. B.grid copy.value ≡ B.grid board.now) }
+        ensures origin { IfOk result (λ copy. B.origin copy.value ≡ B.grid board.now) }
         ensures table { IfOk result (λ copy. B.table copy.value ≡ B.table board.now) }
     {
         let Some(mut spare) = self.taken(board) else {

@@ -27,6 +27,7 @@ pub fn motion_for(input: Input) -> Motion
 pub fn give_motion<B: Board>(board: &mut B, moved: &[ObjectId], motion: Motion)
     ensures moved { B.grid board.new ≡ with_motion moved.now motion (B.grid board.old) }
     ensures table { B.table board.new ≡ B.table board.old }
+    ensures origin { B.origin board.new ≡ B.origin board.old }
 {
     board.clear_moves();
     let (_, height) = board.size();
@@ -43,6 +44,7 @@ fn give_row<B: Board>(board: &mut B, row: u32, moved: &[ObjectId], motion: Motio
     ensures changed { AreChanged (map (slot_set_moving moved.now motion)) (B.grid board.old) (B.grid board.new) }
     ensures here { IsRowChanged (map (slot_set_moving moved.now motion)) (B.grid board.old) (B.grid board.new) row }
     ensures table { B.table board.new ≡ B.table board.old }
+    ensures origin { B.origin board.new ≡ B.origin board.old }
 {
     recall_shape(board);
     for layer in 0..board.layers() {
@@ -59,6 +61,7 @@ fn give_layer<B: Board>(board: &mut B, layer: LayerId, row: u32, moved: &[Object
     ensures stays { StayChanged (slot_set_moving moved.now motion) (B.grid board.old) (B.grid board.new) }
     ensures here { IsLayerChanged (slot_set_moving moved.now motion) (B.grid board.old) (B.grid board.new) layer.0 row }
     ensures table { B.table board.new ≡ B.table board.old }
+    ensures origin { B.origin board.new ≡ B.origin board.old }
 {
     let (width, height) = board.size();
     let standing = layer_columns(board, moved, layer, row);
@@ -74,6 +77,7 @@ fn give_slot<B: Board>(board: &mut B, cell: u32, layer: LayerId, moved: &[Object
     ensures moved { B.grid board.new ≡ with_slot (B.grid board.old) cell layer.0
         (slot_set_moving moved.now motion (slot_at (B.grid board.old) cell layer.0)) }
     ensures table { B.table board.new ≡ B.table board.old }
+    ensures origin { B.origin board.new ≡ B.origin board.old }
 {
     let Some(object) = board.object(cell, layer) else {
         return;

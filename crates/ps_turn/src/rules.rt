@@ -25,7 +25,8 @@ pub trait Rules<B: Board> {
         ensures width { (B.grid board.new).width ≡ (B.grid board.old).width }
         ensures height { (B.grid board.new).height ≡ (B.grid board.old).height }
         ensures layers { (B.grid board.new).layers ≡ (B.grid board.old).layers }
-        ensures table { B.table board.new ≡ B.table board.old };
+        ensures table { B.table board.new ≡ B.table board.old }
+        ensures origin { B.origin board.new ≡ B.origin board.old };
 }
 
 /// The rules of a game's turns: those before the movement, and those behind it.

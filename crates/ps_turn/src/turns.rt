@@ -84,6 +84,7 @@ impl<'g> TurnGame<'g> {
 fn prepare<B: Board>(game: &TurnGame<'_>, input: Option<Input>, board: &mut B)
     ensures prepared { B.grid board.new ≡ prepared game.now.names input (B.grid board.old) }
     ensures table { B.table board.new ≡ B.table board.old }
+    ensures origin { B.origin board.new ≡ B.origin board.old }
 {
     match input {
         None => board.clear_moves(),
@@ -109,6 +110,7 @@ fn play<B: Board, R: Rules<B>>(
     ensures late { R.meant rules.new.late ≡ R.meant rules.old.late }
     ensures sides { HaveSameSides (B.grid board.new) (B.grid board.old) }
     ensures table { B.table board.new ≡ B.table board.old }
+    ensures origin { B.origin board.new ≡ B.origin board.old }
 {
     let mut queue = Queue::new();
     prepare(game, input, board);
@@ -153,7 +155,8 @@ fn done<B: Board>(game: &TurnGame<'_>, before: &B, after: &B, queue: Queue) -> D
 
 /// What comes of a turn, by the boards before and after its changes: blocked, where the game asks for a move of the
 /// Player and each cell that had one still has one; blocked by `cancel`; restarted by `restart`; or done. Where it
-/// isn't done the second board is made equal to the first.
+/// isn't done the second board is made equal to the first. Where what the first shows is the origin of the second, it
+/// stays so.
 fn outcome<B: Board>(
     game: &TurnGame<'_>,
     input: Option<Input>,
@@ -169,6 +172,7 @@ fn outcome<B: Board>(
     ensures undone { is_done result ≡ false → B.grid after.new ≡ B.grid before.now }
     ensures sides { HaveSameSides (B.grid after.new) (B.grid before.now) }
     ensures table { B.table after.new ≡ B.table before.now }
+    ensures origin { B.origin after.old ≡ B.grid before.now → B.origin after.new ≡ B.grid before.now }
 {
     if is_held(game, input, before, after) {
         before.copy_into(after);
@@ -186,7 +190,8 @@ fn outcome<B: Board>(
 }
 
 /// Takes a turn with an input, or without one. It works on a second board, equal to the first, which shows the new
-/// board behind a done turn, and is equal to the first again behind any other.
+/// board behind a done turn, and is equal to the first again behind any other. Where what the first shows is the origin
+/// of the second, it stays so.
 ///
 /// # Errors
 ///
@@ -207,6 +212,7 @@ pub fn turn<B: Board, R: Rules<B>>(
     ensures stands { OnErr result (B.grid after.new ≡ B.grid before.now) }
     ensures sides { HaveSameSides (B.grid after.new) (B.grid before.now) }
     ensures table { B.table after.new ≡ B.table before.now }
+    ensures origin { B.origin after.old ≡ B.grid before.now → B.origin after.new ≡ B.grid before.now }
     ensures plain { R.meant rules.new.plain ≡ R.meant rules.old.plain }
     ensures late { R.meant rules.new.late ≡ R.meant rules.old.late }
 {

@@ -21,6 +21,9 @@ returns-then-lacks_object-clause-attempt g c =
 pub returns-then-lacks_object-clause-table : goal.returns-then-lacks_object-clause-table
 returns-then-lacks_object-clause-table g c = refl
 
+pub returns-then-lacks_object-clause-origin : goal.returns-then-lacks_object-clause-origin
+returns-then-lacks_object-clause-origin g c = refl
+
 pub returns-then-lacks_object-clause-sides : goal.returns-then-lacks_object-clause-sides
 returns-then-lacks_object-clause-sides g c = refl
 
@@ -35,6 +38,9 @@ returns-clause-attempt g c = c.attempt_by_kind.ensures.attempt
 
 pub returns-clause-table : goal.returns-clause-table
 returns-clause-table g c = c.attempt_by_kind.ensures.table
+
+pub returns-clause-origin : goal.returns-clause-origin
+returns-clause-origin g c = c.attempt_by_kind.ensures.origin
 
 pub returns-clause-sides : goal.returns-clause-sides
 returns-clause-sides g c = c.attempt_by_kind.ensures.sides
@@ -59,6 +65,9 @@ returns-in-Some-clause-attempt g c = c.attempt_part.ensures.attempt
 
 pub returns-in-Some-clause-table : goal.returns-in-Some-clause-table
 returns-in-Some-clause-table g c = c.attempt_part.ensures.table
+
+pub returns-in-Some-clause-origin : goal.returns-in-Some-clause-origin
+returns-in-Some-clause-origin g c = c.attempt_part.ensures.origin
 
 pub returns-in-Some-clause-sides : goal.returns-in-Some-clause-sides
 returns-in-Some-clause-sides g c = c.attempt_part.ensures.sides

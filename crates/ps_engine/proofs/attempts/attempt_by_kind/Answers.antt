@@ -15,6 +15,9 @@ attempt_commands-requires-clause-commands g c = c.if-not-rule.true
 pub returns-then-not-rule-clause-table : goal.returns-then-not-rule-clause-table
 returns-then-not-rule-clause-table g c = refl
 
+pub returns-then-not-rule-clause-origin : goal.returns-then-not-rule-clause-origin
+returns-then-not-rule-clause-origin g c = refl
+
 pub returns-then-not-rule-clause-sides : goal.returns-then-not-rule-clause-sides
 returns-then-not-rule-clause-sides g c = refl
 
@@ -33,6 +36,9 @@ returns-in-Some-clause-attempt g c = c.attempt_writer.ensures.attempt
 pub returns-in-Some-clause-table : goal.returns-in-Some-clause-table
 returns-in-Some-clause-table g c = c.attempt_writer.ensures.table
 
+pub returns-in-Some-clause-origin : goal.returns-in-Some-clause-origin
+returns-in-Some-clause-origin g c = c.attempt_writer.ensures.origin
+
 pub returns-in-Some-clause-sides : goal.returns-in-Some-clause-sides
 returns-in-Some-clause-sides g c = c.attempt_writer.ensures.sides
 
@@ -50,6 +56,9 @@ returns-clause-attempt g c = c.attempt_rows.ensures.attempt
 
 pub returns-clause-table : goal.returns-clause-table
 returns-clause-table g c = c.attempt_rows.ensures.table
+
+pub returns-clause-origin : goal.returns-clause-origin
+returns-clause-origin g c = c.attempt_rows.ensures.origin
 
 pub returns-clause-sides : goal.returns-clause-sides
 returns-clause-sides g c = c.attempt_rows.ensures.sides

@@ -66,6 +66,9 @@ choose_first-requires g c = c.requires.long
 pub returns-then-not-choose_first-clause-table : goal.returns-then-not-choose_first-clause-table
 returns-then-not-choose_first-clause-table g c = refl
 
+pub returns-then-not-choose_first-clause-origin : goal.returns-then-not-choose_first-clause-origin
+returns-then-not-choose_first-clause-origin g c = refl
+
 pub returns-then-not-choose_first-clause-sides : goal.returns-then-not-choose_first-clause-sides
 returns-then-not-choose_first-clause-sides g c = refl
 
@@ -90,6 +93,9 @@ walk-requires-clause-fit g c =
 
 pub returns-clause-table : goal.returns-clause-table
 returns-clause-table g c = c.walk.ensures.table
+
+pub returns-clause-origin : goal.returns-clause-origin
+returns-clause-origin g c = c.walk.ensures.origin
 
 pub returns-clause-sides : goal.returns-clause-sides
 returns-clause-sides g c = c.walk.ensures.sides

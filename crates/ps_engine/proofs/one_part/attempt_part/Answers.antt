@@ -35,6 +35,9 @@ returns-then-is_empty-clause-attempt g c =
 pub returns-then-is_empty-clause-table : goal.returns-then-is_empty-clause-table
 returns-then-is_empty-clause-table g c = refl
 
+pub returns-then-is_empty-clause-origin : goal.returns-then-is_empty-clause-origin
+returns-then-is_empty-clause-origin g c = refl
+
 pub returns-then-is_empty-clause-sides : goal.returns-then-is_empty-clause-sides
 returns-then-is_empty-clause-sides g c = refl
 
@@ -77,6 +80,9 @@ returns-clause-attempt g c = c.rewrite_found.ensures.attempt
 
 pub returns-clause-table : goal.returns-clause-table
 returns-clause-table g c = c.rewrite_found.ensures.table
+
+pub returns-clause-origin : goal.returns-clause-origin
+returns-clause-origin g c = c.rewrite_found.ensures.origin
 
 pub returns-clause-sides : goal.returns-clause-sides
 returns-clause-sides g c = c.rewrite_found.ensures.sides

@@ -57,8 +57,14 @@ returns-in-Down-clause-attempt g c =
 pub returns-then-lie_alone-clause-table : goal.returns-then-lie_alone-clause-table
 returns-then-lie_alone-clause-table g c = c.rewrite_places.ensures.table
 
+pub returns-then-lie_alone-clause-origin : goal.returns-then-lie_alone-clause-origin
+returns-then-lie_alone-clause-origin g c = c.rewrite_places.ensures.origin
+
 pub returns-in-Down-clause-table : goal.returns-in-Down-clause-table
 returns-in-Down-clause-table g c = c.rewrite_in_turn.ensures.table
+
+pub returns-in-Down-clause-origin : goal.returns-in-Down-clause-origin
+returns-in-Down-clause-origin g c = c.rewrite_in_turn.ensures.origin
 
 pub returns-then-lie_alone-clause-sides : goal.returns-then-lie_alone-clause-sides
 returns-then-lie_alone-clause-sides g c = c.rewrite_places.ensures.sides
@@ -109,6 +115,9 @@ returns-in-Right-clause-attempt g c = c.attempt_rows.ensures.attempt
 
 pub returns-in-Right-clause-table : goal.returns-in-Right-clause-table
 returns-in-Right-clause-table g c = c.attempt_rows.ensures.table
+
+pub returns-in-Right-clause-origin : goal.returns-in-Right-clause-origin
+returns-in-Right-clause-origin g c = c.attempt_rows.ensures.origin
 
 pub returns-in-Right-clause-sides : goal.returns-in-Right-clause-sides
 returns-in-Right-clause-sides g c = c.attempt_rows.ensures.sides

@@ -15,6 +15,7 @@ loop-again-init g c =
     record {
       looped = refl;
       table = refl;
+      origin = refl;
       sides = refl;
       keeps = λ on. absurd (false≢true (sym c.new-watch.ensures ∙ on));
     }
@@ -51,6 +52,7 @@ loop-again-preserved g c =
           ∙ looped_on meant c.loop-again.left now next (c.loop-again.left - 1) (omega arith) made
           ∙ c.loop-again.invariant.looped;
       table = c.pass.ensures.table ∙ c.loop-again.invariant.table;
+      origin = c.pass.ensures.origin ∙ c.loop-again.invariant.origin;
       sides = c.pass.ensures.sides ∙ c.loop-again.invariant.sides;
       keeps = keeps_on run watch c.step.new.self kept c.step.new.kept now next step c.loop-again.invariant.keeps
           c.in_ok-left.ensures.goes;
@@ -100,14 +102,26 @@ returns-then-not-again-clause-rooms g c = c.in_ok-again.ensures.rooms ∙ c.loop
 pub returns-in_err-again-clause-table : goal.returns-in_err-again-clause-table
 returns-in_err-again-clause-table g c = c.in_err-again.ensures.table ∙ c.loop-again.invariant.table
 
+pub returns-in_err-again-clause-origin : goal.returns-in_err-again-clause-origin
+returns-in_err-again-clause-origin g c = c.in_err-again.ensures.origin ∙ c.loop-again.invariant.origin
+
 pub returns-in_err-left-clause-table : goal.returns-in_err-left-clause-table
 returns-in_err-left-clause-table g c = c.in_ok-again.ensures.table ∙ c.loop-again.invariant.table
+
+pub returns-in_err-left-clause-origin : goal.returns-in_err-left-clause-origin
+returns-in_err-left-clause-origin g c = c.in_ok-again.ensures.origin ∙ c.loop-again.invariant.origin
 
 pub returns-then-left-eq0-clause-table : goal.returns-then-left-eq0-clause-table
 returns-then-left-eq0-clause-table g c = c.in_ok-again.ensures.table ∙ c.loop-again.invariant.table
 
+pub returns-then-left-eq0-clause-origin : goal.returns-then-left-eq0-clause-origin
+returns-then-left-eq0-clause-origin g c = c.in_ok-again.ensures.origin ∙ c.loop-again.invariant.origin
+
 pub returns-then-not-again-clause-table : goal.returns-then-not-again-clause-table
 returns-then-not-again-clause-table g c = c.in_ok-again.ensures.table ∙ c.loop-again.invariant.table
+
+pub returns-then-not-again-clause-origin : goal.returns-then-not-again-clause-origin
+returns-then-not-again-clause-origin g c = c.in_ok-again.ensures.origin ∙ c.loop-again.invariant.origin
 
 pub returns-in_err-again-clause-sides : goal.returns-in_err-again-clause-sides
 returns-in_err-again-clause-sides g c = c.in_err-again.ensures.sides ∙ c.loop-again.invariant.sides

@@ -16,6 +16,7 @@ invariant-loop-again g l =
     record {
       looped : run l.left now ≡ run l.fn.repeats before;
       table : g.B.Board.table l.board ≡ table;
+      origin : g.B.Board.origin l.board ≡ g.B.Board.origin l.fn.board;
       sides : sides_of (g.B.Board.grid l.board) ≡ sides_of (g.B.Board.grid l.fn.board);
       keeps : Keeps run l.watch l.kept.of_passes now;
     }

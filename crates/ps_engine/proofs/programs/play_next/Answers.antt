@@ -50,6 +50,9 @@ returns-then-passes-clause-unchanged g c = λ off. refl
 pub returns-then-passes-clause-table : goal.returns-then-passes-clause-table
 returns-then-passes-clause-table g c = refl
 
+pub returns-then-passes-clause-origin : goal.returns-then-passes-clause-origin
+returns-then-passes-clause-origin g c = refl
+
 pub returns-then-passes-clause-sides : goal.returns-then-passes-clause-sides
 returns-then-passes-clause-sides g c = refl
 
@@ -72,6 +75,9 @@ returns-clause-unchanged g c = c.play_section.ensures.unchanged
 
 pub returns-clause-table : goal.returns-clause-table
 returns-clause-table g c = c.play_section.ensures.table
+
+pub returns-clause-origin : goal.returns-clause-origin
+returns-clause-origin g c = c.play_section.ensures.origin
 
 pub returns-clause-sides : goal.returns-clause-sides
 returns-clause-sides g c = c.play_section.ensures.sides

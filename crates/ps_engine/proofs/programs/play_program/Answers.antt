@@ -14,6 +14,9 @@ returns-in_err-watches-clause-run g c = IfOk-from_err c.from_residual.result _ c
 pub returns-in_err-watches-clause-table : goal.returns-in_err-watches-clause-table
 returns-in_err-watches-clause-table g c = refl
 
+pub returns-in_err-watches-clause-origin : goal.returns-in_err-watches-clause-origin
+returns-in_err-watches-clause-origin g c = refl
+
 pub returns-in_err-watches-clause-sides : goal.returns-in_err-watches-clause-sides
 returns-in_err-watches-clause-sides g c = refl
 
@@ -44,6 +47,9 @@ returns-then-watches-clause-run g c =
 pub returns-then-watches-clause-table : goal.returns-then-watches-clause-table
 returns-then-watches-clause-table g c = c.play_watched.ensures.table
 
+pub returns-then-watches-clause-origin : goal.returns-then-watches-clause-origin
+returns-then-watches-clause-origin g c = c.play_watched.ensures.origin
+
 pub returns-then-watches-clause-sides : goal.returns-then-watches-clause-sides
 returns-then-watches-clause-sides g c = c.play_watched.ensures.sides
 
@@ -72,6 +78,9 @@ returns-clause-run g c =
 
 pub returns-clause-table : goal.returns-clause-table
 returns-clause-table g c = c.play_sections.ensures.table
+
+pub returns-clause-origin : goal.returns-clause-origin
+returns-clause-origin g c = c.play_sections.ensures.origin
 
 pub returns-clause-sides : goal.returns-clause-sides
 returns-clause-sides g c = c.play_sections.ensures.sides

@@ -43,11 +43,20 @@ returns-in_err-changed-in-Group-clause-unchanged g c = IfOk-from_err c.from_resi
 pub returns-in_err-changed-in-Group-clause-table : goal.returns-in_err-changed-in-Group-clause-table
 returns-in_err-changed-in-Group-clause-table g c = c.in_err-changed-in-Group.ensures.table
 
+pub returns-in_err-changed-in-Group-clause-origin : goal.returns-in_err-changed-in-Group-clause-origin
+returns-in_err-changed-in-Group-clause-origin g c = c.in_err-changed-in-Group.ensures.origin
+
 pub returns-in_ok-changed-in-Group-clause-table : goal.returns-in_ok-changed-in-Group-clause-table
 returns-in_ok-changed-in-Group-clause-table g c = c.in_ok-changed-in-Group.ensures.table
 
+pub returns-in_ok-changed-in-Group-clause-origin : goal.returns-in_ok-changed-in-Group-clause-origin
+returns-in_ok-changed-in-Group-clause-origin g c = c.in_ok-changed-in-Group.ensures.origin
+
 pub returns-in-Loop-clause-table : goal.returns-in-Loop-clause-table
 returns-in-Loop-clause-table g c = c.play_loop.ensures.table
+
+pub returns-in-Loop-clause-origin : goal.returns-in-Loop-clause-origin
+returns-in-Loop-clause-origin g c = c.play_loop.ensures.origin
 
 pub returns-in_err-changed-in-Group-clause-sides : goal.returns-in_err-changed-in-Group-clause-sides
 returns-in_err-changed-in-Group-clause-sides g c = c.in_err-changed-in-Group.ensures.sides

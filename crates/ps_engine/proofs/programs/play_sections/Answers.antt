@@ -10,6 +10,7 @@ loop-section-init g c =
       run = program_is (sections_meaning (g.B.Board.table c.args.board.now) c.args.sections.now) REPEAT_LIMIT
           (record { grid = g.B.Board.grid c.args.board.now; queue = c.args.queue.now }) refl;
       table = refl;
+      origin = refl;
       sides = refl;
     }
 

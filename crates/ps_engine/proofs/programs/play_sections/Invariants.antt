@@ -15,5 +15,6 @@ invariant-loop-section g l =
       run : sections_run (map (section_meaning table) (drop l.section-index l.sections)) l.repeats now ≡ program_run
           (sections_meaning table l.sections) before;
       table : g.B.Board.table l.board ≡ table;
+      origin : g.B.Board.origin l.board ≡ g.B.Board.origin l.fn.board;
       sides : sides_of (g.B.Board.grid l.board) ≡ sides_of (g.B.Board.grid l.fn.board);
     }

@@ -25,6 +25,7 @@ loop-number-init g c =
       run = program_is (sections_meaning (g.B.Board.table c.args.board.now) c.args.program.now.sections) REPEAT_LIMIT
           (record { grid = g.B.Board.grid c.args.board.now; queue = c.args.queue.now }) refl;
       table = refl;
+      origin = refl;
       sides = refl;
       differ = differ_none c.none-stirred.result (g.B.Board.grid c.args.board.now) (g.B.Board.grid c.args.board.now)
           refl;
@@ -80,6 +81,7 @@ loop-number-preserved g c =
       run = sections_on (section_meaning table) sections n at.0 c.loop-number.repeats left.repeats now next low
           (sym (get_or_from_slice_get sections n at.0 at.0 at.1)) made ∙ c.loop-number.invariant.run;
       table = tables;
+      origin = c.in_ok-left.ensures.origin ∙ c.loop-number.invariant.origin;
       sides = sides;
       differ = elim c.if-left-2.branch [
         | then-left-2 w ↦
@@ -127,6 +129,9 @@ returns-in_err-left-clause-run g c = IfOk-from_err c.from_residual.result _ c.fr
 pub returns-in_err-left-clause-table : goal.returns-in_err-left-clause-table
 returns-in_err-left-clause-table g c = c.in_err-left.ensures.table ∙ c.loop-number.invariant.table
 
+pub returns-in_err-left-clause-origin : goal.returns-in_err-left-clause-origin
+returns-in_err-left-clause-origin g c = c.in_err-left.ensures.origin ∙ c.loop-number.invariant.origin
+
 pub returns-in_err-left-clause-sides : goal.returns-in_err-left-clause-sides
 returns-in_err-left-clause-sides g c = c.in_err-left.ensures.sides ∙ c.loop-number.invariant.sides
 
@@ -138,6 +143,9 @@ returns-in_err-left-clause-rooms g c = c.in_err-left.ensures.rooms ∙ c.loop-nu
 
 pub returns-then-left-clause-table : goal.returns-then-left-clause-table
 returns-then-left-clause-table g c = c.in_ok-left.ensures.table ∙ c.loop-number.invariant.table
+
+pub returns-then-left-clause-origin : goal.returns-then-left-clause-origin
+returns-then-left-clause-origin g c = c.in_ok-left.ensures.origin ∙ c.loop-number.invariant.origin
 
 pub returns-then-left-clause-sides : goal.returns-then-left-clause-sides
 returns-then-left-clause-sides g c = c.in_ok-left.ensures.sides ∙ c.loop-number.invariant.sides
@@ -160,6 +168,9 @@ returns-clause-run g c =
 
 pub returns-clause-table : goal.returns-clause-table
 returns-clause-table g c = c.loop-number.invariant.table
+
+pub returns-clause-origin : goal.returns-clause-origin
+returns-clause-origin g c = c.loop-number.invariant.origin
 
 pub returns-clause-sides : goal.returns-clause-sides
 returns-clause-sides g c = c.loop-number.invariant.sides

@@ -17,6 +17,7 @@ invariant-loop-number g l =
       run : sections_run (map (section_meaning table) (drop l.number sections)) l.repeats now ≡ program_run
           (sections_meaning table sections) before;
       table : g.B.Board.table l.board ≡ table;
+      origin : g.B.Board.origin l.board ≡ g.B.Board.origin l.fn.board;
       sides : sides_of (g.B.Board.grid l.board) ≡ sides_of (g.B.Board.grid l.fn.board);
       differ : DifferOnlyAbout l.stirred (g.B.Board.grid l.board) (g.B.Board.grid l.fn.board);
       program : l.program ≡ l.fn.program;

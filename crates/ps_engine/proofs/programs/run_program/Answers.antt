@@ -18,6 +18,9 @@ returns-clause-run g c = c.play_program.ensures.run
 pub returns-clause-table : goal.returns-clause-table
 returns-clause-table g c = c.play_program.ensures.table
 
+pub returns-clause-origin : goal.returns-clause-origin
+returns-clause-origin g c = c.play_program.ensures.origin
+
 pub returns-clause-sides : goal.returns-clause-sides
 returns-clause-sides g c = c.play_program.ensures.sides
 

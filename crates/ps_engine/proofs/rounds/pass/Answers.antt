@@ -28,11 +28,12 @@ loop-rules-preserved g c =
           c.loop-rules.changed c.in_ok-more.more now next c.loop-rules-test.true c.rules-item.is made
           ∙ c.loop-rules.invariant.pass;
       table = c.play_group.ensures.table ∙ c.loop-rules.invariant.table;
+      origin = c.play_group.ensures.origin ∙ c.loop-rules.invariant.origin;
       sides = c.play_group.ensures.sides ∙ c.loop-rules.invariant.sides;
     }
 
 pub loop-rules-init : goal.loop-rules-init
-loop-rules-init g c = record { pass = refl; table = refl; sides = refl }
+loop-rules-init g c = record { pass = refl; table = refl; origin = refl; sides = refl }
 
 pub play_group-requires : goal.play_group-requires
 play_group-requires g c =
@@ -47,8 +48,14 @@ returns-in_err-more-clause-pass g c = IfOk-from_err c.from_residual.result _ c.f
 pub returns-in_err-more-clause-table : goal.returns-in_err-more-clause-table
 returns-in_err-more-clause-table g c = c.in_err-more.ensures.table ∙ c.loop-rules.invariant.table
 
+pub returns-in_err-more-clause-origin : goal.returns-in_err-more-clause-origin
+returns-in_err-more-clause-origin g c = c.in_err-more.ensures.origin ∙ c.loop-rules.invariant.origin
+
 pub returns-clause-table : goal.returns-clause-table
 returns-clause-table g c = c.loop-rules.invariant.table
+
+pub returns-clause-origin : goal.returns-clause-origin
+returns-clause-origin g c = c.loop-rules.invariant.origin
 
 pub returns-in_err-more-clause-sides : goal.returns-in_err-more-clause-sides
 returns-in_err-more-clause-sides g c = c.in_err-more.ensures.sides ∙ c.loop-rules.invariant.sides

@@ -15,5 +15,6 @@ invariant-loop-rules g l =
       pass : after_change l.changed (pass (map (rules_meaning table) (drop l.rules-index l.groups)) now) ≡ pass
           (groups_meaning table l.groups) before;
       table : g.B.Board.table l.board ≡ table;
+      origin : g.B.Board.origin l.board ≡ g.B.Board.origin l.fn.board;
       sides : sides_of (g.B.Board.grid l.board) ≡ sides_of (g.B.Board.grid l.fn.board);
     }

@@ -19,6 +19,7 @@ loop-left-init g c =
           (all_left watch c.args.kept.now now.grid now.queue c.args.most c.in_ok-left.left c.new-watch.ensures
           c.in_ok-left.ensures.rest);
       table = refl;
+      origin = refl;
       sides = refl;
       keeps = keeps_first run watch c.step.new.self c.args.kept.now c.step.new.kept now c.new-watch.ensures
           c.in_ok-left.ensures.goes;
@@ -60,6 +61,7 @@ loop-left-preserved g c =
           (omega (arith, c.loop-left-test.true)) made
           ∙ c.loop-left.invariant.settled;
       table = c.round.ensures.table ∙ c.loop-left.invariant.table;
+      origin = c.round.ensures.origin ∙ c.loop-left.invariant.origin;
       sides = c.round.ensures.sides ∙ c.loop-left.invariant.sides;
       keeps = keeps_on run watch c.step-in-loop-left.new.self kept c.step-in-loop-left.new.kept now next step
           c.loop-left.invariant.keeps c.in_ok-left-2.ensures.goes;
@@ -72,6 +74,9 @@ round-requires g c =
 pub returns-then-not-round-clause-table : goal.returns-then-not-round-clause-table
 returns-then-not-round-clause-table g c = c.round.ensures.table ∙ c.loop-left.invariant.table
 
+pub returns-then-not-round-clause-origin : goal.returns-then-not-round-clause-origin
+returns-then-not-round-clause-origin g c = c.round.ensures.origin ∙ c.loop-left.invariant.origin
+
 pub returns-then-not-round-clause-sides : goal.returns-then-not-round-clause-sides
 returns-then-not-round-clause-sides g c = c.round.ensures.sides ∙ c.loop-left.invariant.sides
 
@@ -80,6 +85,9 @@ returns-then-not-round-clause-rooms g c = c.round.ensures.rooms ∙ c.loop-left.
 
 pub returns-clause-table : goal.returns-clause-table
 returns-clause-table g c = c.loop-left.invariant.table
+
+pub returns-clause-origin : goal.returns-clause-origin
+returns-clause-origin g c = c.loop-left.invariant.origin
 
 pub returns-clause-sides : goal.returns-clause-sides
 returns-clause-sides g c = c.loop-left.invariant.sides

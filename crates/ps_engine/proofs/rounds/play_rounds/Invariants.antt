@@ -17,6 +17,7 @@ invariant-loop-left g l =
       settled : settled (rules_meaning table l.rules) l.left true now
           ≡ settled (rules_meaning table l.rules) l.most true before;
       table : g.B.Board.table l.board ≡ table;
+      origin : g.B.Board.origin l.board ≡ g.B.Board.origin l.fn.board;
       sides : sides_of (g.B.Board.grid l.board) ≡ sides_of (g.B.Board.grid l.fn.board);
       keeps : Keeps run l.watch l.kept now;
     }

@@ -34,6 +34,7 @@ loop-number-preserved g c =
           c.behind_lacking-next.ensures.from idle
           ∙ was.round;
       table = c.attempt-changed.ensures.table ∙ was.table;
+      origin = c.attempt-changed.ensures.origin ∙ was.origin;
       sides = c.attempt-changed.ensures.sides ∙ was.sides;
       rooms = c.attempt-changed.ensures.rooms ∙ was.rooms;
     }
@@ -55,6 +56,9 @@ returns-then-next-rules-clause-round g c =
 pub returns-then-next-rules-clause-table : goal.returns-then-next-rules-clause-table
 returns-then-next-rules-clause-table g c = c.loop-number.invariant.table
 
+pub returns-then-next-rules-clause-origin : goal.returns-then-next-rules-clause-origin
+returns-then-next-rules-clause-origin g c = c.loop-number.invariant.origin
+
 pub returns-then-next-rules-clause-sides : goal.returns-then-next-rules-clause-sides
 returns-then-next-rules-clause-sides g c = c.loop-number.invariant.sides
 
@@ -72,11 +76,14 @@ returns-clause-round g c =
 pub returns-clause-table : goal.returns-clause-table
 returns-clause-table g c = c.loop-number.invariant.table
 
+pub returns-clause-origin : goal.returns-clause-origin
+returns-clause-origin g c = c.loop-number.invariant.origin
+
 pub returns-clause-sides : goal.returns-clause-sides
 returns-clause-sides g c = c.loop-number.invariant.sides
 
 pub loop-number-init : goal.loop-number-init
-loop-number-init g c = record { round = refl; table = refl; sides = refl; rooms = refl }
+loop-number-init g c = record { round = refl; table = refl; origin = refl; sides = refl; rooms = refl }
 
 pub attempt-changed-requires : goal.attempt-changed-requires
 attempt-changed-requires g c =

@@ -15,6 +15,7 @@ invariant-loop-number g l =
       round : after_change l.changed (round (map (rule_meaning table) (drop l.number l.rules)) now) ≡ round
           (rules_meaning table l.rules) before;
       table : g.B.Board.table l.board ≡ table;
+      origin : g.B.Board.origin l.board ≡ g.B.Board.origin l.fn.board;
       sides : sides_of (g.B.Board.grid l.board) ≡ sides_of (g.B.Board.grid l.fn.board);
       rooms : length l.rooms ≡ length l.fn.rooms;
     }

@@ -24,6 +24,7 @@ loop-number-init g c =
           (slice_get_read c.args.rooms.now _ 0 room refl (omega (arith, some, c.requires.long)) c.index-rooms-0.is)
           refl);
       table = c.rewrite_fitting-any.ensures.table;
+      origin = c.rewrite_fitting-any.ensures.origin;
       sides = c.rewrite_fitting-any.ensures.sides;
     }
 
@@ -50,6 +51,7 @@ loop-number-preserved g c =
           c.index-rooms-number.is) (omega arith))
           ∙ c.loop-number.invariant.rewritten;
       table = c.rewrite-any.ensures.table ∙ c.loop-number.invariant.table;
+      origin = c.rewrite-any.ensures.origin ∙ c.loop-number.invariant.origin;
       sides = c.rewrite-any.ensures.sides ∙ c.loop-number.invariant.sides;
     }
 
@@ -72,6 +74,9 @@ returns-then-is_empty-clause-rewritten g c =
 pub returns-then-is_empty-clause-table : goal.returns-then-is_empty-clause-table
 returns-then-is_empty-clause-table g c = refl
 
+pub returns-then-is_empty-clause-origin : goal.returns-then-is_empty-clause-origin
+returns-then-is_empty-clause-origin g c = refl
+
 pub returns-then-is_empty-clause-sides : goal.returns-then-is_empty-clause-sides
 returns-then-is_empty-clause-sides g c = refl
 
@@ -93,6 +98,9 @@ returns-clause-rewritten g c =
 
 pub returns-clause-table : goal.returns-clause-table
 returns-clause-table g c = c.loop-number.invariant.table
+
+pub returns-clause-origin : goal.returns-clause-origin
+returns-clause-origin g c = c.loop-number.invariant.origin
 
 pub returns-clause-sides : goal.returns-clause-sides
 returns-clause-sides g c = c.loop-number.invariant.sides

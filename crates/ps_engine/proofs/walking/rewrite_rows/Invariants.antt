@@ -17,5 +17,6 @@ invariant-loop-number g l =
       rewritten : rewritten_from table height l.rows l.rooms l.number now ≡ rewritten_rows before
           (rows_meaning table l.rows) (chosen (choices_of height l.rows l.rooms));
       table : g.B.Board.table l.board ≡ table;
+      origin : g.B.Board.origin l.board ≡ g.B.Board.origin l.fn.board;
       sides : sides_of (g.B.Board.grid l.board) ≡ sides_of (g.B.Board.grid l.fn.board);
     }

@@ -101,5 +101,6 @@ loop-sleeps-preserved g c =
           c.loop-sleeps.invariant.fit made c.slowest_unfit-first.ensures.passed
           ∙ c.loop-sleeps.invariant.rewritten;
       table = e;
+      origin = c.rewrite_rows-changed.ensures.origin ∙ c.loop-sleeps.invariant.origin;
       sides = c.rewrite_rows-changed.ensures.sides ∙ c.loop-sleeps.invariant.sides;
     }

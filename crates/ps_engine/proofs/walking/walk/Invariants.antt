@@ -22,6 +22,7 @@ invariant-loop-sleeps g l =
       rewritten : fold (applied meant) now (chosen choices ∷ behind choices) ≡ fold (applied meant) before
           (chosen first ∷ behind first);
       table : g.B.Board.table l.board ≡ table;
+      origin : g.B.Board.origin l.board ≡ g.B.Board.origin l.fn.board;
       sides : sides_of now.grid ≡ sides_of before.grid;
     }
 

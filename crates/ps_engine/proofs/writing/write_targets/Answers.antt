@@ -23,6 +23,7 @@ loop-row-init g c =
       rewritten = no_row_behind start becomes c.args.axis c.args.steps c.args.rows c.args.room.now.starts.items
           c.recall_shape.ensures.shape;
       table = refl;
+      origin = refl;
     }
 
 pub write_behind-changed-requires : goal.write_behind-changed-requires
@@ -66,6 +67,7 @@ loop-row-preserved g c =
           (r : Rewritten). r.grid) made)
           (ap (λ (r : Rewritten). any || r.changed) made);
       table = c.write_behind-changed.ensures.table ∙ c.loop-row.invariant.table;
+      origin = c.write_behind-changed.ensures.origin ∙ c.loop-row.invariant.origin;
     }
 
 pub returns-clause-rewritten : goal.returns-clause-rewritten

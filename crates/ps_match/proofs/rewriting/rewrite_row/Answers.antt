@@ -20,6 +20,7 @@ loop-column-init g c =
     record {
       rewritten = no_column_yet start becomes c.args.row c.args.columns;
       table = refl;
+      origin = refl;
     }
 
 pub write_if-changed-requires : goal.write_if-changed-requires
@@ -66,6 +67,7 @@ loop-column-preserved g c =
           c.requires c.loop-column.invariant.rewritten
           (ap (λ (h : ℕ). column * h + row) c.size-width.ensures.height) c.has-wanted.ensures grid changed;
       table = c.write_if-changed.ensures.table ∙ same;
+      origin = c.write_if-changed.ensures.origin ∙ c.loop-column.invariant.origin;
     }
 
 pub returns-clause-rewritten : goal.returns-clause-rewritten

@@ -15,4 +15,5 @@ invariant-loop-column g l =
       rewritten : told (g.B.Board.grid l.board) l.changed ≡ rewritten_where start becomes
           (passed start.height l.row l.columns l.column);
       table : g.B.Board.table l.board ≡ g.B.Board.table l.fn.board;
+      origin : g.B.Board.origin l.board ≡ g.B.Board.origin l.fn.board;
     }

@@ -23,6 +23,7 @@ loop-layer-init g c =
           h) (sym (set-get_or start.cells c.args.cell []));
       changed = refl;
       table = refl;
+      origin = refl;
     }
 
 pub loop-layer-preserved : goal.loop-layer-preserved
@@ -62,6 +63,7 @@ loop-layer-preserved g c =
           ∙ changed_more c.loop-layer.any old new layer (layer + 1) same low refl
           ∙ c.loop-layer.invariant.changed;
       table = c.write_slot-any.ensures.table ∙ c.loop-layer.invariant.table;
+      origin = c.write_slot-any.ensures.origin ∙ c.loop-layer.invariant.origin;
     }
 
 pub returns-clause-grid : goal.returns-clause-grid

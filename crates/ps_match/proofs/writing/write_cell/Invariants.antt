@@ -18,4 +18,5 @@ invariant-loop-layer g l =
       changed : (l.any || not (same_cell (drop l.layer old) (drop l.layer new))) ≡
           (l.fn.changed || not (same_cell old new));
       table : g.B.Board.table l.board ≡ g.B.Board.table l.fn.board;
+      origin : g.B.Board.origin l.board ≡ g.B.Board.origin l.fn.board;
     }

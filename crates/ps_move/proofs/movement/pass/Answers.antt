@@ -26,6 +26,7 @@ loop-column-init g c =
         before = λ column less. absurd (omega (arith, less));
         still = λ column row low across down out. c.moving_columns-left.ensures.still column row across down out;
         table = refl;
+        origin = refl;
       },
     )
 
@@ -103,6 +104,7 @@ loop-column-preserved g c =
             (taken_out set left column other some narrow
             ∙ ap (λ (b : Bool). b || column_at left other) (ne_eqb other column (omega (arith, low))) ∙ out);
         table = c.visit_column-went.ensures.table ∙ was.table;
+        origin = c.visit_column-went.ensures.origin ∙ was.origin;
       },
     )
 

@@ -18,6 +18,7 @@ invariant-loop-column g l =
       still : (column row : ℕ) → next ≤ column → column < old.width → row < old.height →
           column_at l.left column ≡ false → is_moving (slot_at old (column * old.height + row) l.fn.layer.0) ≡ false;
       table : g.B.Board.table l.board ≡ g.B.Board.table l.fn.board;
+      origin : g.B.Board.origin l.board ≡ g.B.Board.origin l.fn.board;
     })
 
 abbrev pub decreases-loop-column : goal.decreases-loop-column

@@ -23,6 +23,7 @@ loop-layer-init g c = (
     none = λ _. refl;
     passes = passes_none (g.B.Board.grid c.args.board.now) 0;
     table = refl;
+    origin = refl;
   },
 )
 
@@ -87,6 +88,7 @@ loop-layer-preserved g c =
             (g.B.Board.grid c.loop-layer.board) (g.B.Board.grid c.slide_layer-moved.new.board) 0 c.loop-layer.layer
             (c.loop-layer.layer + 1) was.passes c.slide_layer-moved.ensures.passes;
         table = c.slide_layer-moved.ensures.table ∙ was.table;
+        origin = c.slide_layer-moved.ensures.origin ∙ was.origin;
       },
     )
 

@@ -11,4 +11,5 @@ invariant-loop-layer g l =
       none : l.passes ≡ 1 → moved ≡ 0;
       passes : ArePasses moved (g.B.Board.grid l.fn.board) (g.B.Board.grid l.board) 0 l.layer;
       table : g.B.Board.table l.board ≡ g.B.Board.table l.fn.board;
+      origin : g.B.Board.origin l.board ≡ g.B.Board.origin l.fn.board;
     })

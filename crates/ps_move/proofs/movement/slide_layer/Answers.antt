@@ -12,6 +12,7 @@ pub loop-layer-init : goal.loop-layer-init
 loop-layer-init g c = record {
   passes = passes_none (g.B.Board.grid c.args.board.now) (c.args.layer).0;
   table = refl;
+  origin = refl;
 }
 
 pub pass-requires-clause-shape : goal.pass-requires-clause-shape
@@ -52,6 +53,7 @@ loop-layer-preserved g c =
       passes = passes_more c.loop-layer.passes (g.B.Board.grid c.args.board.now) old new layer layer c.requires.shape
           c.loop-layer.invariant.passes (subst P c.loop-layer-test.true c.pass.ensures.part);
       table = c.pass.ensures.table ∙ c.loop-layer.invariant.table;
+      origin = c.pass.ensures.origin ∙ c.loop-layer.invariant.origin;
     }
 
 pub returns-clause-passes : goal.returns-clause-passes

@@ -8,6 +8,7 @@ invariant-loop-layer g l =
     record {
       passes : ArePasses l.passes (g.B.Board.grid l.fn.board) (g.B.Board.grid l.board) l.fn.layer.0 l.fn.layer.0;
       table : g.B.Board.table l.board ≡ g.B.Board.table l.fn.board;
+      origin : g.B.Board.origin l.board ≡ g.B.Board.origin l.fn.board;
     }
 
 -- each pass but the last leaves fewer objects with a direction

@@ -29,6 +29,7 @@ loop-row-init g c =
         before = λ row less. absurd (omega (arith, less));
         still = λ row low down out. c.requires.still row down out;
         table = refl;
+        origin = refl;
       },
     )
 
@@ -94,6 +95,7 @@ loop-row-preserved g c =
             (taken_out set left row other some narrow
             ∙ ap (λ (b : Bool). b || column_at left other) (ne_eqb other row (omega (arith, low))) ∙ out);
         table = c.visit-went.ensures.table ∙ was.table;
+        origin = c.visit-went.ensures.origin ∙ was.origin;
       },
     )
 

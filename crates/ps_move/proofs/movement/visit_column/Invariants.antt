@@ -19,6 +19,7 @@ invariant-loop-row g l =
       still : (row : ℕ) → next ≤ row → row < old.height → column_at l.left row ≡ false →
           is_moving (slot_at old (start + row) l.fn.layer.0) ≡ false;
       table : g.B.Board.table l.board ≡ g.B.Board.table l.fn.board;
+      origin : g.B.Board.origin l.board ≡ g.B.Board.origin l.fn.board;
     })
 
 abbrev pub decreases-loop-row : goal.decreases-loop-row

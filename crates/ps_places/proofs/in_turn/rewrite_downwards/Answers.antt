@@ -52,6 +52,7 @@ loop-row-preserved g c =
           ∙ sym (row_before c.loop-row.changed now start.width start.height all row _))
           ∙ c.loop-row.invariant.rewritten;
       table = c.rewrite_fitting-changed.ensures.table ∙ c.loop-row.invariant.table;
+      origin = c.rewrite_fitting-changed.ensures.origin ∙ c.loop-row.invariant.origin;
       sides = c.rewrite_fitting-changed.ensures.sides ∙ c.loop-row.invariant.sides;
     }
 

@@ -19,6 +19,7 @@ invariant-loop-row g l =
           (set_columns l.left)
           ≡ rows_in_turn start.width start.height all l.starts (told start false) (set_columns l.fn.rows);
       table : g.B.Board.table l.board ≡ table;
+      origin : g.B.Board.origin l.board ≡ g.B.Board.origin l.fn.board;
       sides : sides_of (g.B.Board.grid l.board) ≡ sides_of start;
     }
 

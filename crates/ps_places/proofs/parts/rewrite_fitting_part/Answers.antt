@@ -67,6 +67,7 @@ loop-cell-preserved g c =
           ∙ left-fits before meaning table c.args.part.now along (index + 1) number found some
           ∙ both.1;
       table = c.write_fitting-any.ensures.table ∙ c.loop-cell.invariant.table;
+      origin = c.write_fitting-any.ensures.origin ∙ c.loop-cell.invariant.origin;
       cells =
           ap (λ (r : Rewritten). length (r.grid).cells) wrote
           ∙ same_length before meaning number found

@@ -19,6 +19,7 @@ invariant-loop-cell g l =
           ≡ rewritten_from now table l.part (step_along l.fn.axis height) l.cell-index l.number;
       fit : fits_from (g.B.Board.grid l.board) table l.part (step_along l.fn.axis height) l.cell-index l.number ≡ true;
       table : g.B.Board.table l.board ≡ table;
+      origin : g.B.Board.origin l.board ≡ g.B.Board.origin l.fn.board;
       cells : length (g.B.Board.grid l.board).cells ≡ length (g.B.Board.grid l.fn.board).cells;
       sides : sides_of (g.B.Board.grid l.board) ≡ sides_of (g.B.Board.grid l.fn.board);
     }

@@ -21,6 +21,7 @@ returns-then-number-ge-CELL_LIMIT g c =
           (step_along c.args.axis grid.height) c.loop-cell.number (length c.args.part.now - c.loop-cell.cell-index)
           (omega (arith, few, c.loop-cell.invariant.cells, c.if-number-ge-CELL_LIMIT.true)));
       table = c.loop-cell.invariant.table;
+      origin = c.loop-cell.invariant.origin;
       sides = c.loop-cell.invariant.sides;
     }
 
@@ -47,6 +48,7 @@ loop-cell-preserved g c =
           ∙ ap₂ (λ (r : Rewritten) (n : ℕ). rewritten_from r table c.args.part.now (step_along c.args.axis grid.height)
           (c.loop-cell.cell-index + 1) (c.loop-cell.number + n)) (sym wrote) (sym step);
       table = c.write-any.ensures.table ∙ c.loop-cell.invariant.table;
+      origin = c.write-any.ensures.origin ∙ c.loop-cell.invariant.origin;
       cells =
           ap (λ (r : Rewritten). length (r.grid).cells) wrote
           ∙ same_length before meaning c.loop-cell.number (slice_get (before.grid).cells c.loop-cell.number)

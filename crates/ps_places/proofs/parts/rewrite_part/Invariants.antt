@@ -18,6 +18,7 @@ invariant-loop-cell g l =
           (line_cells l.fn.axis height l.line l.position (length l.part))
           ≡ rewritten_from now table l.part (step_along l.fn.axis height) l.cell-index l.number;
       table : g.B.Board.table l.board ≡ table;
+      origin : g.B.Board.origin l.board ≡ g.B.Board.origin l.fn.board;
       cells : length (g.B.Board.grid l.board).cells ≡ length (g.B.Board.grid l.fn.board).cells;
       sides : sides_of (g.B.Board.grid l.board) ≡ sides_of (g.B.Board.grid l.fn.board);
     }

@@ -35,5 +35,6 @@ loop-cell-preserved g c =
           c.rewrite_cell-any.ensures.rewritten;
       steps = ap (λ (n : ℕ). n + 1) c.loop-cell.invariant.steps;
       table = c.rewrite_cell-any.ensures.table ∙ c.loop-cell.invariant.table;
+      origin = c.rewrite_cell-any.ensures.origin ∙ c.loop-cell.invariant.origin;
       sides = c.rewrite_cell-any.ensures.sides ∙ c.loop-cell.invariant.sides;
     }

@@ -15,5 +15,6 @@ invariant-loop-cell g l =
           ≡ cells_changed now table l.fn.axis l.fn.row l.fn.columns l.cell-index (drop l.cell-index l.part);
       steps : l.steps ≡ l.cell-index;
       table : g.B.Board.table l.board ≡ table;
+      origin : g.B.Board.origin l.board ≡ g.B.Board.origin l.fn.board;
       sides : sides_of (g.B.Board.grid l.board) ≡ sides_of (g.B.Board.grid l.fn.board);
     }

@@ -17,6 +17,7 @@ loop-row-init g c =
           rows_none (g.B.Board.grid c.args.board.now) (g.B.Board.table c.args.board.now) c.args.axis c.args.part.now
           c.args.rows c.args.starts.now grid some found alone;
       table = refl;
+      origin = refl;
       sides = refl;
     }
 
@@ -52,6 +53,7 @@ loop-row-preserved g c =
           (c.index-starts-row.is ∙ get_or_default c.args.starts.now row columns []
           (omega (arith, first.1, c.requires.long))));
       table = c.rewrite_row-changed.ensures.table ∙ c.loop-row.invariant.table;
+      origin = c.rewrite_row-changed.ensures.origin ∙ c.loop-row.invariant.origin;
       sides = c.rewrite_row-changed.ensures.sides ∙ c.loop-row.invariant.sides;
     }
 

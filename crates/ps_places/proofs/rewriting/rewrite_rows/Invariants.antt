@@ -23,6 +23,7 @@ invariant-loop-row g l =
           told (g.B.Board.grid l.board) l.changed
           ≡ rows_done start table l.fn.axis l.part l.fn.rows l.starts grid some found alone l.left;
       table : g.B.Board.table l.board ≡ table;
+      origin : g.B.Board.origin l.board ≡ g.B.Board.origin l.fn.board;
       sides : sides_of (g.B.Board.grid l.board) ≡ sides_of start;
     }
 

@@ -34,6 +34,7 @@ loop-column-init g c =
           (omega (arith, across, shape.columns)))
           ∙ ap (λ (columns : List Bool). column_at columns x) (sym c.layer_columns-standing.ensures) ∙ out));
       table = refl;
+      origin = refl;
     }
 
 pub give_slot-requires : goal.give_slot-requires
@@ -95,6 +96,7 @@ loop-column-preserved g c =
           (subst (λ (h : Grid). At h column) (sym made) (slot_changed change again refl now cell layer within low))
           (λ x under apart is. stay (x * grid.height + c.args.row) layer is) inv.passed;
       table = c.give_slot.ensures.table ∙ inv.table;
+      origin = c.give_slot.ensures.origin ∙ inv.origin;
     }
 
 pub returns-clause-here : goal.returns-clause-here

@@ -18,6 +18,7 @@ invariant-loop-column g l =
           (λ x. IsSlotChanged (slot_set_moving l.moved l.motion) now (x * start.height + l.row) (l.layer).0)
           start.width l.left;
       table : g.B.Board.table l.board ≡ g.B.Board.table l.fn.board;
+      origin : g.B.Board.origin l.board ≡ g.B.Board.origin l.fn.board;
     }
 
 abbrev pub decreases-loop-column : goal.decreases-loop-column

@@ -30,6 +30,7 @@ loop-row-init g c =
           c.both-left.result rested.height shape.rows below c.both-left.ensures
           (row_kept c.args.moved.now c.args.motion rested c.rows_with-standing.result held));
       table = c.clear_moves.ensures.table;
+      origin = c.clear_moves.ensures.origin;
     }
 
 pub give_row-requires : goal.give_row-requires
@@ -61,6 +62,7 @@ loop-row-preserved g c =
           (λ other low apart are x across. c.give_row.ensures.changed.kept (x * rested.height + other) (are x across))
           inv.passed;
       table = c.give_row.ensures.table ∙ inv.table;
+      origin = c.give_row.ensures.origin ∙ inv.origin;
     }
 
 pub returns-clause-moved : goal.returns-clause-moved

@@ -15,6 +15,7 @@ invariant-loop-row g l =
       low : AreBelow rested.height l.left;
       passed : ArePassed (IsRowChanged (map (slot_set_moving l.moved l.motion)) rested now) rested.height l.left;
       table : g.B.Board.table l.board ≡ g.B.Board.table l.fn.board;
+      origin : g.B.Board.origin l.board ≡ g.B.Board.origin l.fn.board;
     }
 
 abbrev pub decreases-loop-row : goal.decreases-loop-row

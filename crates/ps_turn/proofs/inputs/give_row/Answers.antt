@@ -14,6 +14,7 @@ loop-layer-init g c =
       changed = none_changed (map (slot_set_moving c.args.moved.now c.args.motion)) (g.B.Board.grid c.args.board.now);
       passed = λ layer low. absurd (omega (arith, low));
       table = refl;
+      origin = refl;
     }
 
 pub give_layer-requires-clause-layer : goal.give_layer-requires-clause-layer
@@ -45,6 +46,7 @@ loop-layer-preserved g c =
         | inr last ↦ let same : layer ≡ c.loop-layer.layer = omega (arith, low, last) in rw same (here x across)
       ];
       table = c.give_layer.ensures.table ∙ inv.table;
+      origin = c.give_layer.ensures.origin ∙ inv.origin;
     }
 
 pub returns-clause-here : goal.returns-clause-here

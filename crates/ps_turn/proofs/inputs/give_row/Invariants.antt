@@ -12,4 +12,5 @@ invariant-loop-layer g l =
       changed : AreChanged (map (slot_set_moving l.moved l.motion)) start now;
       passed : (layer : ℕ) → layer < l.layer → IsLayerChanged (slot_set_moving l.moved l.motion) start now layer l.row;
       table : g.B.Board.table l.board ≡ g.B.Board.table l.fn.board;
+      origin : g.B.Board.origin l.board ≡ g.B.Board.origin l.fn.board;
     }

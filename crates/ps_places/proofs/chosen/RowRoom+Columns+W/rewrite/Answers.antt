@@ -54,5 +54,6 @@ loop-number-preserved g c =
           ∙ row-rewritten-next before table axis height line parts way number part 0 low (omega (arith, low, long)) is
           ∙ ap (λ (r : Rewritten). row_rewritten_from r table axis height line parts way (number + 1)) (sym wrote);
       table = c.rewrite_part-any.ensures.table ∙ c.loop-number.invariant.table;
+      origin = c.rewrite_part-any.ensures.origin ∙ c.loop-number.invariant.origin;
       sides = c.rewrite_part-any.ensures.sides ∙ c.loop-number.invariant.sides;
     }

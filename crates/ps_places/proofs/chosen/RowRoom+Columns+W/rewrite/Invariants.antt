@@ -17,5 +17,6 @@ invariant-loop-number g l =
           rewritten_along before (cells_meaning table l.row.parts) (place_at height l.row l.self)
           ≡ row_rewritten_from now table l.row.axis height l.self.line l.row.parts (way_of l.row l.self) l.number;
       table : g.B.Board.table l.board ≡ table;
+      origin : g.B.Board.origin l.board ≡ g.B.Board.origin l.fn.board;
       sides : sides_of (g.B.Board.grid l.board) ≡ sides_of (g.B.Board.grid l.fn.board);
     }

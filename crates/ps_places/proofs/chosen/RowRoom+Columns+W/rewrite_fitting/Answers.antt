@@ -27,6 +27,7 @@ loop-number-init g c =
           ∙ c.requires.fits;
       spaced = (0, c.requires.spaced);
       table = refl;
+      origin = refl;
       sides = refl;
     }
 
@@ -117,5 +118,6 @@ loop-number-preserved g c =
           (drop (number + 1) way) some still wrote spaced both.1;
       spaced = (get_or way number 0 + length part, spaced);
       table = c.rewrite_fitting_part-any.ensures.table ∙ c.loop-number.invariant.table;
+      origin = c.rewrite_fitting_part-any.ensures.origin ∙ c.loop-number.invariant.origin;
       sides = c.rewrite_fitting_part-any.ensures.sides ∙ c.loop-number.invariant.sides;
     }

@@ -24,5 +24,6 @@ invariant-loop-number g l =
       spaced : (from : ℕ) × IsSpaced (part_sizes (drop l.number l.row.parts)) from
           (drop l.number (way_of l.row l.self));
       table : g.B.Board.table l.board ≡ table;
+      origin : g.B.Board.origin l.board ≡ g.B.Board.origin l.fn.board;
       sides : sides_of (g.B.Board.grid l.board) ≡ sides_of (g.B.Board.grid l.fn.board);
     }

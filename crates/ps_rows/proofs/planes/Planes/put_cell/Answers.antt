@@ -1,5 +1,5 @@
 use Rattle.std.specs.Prelude.{nat_eq, if◌then◌else◌}
-use Rattle.std.proofs.Common.{◌∙◌, ◌%◌, ◌/◌, true, refl, Bool, List, subst, sym}
+use Rattle.std.proofs.Common.{◌%◌, ◌/◌, true, refl, Bool, List, subst, sym}
 use Rattle.ps_board.specs.ColumnSets.{column_at}
 use Rattle.ps_rows.specs.Planes.{IsSet}
 use Rattle.ps_rows.proofs.Sets.{set_where}

@@ -2,6 +2,7 @@ use Rattle.std.proofs.Common.{◌≡◌, ◌∙◌, ℕ, false, length, sym, ap}
 use Rattle.std.specs.Prelude.{nat_le}
 use Rattle.std.specs.List.{list_any}
 use Rattle.std.proofs.lemmas.Bool.{or_parts}
+use Rattle.ps_board.proofs.AllRows.{none_outside}
 use Rattle.ps_rows.proofs.RowDifferences.{rows_rest}
 use Rattle.ps_rows.proofs.row_board.RowBoard.change_rows.Goals as goal
 
@@ -23,3 +24,9 @@ invariant_of-self-clause-objects g c =
 pub invariant_of-self-clause-motions : goal.invariant_of-self-clause-motions
 invariant_of-self-clause-motions g c =
     rw (c.change_rows.ensures.words, c.change_rows.ensures.height) c.requires.motions
+
+pub invariant_of-self-clause-noted : goal.invariant_of-self-clause-noted
+invariant_of-self-clause-noted g c =
+    let b = c.args.self.now in
+    rw c.change_rows.ensures.height (λ plane below row under off.
+    absurd (none_outside b.planes.height c.below-self.result b.planes.rows c.below-self.ensures row under off))

@@ -1,4 +1,4 @@
-use Rattle.std.proofs.Common.{◌≡◌, ◌+◌, ◌*◌, ◌<◌, ◌≤◌, ◌&&◌, ◌∙◌, ℕ, Bool, List, subst, sym, ap, arith}
+use Rattle.std.proofs.Common.{◌≡◌, ◌+◌, ◌*◌, ◌<◌, ◌&&◌, ◌∙◌, Bool, List, subst, sym, ap, arith}
 use Rattle.ps_model.specs.declared.compiled.LayeredObject.{LayeredObject}
 use Rattle.ps_model.specs.declared.compiled.MotionTest.{MotionTest}
 use Rattle.ps_model.specs.declared.pieces.Slot.{Slot}

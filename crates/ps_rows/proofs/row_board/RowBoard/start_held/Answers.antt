@@ -1,4 +1,4 @@
-use Rattle.std.proofs.Common.{◌≡◌, ◌∙◌, ℕ, ◌+◌, ◌<◌, List, Bool, [], length, replicate, subst, sym, ap}
+use Rattle.std.proofs.Common.{◌∙◌, ℕ, ◌+◌, ◌<◌, List, Bool, [], length, replicate, subst, sym, ap}
 use Rattle.std.specs.Prelude.{slice_index_or}
 use Rattle.std.proofs.lemmas.List.{get_or-replicate, length-replicate}
 use Rattle.ps_model.specs.board.Grid.{Grid}

@@ -24,6 +24,7 @@ loop-layer-init g c =
       height = done.height;
       layers = done.layers;
       table = done.table;
+      origin = done.origin;
     }
 
 pub loop-layer-preserved : goal.loop-layer-preserved
@@ -78,6 +79,7 @@ loop-layer-preserved g c =
       height = c.write_if-any.ensures.height ∙ was.height;
       layers = c.write_if-any.ensures.layers ∙ was.layers;
       table = c.write_if-any.ensures.table ∙ was.table;
+      origin = c.write_if-any.ensures.origin ∙ was.origin;
     }
 
 pub returns-clause-rewritten : goal.returns-clause-rewritten

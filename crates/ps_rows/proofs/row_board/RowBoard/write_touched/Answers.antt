@@ -40,6 +40,7 @@ loop-layer-init g c =
       height = refl;
       layers = refl;
       table = refl;
+      origin = refl;
       below = first_below touched b.layers write so;
       near = first_near touched b.layers write so;
     }
@@ -104,6 +105,7 @@ loop-layer-preserved g c =
       height = c.write_layer-any.ensures.height ∙ was.height;
       layers = c.write_layer-any.ensures.layers ∙ was.layers;
       table = c.write_layer-any.ensures.table ∙ was.table;
+      origin = c.write_layer-any.ensures.origin ∙ was.origin;
       below = below-more set more b.layers layer is was.below;
       near = below-more set more WORD_BITS layer is was.near;
     }

@@ -26,6 +26,7 @@ invariant-loop-layer g l =
       height : l.self.planes.height ≡ b.planes.height;
       layers : l.self.layers ≡ b.layers;
       table : l.self.members.table.items ≡ b.members.table.items;
+      origin : l.self.origin.value ≡ b.origin.value;
       below : AreBelow b.layers l.left;
       near : AreBelow WORD_BITS l.left;
     }

@@ -1,7 +1,8 @@
-use Rattle.std.proofs.Common.{◌≡◌, ℕ, ◌*◌, ◌≤◌, ◌∙◌, List, length, sym, ap, arith}
+use Rattle.std.proofs.Common.{◌≡◌, ℕ, ◌*◌, ◌≤◌, ◌∙◌, Bool, List, length, sym, ap, arith}
 use Rattle.ps_rows.specs.Showing.{cleared_from, motions_from}
 use Rattle.ps_rows.proofs.PlaneCopies.{behind_plane, cleared_empty}
-use Rattle.ps_rows.proofs.Rests.{rested_objects, rested_motions}
+use Rattle.ps_rows.proofs.Rests.{rested_objects, rested_motions, row_kept}
+use Rattle.ps_rows.proofs.Touched.{planes_stay}
 use Rattle.ps_rows.proofs.Whole.{rest_grid}
 use Rattle.ps_rows.proofs.row_board.RowBoardBoard.clear_moves.Goals as goal
 
@@ -35,6 +36,19 @@ invariant_of-self-clause-motions g c =
     rw (c.clear_moved.ensures.words, c.clear_moved.ensures.height, c.count-first.ensures.value)
     (rested_motions table b.layers b.planes.height (b.width * b.planes.height) b.planes.words.items b.planes.some_row
     (sym b.planes.words.ok.0 ∙ b.whole))
+
+pub invariant_of-self-clause-noted : goal.invariant_of-self-clause-noted
+invariant_of-self-clause-noted g c =
+    let b = c.args.self.now in
+    let table : List ℕ = b.members.table.items in
+    let height : ℕ = b.planes.height in
+    let words : List (List Bool) = b.planes.words.items in
+    rw (c.clear_moved.ensures.words, c.clear_moved.ensures.height, c.count-first.ensures.value)
+    (planes_stay height (length table) b.origin.value.items words (cleared_from (length table * height) words)
+    b.touched b.noted
+    (λ plane below row under off.
+    sym (row_kept table b.layers height 0 words b.planes.some_row (sym b.planes.words.ok.0 ∙ b.whole) plane row below
+    under)))
 
 pub returns-clause-grid : goal.returns-clause-grid
 returns-clause-grid g c =

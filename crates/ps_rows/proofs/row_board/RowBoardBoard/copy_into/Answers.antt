@@ -1,6 +1,7 @@
-use Rattle.std.proofs.Common.{◌∙◌, sym}
+use Rattle.std.proofs.Common.{◌∙◌, length, ap, sym}
 use Rattle.std.proofs.lemmas.Option.{same_Some}
 use Rattle.ps_rows.proofs.Alike.{other_whole}
+use Rattle.ps_rows.proofs.Touched.{none_touched}
 use Rattle.ps_rows.proofs.Whole.{copied_grid, copied_motions, copied_objects, copied_rest, copied_whole}
 use Rattle.ps_rows.proofs.row_board.RowBoardBoard.copy_into.Goals as goal
 
@@ -44,6 +45,13 @@ invariant_of-other-clause-rest g c = λ still.
     o.layers b.planes.words.items new.words.items
     (same_Some o.members.table.items b.members.table.items c.requires.table) c.requires.width
     c.copy_into.ensures.height c.requires.layers c.copy_into.ensures.words (b.rest still)
+
+pub invariant_of-other-clause-noted : goal.invariant_of-other-clause-noted
+invariant_of-other-clause-noted g c =
+    let new = c.copy_into.new.other in
+    none_touched new.height (length c.args.other.now.members.table.items) new.words.items
+    c.start_anew.new.origin.value.items c.start_anew.new.touched
+    (ap (λ words. words.items) c.start_anew.ensures.origin)
 
 pub returns-clause-grid : goal.returns-clause-grid
 returns-clause-grid g c =

@@ -1,4 +1,4 @@
-use Rattle.std.proofs.Common.{◌≡◌, ◌∙◌, ◌*◌, ◌≤◌, ℕ, List, length, refl, sym, subst, arith, Bool}
+use Rattle.std.proofs.Common.{◌≡◌, ◌∙◌, ◌*◌, ◌≤◌, ℕ, List, length, ap, refl, sym, subst, arith, Bool}
 use Rattle.std.proofs.lemmas.Option.{same_Some}
 use Rattle.ps_rows.specs.PlaneCopies.{AreRowsOf}
 use Rattle.ps_rows.specs.Showing.{AreMotionsShown, AreObjectsShown, cleared_from, motions_from}
@@ -7,6 +7,7 @@ use Rattle.ps_rows.proofs.Alike.{other_objects, other_whole}
 use Rattle.ps_rows.proofs.PlaneCopies.{behind_plane, cleared_empty, rest_left}
 use Rattle.ps_rows.proofs.CopiesShown.{objects_copied, rows_copied, rows_left}
 use Rattle.ps_rows.proofs.Rests.{rested_motions, rested_objects}
+use Rattle.ps_rows.proofs.Touched.{none_touched}
 use Rattle.ps_rows.proofs.row_board.RowBoardBoard.copy_rows.Goals as goal
 
 pub clear_moved-requires-clause-rest : goal.clear_moved-requires-clause-rest
@@ -28,6 +29,13 @@ clear_moved-requires-clause-rest g c = λ still.
     rw (c.count-objects.ensures.value, c.copy_rows.ensures.height)
     (rest_left height (length table) c.args.rows.now b.planes.words.items o.planes.words.items copied b.planes.some_row
     are none)
+
+pub invariant_of-other-clause-noted : goal.invariant_of-other-clause-noted
+invariant_of-other-clause-noted g c =
+    let new = c.clear_moved.new.self in
+    none_touched new.height (length c.args.other.now.members.table.items) new.words.items
+    c.start_anew.new.origin.value.items c.start_anew.new.touched
+    (ap (λ words. words.items) c.start_anew.ensures.origin)
 
 pub invariant_of-other-clause-rest : goal.invariant_of-other-clause-rest
 invariant_of-other-clause-rest g c = λ still.
