@@ -100,7 +100,8 @@ def take_over(crates, checkout):
         stop(f"{checkout} is no checkout of a repository")
     for crate in crates:
         if (out_of(other, crate) / "rlib").is_dir() and not (out_of(TOP, crate) / "incremental").is_dir():
-            shutil.copytree(out_of(other, crate), out_of(TOP, crate), copy_function=link_or_copy, dirs_exist_ok=True)
+            shutil.rmtree(out_of(TOP, crate), ignore_errors=True)
+            shutil.copytree(out_of(other, crate), out_of(TOP, crate), copy_function=link_or_copy)
 
 
 def begin(task, copy, jobs, leads):

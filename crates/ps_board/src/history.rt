@@ -2,8 +2,10 @@
 
 ghost use Rattle.std.specs.Prelude.{◌≡◌, ◌++◌, ◌∷◌, [], IfOk, IfSome, List, None, OnOk, Option, Some};
 ghost use Rattle.ps_board.specs.Histories.{BoardShown, boards_before, boards_kept, latest_board};
+ghost use Rattle.ps_board.specs.Rows.{DifferOnlyOn};
 
 use crate::board::Board;
+use crate::columns::Columns;
 use ps_model::Memory;
 use std::alloc::Global;
 
@@ -30,8 +32,11 @@ pub trait History<B: Board>: Drop {
         ensures some { IfSome result (λ board.
             latest_board (boards self.now) ≡ Some (record { table = B.table board.now; grid = B.grid board.now })) };
 
-    /// Makes a board ready to enter. Its boards stay as they are; without memory none is ready for sure.
-    fn make_ready(&mut self, board: &B) -> Result<(), Memory>
+    /// Makes a board ready to enter. Its boards stay as they are; without memory none is ready for sure. Rows, where
+    /// some are given, are such that outside of them the latest board shows the same objects, at rest or not.
+    fn make_ready(&mut self, board: &B, rows: Option<&Columns<B::Words>>) -> Result<(), Memory>
+        requires { IfSome rows (λ rows. IfSome (latest_board (boards self.old)) (λ latest.
+            DifferOnlyOn rows.now latest.grid (B.grid board.now))) }
         ensures boards { boards self.new ≡ boards self.old }
         ensures ready { OnOk result
             (ready self.new ≡ Some (record { table = B.table board.now; grid = B.grid board.now })) };

@@ -153,7 +153,7 @@ layer_same table width height first second layer some objects motions = λ cell 
     (motions q (five_in (motions_from table layer) q low high))) in
     rw (object, motion) refl
 
-pub back : Option ObjectId → Option ℕ
+unfoldable pub back : Option ObjectId → Option ℕ
 back None = None
 back (Some object) = Some object.0
 

@@ -34,6 +34,9 @@ pub mod CopiesShown
 pub mod OneCell
 pub mod RowDifferences
 mod RowsAdded
+mod MixedPlanes
+mod CellObjects
+mod MixedBoards
 pub mod RowHistories
 pub mod TopicsTold
 pub mod LayersTouched

@@ -14,7 +14,7 @@ use Rattle.ps_rows.specs.Planes.{row_of}
 
 -- sets ----------------------------------------------------------------------------------------------------------------
 
-in_both : (first second both : List Bool) (x : ℕ) → x < SIDE_LIMIT → both ≡ both_columns first second →
+pub in_both : (first second both : List Bool) (x : ℕ) → x < SIDE_LIMIT → both ≡ both_columns first second →
     column_at both x ≡ true → (column_at first x ≡ true) × (column_at second x ≡ true)
 in_both first second both x low is on =
     and_parts (column_at first x) (column_at second x)

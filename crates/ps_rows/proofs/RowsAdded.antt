@@ -1,13 +1,12 @@
 -- The differences of a plane, of which those of the rows of a set are added, the least row first.
-use Rattle.std.proofs.Common.{◌≡◌, ◌∙◌, ℕ, ◌+◌, ◌*◌, ◌-◌, ◌<◌, ◌≤◌, ◌&&◌, ◌||◌, inl, inr, Bool, true, false, List, []}
+use Rattle.std.proofs.Common.{◌≡◌, ◌∙◌, ℕ, ◌+◌, ◌*◌, ◌-◌, ◌<◌, ◌≤◌, ◌||◌, inl, inr, Bool, true, false, List, []}
 use Rattle.std.proofs.Common.{◌∷◌, sym, ap, arith}
 use Rattle.std.specs.Prelude.{nat_eq}
-use Rattle.std.proofs.Math.Bool.{and-true}
-use Rattle.std.proofs.lemmas.Bool.{cases_eq, cases_lt, lt-ltb, ne_eqb, or_parts}
+use Rattle.std.proofs.lemmas.Bool.{cases_eq, cases_lt, ne_eqb, or_parts}
 use Rattle.ps_model.specs.declared.limits.TheConstants.{SIDE_LIMIT}
-use Rattle.ps_board.specs.ColumnSets.{both_columns, column_at, columns_below, set_columns}
+use Rattle.ps_board.specs.ColumnSets.{column_at, set_columns}
 use Rattle.ps_board.proofs.ColumnLaws.{first_in, none_in}
-use Rattle.ps_board.proofs.Taken.{AreBelow, below-init, below-more, first_least, in_both, taken_below, taken_gone}
+use Rattle.ps_board.proofs.Taken.{AreBelow, below-more, first_least, taken_below, taken_gone}
 use Rattle.ps_board.proofs.Taken.{taken_out}
 use Rattle.ps_rows.specs.Planes.{row_of}
 use Rattle.ps_rows.specs.RowDifferences.{Difference, LeadBothWays}
@@ -36,26 +35,6 @@ module _ (height plane : ℕ) (first second : List (List Bool)) (differences : L
       let low : next ≤ y = omega (arith, after, e) in
       let high : y < row = omega (arith, before, e) in
       ap (row_of first) (sym e) ∙ same y low high ∙ ap (row_of second) e)
-
-  -- the set is that of all rows that may differ
-  pub added_none : (set below left : List Bool) → height ≤ SIDE_LIMIT → below ≡ columns_below height →
-      left ≡ both_columns set below →
-      ((row : ℕ) → row < height → column_at set row ≡ false →
-      row_of first (plane * height + row) ≡ row_of second (plane * height + row)) →
-      LeadBothWays height (plane * height) first second differences →
-      AreAdded height plane 0 left first second differences
-  added_none set below left short b e others lead =
-      record {
-        low = below-init set below left height b e;
-        before = λ row less. absurd (omega (arith, less));
-        same = λ row from under out.
-            others row under
-            (sym (in_both set below left height row b e (omega (arith, under, short))
-            ∙ ap (λ (t : Bool). column_at set row && t) (lt-ltb row height under) ∙ and-true (column_at set row))
-            ∙ out);
-        added = same_up_to 0 0 (omega arith) (λ y low high. absurd (omega (arith, high)))
-            (rw (let start : plane * height + 0 ≡ plane * height = omega arith in start) lead);
-      }
 
   module _ (set left : List Bool) (next row : ℕ) (is : set_columns set ≡ row ∷ set_columns left)
       (was : AreAdded height plane next set first second differences) where

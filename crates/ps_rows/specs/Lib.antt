@@ -9,6 +9,7 @@ pub mod RowChanges
 pub mod SlotsWritten
 pub mod PlaneCopies
 pub mod RowDifferences
+pub mod MixedPlanes
 pub mod RowHistories
 pub mod PlaneTopics
 pub mod LayersTouched

@@ -6,6 +6,7 @@ ghost use Rattle.std.specs.Prelude.{option_map, slice_get, slice_index_or, vec_l
 ghost use Rattle.ps_model.specs.board.Movement.{is_number};
 ghost use Rattle.ps_model.specs.declared.limits.TheConstants.{LAYER_LIMIT, SIDE_LIMIT};
 ghost use Rattle.ps_board.specs.ColumnSets.{columns_below, no_columns, with_column};
+ghost use Rattle.ps_rows.specs.MixedPlanes.{mixed_planes};
 ghost use Rattle.ps_rows.specs.Planes.{AreEmptyFrom, AreSameFrom, HavePlanes, row_of};
 ghost use Rattle.ps_program.specs.ProgramShown.{write_shown};
 ghost use Rattle.ps_rows.specs.RowDifferences.{rows_changed};
@@ -291,7 +292,7 @@ impl<W: ColumnWords> RowBoard<W> {
     }
 
     /// Whether both boards, of the same size for the same game, say at once that nothing moves on them.
-    fn stand_still(&self, other: &RowBoard<W>) -> bool
+    pub(crate) fn stand_still(&self, other: &RowBoard<W>) -> bool
         requires height { other.now.planes.height ≡ self.now.planes.height }
         requires table { other.now.members.table.items ≡ self.now.members.table.items }
         ensures { let p = self.now.planes in let first = length self.now.members.table.items * p.height in
@@ -339,7 +340,36 @@ impl<W: ColumnWords> RowBoard<W> {
             rows_changed p.height other.now.planes.words.items rows.items ≡ p.words.items)) }
     {
         let planes = self.planes_used(other);
-        differences(alloc, &self.planes, &other.planes, planes)
+        differences(alloc, &self.planes, &other.planes, planes, Columns::all())
+    }
+
+    /// The rows, of some, in which the planes of objects differ from those of another board of the same size for the
+    /// same game, where those of motions are the same; nothing, where they are more than half of all its rows. They
+    /// give the board these rows of the other one, and then give it back its own.
+    ///
+    /// # Errors
+    ///
+    /// `Memory`.
+    pub(crate) fn differences_on(
+        &self,
+        alloc: Global,
+        other: &RowBoard<W>,
+        rows: Columns<W>,
+    ) -> Result<Option<Vec<RowDifference<Columns<W>>>>, Memory>
+        requires height { other.now.planes.height ≡ self.now.planes.height }
+        requires layers { other.now.layers ≡ self.now.layers }
+        requires table { other.now.members.table.items ≡ self.now.members.table.items }
+        requires rest { let p = self.now.planes in let first = length self.now.members.table.items * p.height in
+            AreSameFrom first p.words.items other.now.planes.words.items }
+        ensures forth { let p = self.now.planes in
+            let mixed = mixed_planes p.height rows p.words.items other.now.planes.words.items in
+            IfOk result (λ found. IfSome found (λ rows. rows_changed p.height p.words.items rows.items ≡ mixed)) }
+        ensures back { let p = self.now.planes in
+            let mixed = mixed_planes p.height rows p.words.items other.now.planes.words.items in
+            IfOk result (λ found. IfSome found (λ rows. rows_changed p.height mixed rows.items ≡ p.words.items)) }
+    {
+        let objects = self.members.count();
+        differences(alloc, &self.planes, &other.planes, objects, rows)
     }
 
     /// Changes rows by what differs from a board. All rows are noted: to know in which an object comes or goes, each

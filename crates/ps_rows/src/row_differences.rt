@@ -1,8 +1,10 @@
 //! How the rows of planes differ from others', and how they become those.
 
-ghost use Rattle.std.specs.Prelude.{◌≡◌, ◌+◌, ◌*◌, ◌<◌, ◌≤◌, ◌^◌, IfOk, IfSome, OnOk, nat_le, vec_len};
+ghost use Rattle.std.specs.Prelude.{◌≡◌, ◌+◌, ◌*◌, ◌<◌, ◌≤◌, ◌^◌, ℕ, IfOk, IfSome, OnOk, false, nat_le, vec_len};
 ghost use Rattle.std.specs.List.{list_any};
-ghost use Rattle.ps_board.specs.ColumnSets.{columns_below};
+ghost use Rattle.ps_model.specs.declared.limits.TheConstants.{SIDE_LIMIT};
+ghost use Rattle.ps_board.specs.ColumnSets.{column_at};
+ghost use Rattle.ps_rows.specs.MixedPlanes.{mixed_planes};
 ghost use Rattle.ps_rows.specs.Planes.{AreSameFrom};
 ghost use Rattle.ps_rows.specs.RowDifferences.{LeadBothWays, row_changed, rows_changed};
 
@@ -54,26 +56,28 @@ pub fn reach<S: Copy>(rows: &[RowDifference<S>], plane: u32) -> bool
     rows.iter().any(|row| plane <= row.plane)
 }
 
-/// Adds the rows in which a plane differs, of `all` its rows, where the planes before it have been added. Those that
-/// neither side has marked aren't read.
+/// Adds the rows, of some, in which a plane differs, where the planes before it have been added. Those that neither
+/// side has marked aren't read.
 fn add_differences<W: ColumnWords>(
     first: &Planes<W>,
     second: &Planes<W>,
     plane: u32,
-    all: Columns<W>,
+    rows: Columns<W>,
     found: &mut Vec<RowDifference<Columns<W>>>,
 ) -> Result<(), Memory>
     requires height { second.now.height ≡ first.now.height }
     requires count { vec_len second.now.words ≡ vec_len first.now.words }
     requires plane { (plane + 1) * first.now.height ≤ vec_len first.now.words }
-    requires all { all ≡ columns_below first.now.height }
+    requires rows { (row : ℕ) → row < SIDE_LIMIT → first.now.height ≤ row → column_at rows row ≡ false }
     requires before { let p = first.now in
-        LeadBothWays p.height (plane * p.height) p.words.items second.now.words.items found.old.items }
-    ensures { let p = first.now in OnOk result
-        (LeadBothWays p.height ((plane + 1) * p.height) p.words.items second.now.words.items found.new.items) }
+        let mixed = mixed_planes p.height rows p.words.items second.now.words.items in
+        LeadBothWays p.height (plane * p.height) p.words.items mixed found.old.items }
+    ensures { let p = first.now in
+        let mixed = mixed_planes p.height rows p.words.items second.now.words.items in
+        OnOk result (LeadBothWays p.height ((plane + 1) * p.height) p.words.items mixed found.new.items) }
 {
     let marked = first.rows_of(plane).either(second.rows_of(plane));
-    let mut left = marked.both(all);
+    let mut left = rows.both(marked);
     if first.has_same_many(second, plane, left) {
         return Ok(());
     }
@@ -90,9 +94,9 @@ fn add_differences<W: ColumnWords>(
     Ok(())
 }
 
-/// The rows in which planes differ from others, as many of the same height, of which so many, the first ones, aren't
-/// known to be the same; nothing, where they are more than half of all rows. They make the first planes the second
-/// ones, and the second ones the first.
+/// The rows, of some, in which planes differ from others, as many of the same height, of which so many, the first ones,
+/// aren't known to be the same; nothing, where they are more than half of all rows. They give the first planes these
+/// rows of the second ones, and then give them back their own.
 ///
 /// # Errors
 ///
@@ -102,22 +106,26 @@ pub fn differences<W: ColumnWords>(
     first: &Planes<W>,
     second: &Planes<W>,
     planes: u32,
+    rows: Columns<W>,
 ) -> Result<Option<Vec<RowDifference<Columns<W>>>>, Memory>
     requires height { second.now.height ≡ first.now.height }
     requires count { vec_len second.now.words ≡ vec_len first.now.words }
     requires planes { planes * first.now.height ≤ vec_len first.now.words }
     requires rest { AreSameFrom (planes * first.now.height) first.now.words.items second.now.words.items }
-    ensures forth { IfOk result (λ found. IfSome found (λ rows.
-        rows_changed first.now.height first.now.words.items rows.items ≡ second.now.words.items)) }
-    ensures back { IfOk result (λ found. IfSome found (λ rows.
-        rows_changed first.now.height second.now.words.items rows.items ≡ first.now.words.items)) }
+    ensures forth { let p = first.now in
+        let mixed = mixed_planes p.height rows p.words.items second.now.words.items in
+        IfOk result (λ found. IfSome found (λ rows. rows_changed p.height p.words.items rows.items ≡ mixed)) }
+    ensures back { let p = first.now in
+        let mixed = mixed_planes p.height rows p.words.items second.now.words.items in
+        IfOk result (λ found. IfSome found (λ rows. rows_changed p.height mixed rows.items ≡ p.words.items)) }
 {
     let mut found = Vec::new(alloc);
     let marked = first.planes_marked(second, planes as usize);
     let all = Columns::below(first.height);
+    let within = rows.both(all);
     let most = first.words.len() / 2;
     for plane in 0..marked {
-        add_differences(first, second, plane as u32, all, &mut found)?;
+        add_differences(first, second, plane as u32, within, &mut found)?;
         if most < found.len() {
             return Ok(None);
         }

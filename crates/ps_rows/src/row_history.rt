@@ -1,6 +1,7 @@
 //! The boards of an undo history, by the rows in which each differs from the next.
 
-ghost use Rattle.std.specs.Prelude.{◌≡◌, ◌∷◌, IfOk};
+ghost use Rattle.std.specs.Prelude.{◌≡◌, ◌∷◌, IfOk, IfSome};
+ghost use Rattle.ps_board.specs.Rows.{DifferOnlyOn};
 ghost use Rattle.ps_rows.specs.RowHistories.{LeadsBack, LeadsOn, first_of, kept, shown, stepped};
 
 use crate::row_board::RowBoard;
@@ -71,7 +72,43 @@ fn copied<W: ColumnWords>(alloc: Global, board: &RowBoard<W>) -> Result<Box<RowB
     Ok(boxed)
 }
 
-/// The step from a board to another one.
+/// The step from a board to another one that shows the same objects outside of these rows; nothing, where the boards
+/// aren't of the same size for the same game, where something may move on one of them, or where too much differs.
+///
+/// # Errors
+///
+/// `Memory`.
+fn step_on<W: ColumnWords>(
+    alloc: Global,
+    board: &RowBoard<W>,
+    other: &RowBoard<W>,
+    rows: Columns<W>,
+) -> Result<Option<RowStep<W>>, Memory>
+    requires { DifferOnlyOn rows (⟦<RowBoard<W> as Board>⟧.grid board.now)
+        (⟦<RowBoard<W> as Board>⟧.grid other.now) }
+    ensures shown { let b = board.now in let o = other.now in IfOk result (λ found. IfSome found (λ step.
+        shown (stepped (kept b.members.table.items b.width b.planes.height b.layers b.planes.words.items) step
+        (λ x. let b = x.value in kept b.members.table.items b.width b.planes.height b.layers b.planes.words.items))
+        ≡ shown (kept o.members.table.items o.width o.planes.height o.layers o.planes.words.items))) }
+    ensures on { let b = board.now in IfOk result (λ found. IfSome found (λ step.
+        LeadsOn (kept b.members.table.items b.width b.planes.height b.layers b.planes.words.items) step)) }
+    ensures back { let b = board.now in IfOk result (λ found. IfSome found (λ step.
+        LeadsBack (kept b.members.table.items b.width b.planes.height b.layers b.planes.words.items) step)) }
+{
+    if !board.is_alike(other) {
+        return Ok(None);
+    }
+    if !board.stand_still(other) {
+        return Ok(None);
+    }
+    let Some(found) = board.differences_on(alloc, other, rows)? else {
+        return Ok(None);
+    };
+    Ok(Some(BoardStep::Rows(found)))
+}
+
+/// The step from a board to another one. Rows, where some are given, are such that outside of them both show the same
+/// objects.
 ///
 /// # Errors
 ///
@@ -80,7 +117,10 @@ fn step_to<W: ColumnWords>(
     alloc: Global,
     board: &RowBoard<W>,
     other: &RowBoard<W>,
+    rows: Option<&Columns<W>>,
 ) -> Result<RowStep<W>, Memory>
+    requires { IfSome rows (λ rows. DifferOnlyOn rows.now (⟦<RowBoard<W> as Board>⟧.grid board.now)
+        (⟦<RowBoard<W> as Board>⟧.grid other.now)) }
     ensures shown { let b = board.now in let o = other.now in IfOk result (λ step.
         shown (stepped (kept b.members.table.items b.width b.planes.height b.layers b.planes.words.items) step
         (λ x. let b = x.value in kept b.members.table.items b.width b.planes.height b.layers b.planes.words.items))
@@ -90,6 +130,11 @@ fn step_to<W: ColumnWords>(
     ensures back { let b = board.now in IfOk result (λ step.
         LeadsBack (kept b.members.table.items b.width b.planes.height b.layers b.planes.words.items) step) }
 {
+    if let Some(rows) = rows {
+        if let Some(step) = step_on(alloc, board, other, *rows)? {
+            return Ok(step);
+        }
+    }
     if board.is_alike(other) {
         if let Some(rows) = board.differences(alloc, other)? {
             return Ok(BoardStep::Rows(rows));
@@ -158,10 +203,11 @@ impl<W: ColumnWords> History<RowBoard<W>> for RowHistory<W> {
         }
     }
 
-    fn make_ready(&mut self, board: &RowBoard<W>) -> Result<(), Memory> {
+    /// Where rows are given and nothing moves on either board, these rows alone are compared.
+    fn make_ready(&mut self, board: &RowBoard<W>, rows: Option<&Columns<W>>) -> Result<(), Memory> {
         let step = match &self.latest {
             None => BoardStep::Whole(copied(self.alloc, board)?),
-            Some(latest) => step_to(self.alloc, latest, board)?,
+            Some(latest) => step_to(self.alloc, latest, board, rows)?,
         };
         self.ready = Some(step);
         Ok(())

@@ -1,3 +1,4 @@
+mod Behind
 mod Dismissed
 mod Heeded
 mod HistoryBoards

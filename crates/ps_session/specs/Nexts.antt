@@ -1,5 +1,5 @@
 -- What a key does to a session, as a step of the definitions.
-use Rattle.std.specs.Prelude.{◌≡◌, ℕ, ◌-◌, ⊤, Option, Some, None, List, [], length, take}
+use Rattle.std.specs.Prelude.{◌≡◌, ℕ, ◌-◌, ⊤, Bool, Option, Some, None, List, [], length, take}
 use Rattle.ps_model.specs.board.Grid.{Grid}
 use Rattle.ps_model.specs.session.Sessions as model
 use Rattle.ps_model.specs.session.Sessions.{Step, quietly}
@@ -37,10 +37,10 @@ history_behind_location history_change history (AtMessage entry) = history_behin
 history_behind_location history_change history (Ended ending) = history_behind_no_board history_change history
 
 -- the session that comes next
-abbrev pub next_shown : List Grid → Location Standing → Next Standing → model.Session
+abbrev pub next_shown : List Grid → Location Standing → Next Standing (List Bool) → model.Session
 next_shown history location (Stands pending) = stood history location pending
 next_shown history location (Undoes level) = model.Playing (play_of (take (length history - 1) history) level)
-next_shown history location (Goes next history_change) =
+next_shown history location (Goes next history_change rows) =
     location_shown (history_behind_location history_change history location) next
 
 -- the board of a location is the one that is ready to enter the history
@@ -57,12 +57,12 @@ IsReadyTo ready location Keeps = ⊤
 IsReadyTo ready location Clears = ⊤
 
 -- before what comes next
-abbrev pub IsReadyFor : Option BoardShown → Location Standing → Next Standing → Type 0
+abbrev pub IsReadyFor : Option BoardShown → Location Standing → Next Standing (List Bool) → Type 0
 IsReadyFor ready location (Stands pending) = ⊤
 IsReadyFor ready location (Undoes level) = ⊤
-IsReadyFor ready location (Goes next history_change) = IsReadyTo ready location history_change
+IsReadyFor ready location (Goes next history_change rows) = IsReadyTo ready location history_change
 
 -- what a key did, with the text that it made; an ignored key does nothing
-abbrev pub next_step : List Grid → Location Standing → Option (Next Standing) → List ℕ → Step
+abbrev pub next_step : List Grid → Location Standing → Option (Next Standing (List Bool)) → List ℕ → Step
 next_step history location None text = quietly (location_shown history location)
 next_step history location (Some next) text = came (next_shown history location next) text

@@ -1,17 +1,19 @@
 //! What comes next is put in the place of what was. Nothing here takes memory.
 
-ghost use Rattle.std.specs.Prelude.{◌≡◌, ◌++◌, ℕ, [], ◌∷◌, List, Option, Some};
+ghost use Rattle.std.specs.Prelude.{◌≡◌, ◌++◌, [], ◌∷◌, Bool, List, Some};
 ghost use Rattle.ps_model.specs.board.Grid.{Grid};
 ghost use Rattle.ps_stage.specs.Locations.{location_shown, IsOnBasis};
 ghost use Rattle.ps_stage.specs.Standings.{Basis, play_of};
 ghost use Rattle.ps_stage.specs.StepsShown.{stands};
 ghost use Rattle.ps_model.specs.session.Sessions.{kept};
+ghost use Rattle.ps_stage.specs.Touched.{AreTouched, IsTouchedAt};
+ghost use Rattle.ps_session.specs.Behind.{ComesFromThere, IsBehind, behind_next};
 ghost use Rattle.ps_session.specs.Histories.{AreOnTable, grids_of};
 ghost use Rattle.ps_session.specs.Nexts.{IsReadyFor, IsReadyTo, next_shown, history_behind_location, stood};
 ghost use Rattle.ps_session.specs.Bases.{ComesOnBasis};
 
-use crate::nexts::Next;
-use ps_board::{Board, History};
+use crate::nexts::{Next, NextLevel};
+use ps_board::{Board, ColumnWords, Columns, History};
 use ps_model::Ending;
 use ps_stage::{HistoryChange, Location, Pending, PlayedLevel, Stage};
 use std::mem;
@@ -20,6 +22,8 @@ use std::mem;
 fn standing<B: Board>(level: PlayedLevel<B>, pending: Option<Pending>) -> Location<PlayedLevel<B>>
     ensures shown { (history : List Grid) → location_shown history result ≡ stands pending (play_of history level) }
     ensures basis { IsOnBasis level.basis result }
+    ensures touched { (rows : List Bool) (before : Grid) → AreTouched rows before level.board
+        → IsTouchedAt rows before result }
 {
     match pending {
         None => Location::Playing(level),
@@ -34,6 +38,8 @@ fn stood<B: Board>(
 ) -> Location<PlayedLevel<B>>
     ensures shown { (history : List Grid) → location_shown history result ≡ stood history location pending }
     ensures basis { (basis : Basis) → IsOnBasis basis location → IsOnBasis basis result }
+    ensures touched { (rows : List Bool) (before : Grid) → IsTouchedAt rows before location
+        → IsTouchedAt rows before result }
 {
     match location {
         Location::Playing(level) => standing(level, pending),
@@ -57,14 +63,14 @@ fn give_back<B: Board>(stage: &mut Stage<'_, B>, location: Location<PlayedLevel<
 
 /// The boards of what was to come next and doesn't, as memory was wanting, are there to be used again; but for those of
 /// another level, in the place of which boards of this one may be kept.
-pub fn give_up<B: Board>(stage: &mut Stage<'_, B>, next: Next<PlayedLevel<B>>)
+pub fn give_up<B: Board>(stage: &mut Stage<'_, B>, next: NextLevel<B>)
     ensures { stage.new ≡ stage.old }
 {
     match next {
         Next::Stands(_) => {}
         Next::Undoes(level) => stage.keep_level(level),
-        Next::Goes(_, HistoryChange::Clears) => {}
-        Next::Goes(location, _) => give_back(stage, location),
+        Next::Goes(_, HistoryChange::Clears, _) => {}
+        Next::Goes(location, _, _) => give_back(stage, location),
     }
 }
 
@@ -114,17 +120,42 @@ fn leave<B: Board, H: History<B>>(
     }
 }
 
+/// Rows outside of which the next board shows the same objects as the latest one of the history, where some are known:
+/// the board before has entered it, or hasn't, and then what it had changed counts too.
+fn behind_next<W: ColumnWords>(
+    behind: Option<Columns<W>>,
+    history_change: HistoryChange,
+    rows: Option<Columns<W>>,
+) -> Option<Columns<W>>
+    ensures { result ≡ behind_next behind history_change rows }
+{
+    match history_change {
+        HistoryChange::Keeps => {
+            let (Some(behind), Some(rows)) = (behind, rows) else {
+                return None;
+            };
+            Some(behind.either(rows))
+        }
+        HistoryChange::Adds => rows,
+        HistoryChange::Clears => None,
+    }
+}
+
 /// What comes next becomes the location and the history. The boards of a level that is left are there to be used again.
 pub fn commit<B: Board, H: History<B>>(
     stage: &mut Stage<'_, B>,
     location: &mut Location<PlayedLevel<B>>,
     history: &mut H,
-    next: Next<PlayedLevel<B>>,
+    behind: &mut Option<Columns<B::Words>>,
+    next: NextLevel<B>,
 )
+    requires behind { IsBehind (grids_of (H.boards history.old)) location.old behind.old }
+    requires touched { ComesFromThere location.old next }
     requires ready { IsReadyFor (H.ready history.old) location.old next }
     ensures stage { stage.new ≡ stage.old }
     ensures shown { location_shown (grids_of (H.boards history.new)) location.new
         ≡ next_shown (grids_of (H.boards history.old)) location.old next }
+    ensures behind { IsBehind (grids_of (H.boards history.new)) location.new behind.new }
     ensures location { (basis : Basis) → IsOnBasis basis location.old → ComesOnBasis basis next
         → IsOnBasis basis location.new }
     ensures boards { (basis : Basis) → AreOnTable basis.table (H.boards history.old) → IsOnBasis basis location.old
@@ -137,10 +168,12 @@ pub fn commit<B: Board, H: History<B>>(
         }
         Next::Undoes(level) => {
             history.go_back();
+            *behind = None;
             let before = mem::replace(location, Location::Playing(level));
             give_back(stage, before);
         }
-        Next::Goes(next, history_change) => {
+        Next::Goes(next, history_change, rows) => {
+            *behind = behind_next(*behind, history_change, rows);
             let before = mem::replace(location, next);
             leave(stage, history, before, history_change);
         }

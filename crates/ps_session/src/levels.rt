@@ -13,10 +13,11 @@ ghost use Rattle.ps_stage.specs.declared.locations.Location.TheVariants.{Playing
 ghost use Rattle.ps_session.specs.Histories.{AreOnTable, grids_of};
 ghost use Rattle.ps_session.specs.IgnoredKeys.{is_ignored_in_level};
 ghost use Rattle.ps_session.specs.Nexts.{next_step};
+ghost use Rattle.ps_session.specs.Behind.{AnswersFrom, ComesAnew, ComesFrom};
 ghost use Rattle.ps_session.specs.Bases.{AnswersOnBasis, ComesOnBasis};
 
 use crate::ignored::is_ignored_in_level;
-use crate::nexts::{Next, next_of};
+use crate::nexts::{Next, NextLevel, next_of};
 use ps_board::{Board, History};
 use ps_model::{Ending, Input, Key, Memory};
 use ps_stage::{HistoryChange, Location, PlayedLevel, Stage, Stop};
@@ -27,15 +28,17 @@ use ps_turn::{Rules, TurnRules};
 /// # Errors
 ///
 /// `Memory`.
-pub fn quits<B: Board>(stage: &mut Stage<'_, B>) -> Result<Next<PlayedLevel<B>>, Memory>
+pub fn quits<B: Board>(stage: &mut Stage<'_, B>) -> Result<NextLevel<B>, Memory>
     requires empty { stage.old.text ≡ [] }
     ensures game { stage.new.game ≡ stage.old.game }
     ensures came { IfOk result (λ next. (history : List Grid) (location : MeantLocation Standing)
         → quit ≡ next_step history location (Some next) stage.new.text) }
     ensures basis { IfOk result (λ next. (basis : Basis) → ComesOnBasis basis next) }
+    ensures touched { IfOk result (λ next. (before : Grid) → ComesFrom before next) }
+    ensures anew { IfOk result ComesAnew }
 {
     stage.tell_quit()?;
-    Ok(Next::Goes(Location::Ended(Ending::Quit), HistoryChange::Clears))
+    Ok(Next::Goes(Location::Ended(Ending::Quit), HistoryChange::Clears, None))
 }
 
 /// A turn with an input.
@@ -48,7 +51,7 @@ fn moves<B: Board, R: Rules<B>>(
     rules: &mut TurnRules<B, R>,
     level: &mut PlayedLevel<B>,
     input: Input,
-) -> Result<Next<PlayedLevel<B>>, Stop>
+) -> Result<NextLevel<B>, Stop>
     requires empty { stage.old.text ≡ [] }
     requires basis { level.old.basis ≡ basis_of B.table_for stage.old.game.names }
     ensures game { stage.new.game ≡ stage.old.game }
@@ -64,6 +67,7 @@ fn moves<B: Board, R: Rules<B>>(
         (input_taken (script_for B.table_for stage.old.game (R.meant rules.old.plain) (R.meant rules.old.late))
         (play_of history level.old) input) stage.new.text) }
     ensures basis { IfOk result (λ next. ComesOnBasis (basis_of B.table_for stage.old.game.names) next) }
+    ensures touched { IfOk result (λ next. ComesFrom level.old.board next) }
 {
     let change = stage.take_input(rules, level, input)?;
     Ok(next_of(change))
@@ -78,7 +82,7 @@ fn undoes<B: Board, H: History<B>>(
     stage: &mut Stage<'_, B>,
     level: &mut PlayedLevel<B>,
     history: &H,
-) -> Result<Next<PlayedLevel<B>>, Memory>
+) -> Result<NextLevel<B>, Memory>
     requires empty { stage.old.text ≡ [] }
     requires basis { level.old.basis ≡ basis_of B.table_for stage.old.game.names }
     requires boards { AreOnTable (B.table_for stage.old.game.names.layers) (H.boards history.now) }
@@ -88,6 +92,7 @@ fn undoes<B: Board, H: History<B>>(
         → undone (script_of stage.old.game plain late) (play_of (grids_of (H.boards history.now)) level.old)
         ≡ next_step (grids_of (H.boards history.now)) (Playing level.old) (Some next) stage.new.text) }
     ensures basis { IfOk result (λ next. ComesOnBasis (basis_of B.table_for stage.old.game.names) next) }
+    ensures touched { IfOk result (λ next. ComesFrom level.old.board next) }
 {
     let Some(latest) = history.latest() else {
         stage.show(level)?;
@@ -113,7 +118,7 @@ fn restarts<B: Board, R: Rules<B>>(
     stage: &mut Stage<'_, B>,
     rules: &mut TurnRules<B, R>,
     level: &mut PlayedLevel<B>,
-) -> Result<Next<PlayedLevel<B>>, Memory>
+) -> Result<NextLevel<B>, Memory>
     requires empty { stage.old.text ≡ [] }
     requires basis { level.old.basis ≡ basis_of B.table_for stage.old.game.names }
     ensures game { stage.new.game ≡ stage.old.game }
@@ -125,9 +130,10 @@ fn restarts<B: Board, R: Rules<B>>(
         (with_board_in_history (play_of history level.old)) None
         ≡ next_step history (Playing level.old) (Some next) stage.new.text) }
     ensures basis { IfOk result (λ next. ComesOnBasis (basis_of B.table_for stage.old.game.names) next) }
+    ensures touched { IfOk result (λ next. ComesFrom level.old.board next) }
 {
     let location = stage.restart(rules, level, None)?;
-    Ok(Next::Goes(location, HistoryChange::Adds))
+    Ok(Next::Goes(location, HistoryChange::Adds, None))
 }
 
 /// What a key does in a level; nothing, where it is ignored.
@@ -142,7 +148,7 @@ pub fn key_in_level<B: Board, H: History<B>, R: Rules<B>>(
     level: &mut PlayedLevel<B>,
     history: &H,
     key: Key,
-) -> Result<Option<Next<PlayedLevel<B>>>, Stop>
+) -> Result<Option<NextLevel<B>>, Stop>
     requires empty { stage.old.text ≡ [] }
     requires basis { level.old.basis ≡ basis_of B.table_for stage.old.game.names }
     requires boards { AreOnTable (B.table_for stage.old.game.names.layers) (H.boards history.now) }
@@ -159,6 +165,7 @@ pub fn key_in_level<B: Board, H: History<B>, R: Rules<B>>(
         (key_in_level (script_for B.table_for stage.old.game (R.meant rules.old.plain) (R.meant rules.old.late))
         (play_of (grids_of (H.boards history.now)) level.old) key) stage.new.text) }
     ensures basis { IfOk result (λ next. AnswersOnBasis (basis_of B.table_for stage.old.game.names) next) }
+    ensures touched { IfOk result (λ next. AnswersFrom (Playing level.old) next) }
     ensures ignored { is_ignored_in_level stage.old.game.options key ≡ true → result ≡ Ok None }
 {
     if is_ignored_in_level(stage.game().options(), key) {

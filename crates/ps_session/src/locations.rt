@@ -8,11 +8,12 @@ ghost use Rattle.ps_stage.specs.StepsShown.{IsStopped};
 ghost use Rattle.ps_session.specs.Histories.{AreOnTable, grids_of};
 ghost use Rattle.ps_session.specs.IgnoredKeys.{is_ignored};
 ghost use Rattle.ps_session.specs.Nexts.{next_step};
+ghost use Rattle.ps_session.specs.Behind.{AnswersFrom};
 ghost use Rattle.ps_session.specs.Bases.{AnswersOnBasis};
 
 use crate::levels::key_in_level;
 use crate::messages::{key_at_entry, key_at_level_message};
-use crate::nexts::Next;
+use crate::nexts::NextLevel;
 use ps_board::{Board, History};
 use ps_model::Key;
 use ps_stage::{Location, PlayedLevel, Stage, Stop};
@@ -29,7 +30,7 @@ pub fn next_at<B: Board, H: History<B>, R: Rules<B>>(
     location: &mut Location<PlayedLevel<B>>,
     history: &H,
     key: Key,
-) -> Result<Option<Next<PlayedLevel<B>>>, Stop>
+) -> Result<Option<NextLevel<B>>, Stop>
     requires empty { stage.old.text ≡ [] }
     requires basis { IsOnBasis (basis_of B.table_for stage.old.game.names) location.old }
     requires boards { AreOnTable (B.table_for stage.old.game.names.layers) (H.boards history.now) }
@@ -46,6 +47,7 @@ pub fn next_at<B: Board, H: History<B>, R: Rules<B>>(
         (key_step (script_for B.table_for stage.old.game (R.meant rules.old.plain) (R.meant rules.old.late))
         (location_shown (grids_of (H.boards history.now)) location.old) key) stage.new.text) }
     ensures basis { IfOk result (λ next. AnswersOnBasis (basis_of B.table_for stage.old.game.names) next) }
+    ensures touched { IfOk result (λ next. AnswersFrom location.old next) }
     ensures ignored { let here = location_shown (grids_of (H.boards history.now)) location.old in
         is_ignored stage.old.game.options here key ≡ true → result ≡ Ok None }
 {

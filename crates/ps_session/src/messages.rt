@@ -8,11 +8,12 @@ ghost use Rattle.ps_stage.specs.StepsShown.{IsStopped, pending_shown};
 ghost use Rattle.ps_stage.specs.declared.locations.Location.TheVariants.{AtMessage, Waiting};
 ghost use Rattle.ps_session.specs.IgnoredKeys.{is_ignored_at_message};
 ghost use Rattle.ps_session.specs.Nexts.{next_step};
+ghost use Rattle.ps_session.specs.Behind.{AnswersFrom};
 ghost use Rattle.ps_session.specs.Bases.{AnswersOnBasis};
 
 use crate::ignored::is_ignored_at_message;
 use crate::levels::quits;
-use crate::nexts::{Next, next_of};
+use crate::nexts::{Next, NextLevel, next_of};
 use ps_board::Board;
 use ps_model::Key;
 use ps_stage::{EntryNumber, HistoryChange, Pending, PlayedLevel, Stage, Stop};
@@ -29,7 +30,7 @@ pub fn key_at_level_message<B: Board, R: Rules<B>>(
     level: &mut PlayedLevel<B>,
     pending: Pending,
     key: Key,
-) -> Result<Option<Next<PlayedLevel<B>>>, Stop>
+) -> Result<Option<NextLevel<B>>, Stop>
     requires empty { stage.old.text ≡ [] }
     requires basis { level.old.basis ≡ basis_of B.table_for stage.old.game.names }
     ensures game { stage.new.game ≡ stage.old.game }
@@ -46,6 +47,7 @@ pub fn key_at_level_message<B: Board, R: Rules<B>>(
         (key_at_level_message (script_for B.table_for stage.old.game (R.meant rules.old.plain) (R.meant rules.old.late))
         (play_of history level.old) (pending_shown pending) key) stage.new.text) }
     ensures basis { IfOk result (λ next. AnswersOnBasis (basis_of B.table_for stage.old.game.names) next) }
+    ensures touched { IfOk result (λ next. AnswersFrom (Waiting level.old pending) next) }
     ensures ignored { is_ignored_at_message key ≡ true → result ≡ Ok None }
 {
     if is_ignored_at_message(key) {
@@ -69,7 +71,7 @@ pub fn key_at_entry<B: Board, R: Rules<B>>(
     rules: &mut TurnRules<B, R>,
     entry: &EntryNumber,
     key: Key,
-) -> Result<Option<Next<PlayedLevel<B>>>, Stop>
+) -> Result<Option<NextLevel<B>>, Stop>
     requires empty { stage.old.text ≡ [] }
     ensures game { stage.new.game ≡ stage.old.game }
     ensures plain { R.meant rules.new.plain ≡ R.meant rules.old.plain }
@@ -83,6 +85,7 @@ pub fn key_at_entry<B: Board, R: Rules<B>>(
         (key_at_entry (script_for B.table_for stage.old.game (R.meant rules.old.plain) (R.meant rules.old.late))
         entry.now key) stage.new.text) }
     ensures basis { IfOk result (λ next. AnswersOnBasis (basis_of B.table_for stage.old.game.names) next) }
+    ensures touched { IfOk result (λ next. AnswersFrom (AtMessage entry.now) next) }
     ensures ignored { is_ignored_at_message key ≡ true → result ≡ Ok None }
 {
     if is_ignored_at_message(key) {
@@ -93,5 +96,5 @@ pub fn key_at_entry<B: Board, R: Rules<B>>(
         return Ok(Some(next));
     }
     let location = stage.enter(rules, entry.next())?;
-    Ok(Some(Next::Goes(location, HistoryChange::Clears)))
+    Ok(Some(Next::Goes(location, HistoryChange::Clears, None)))
 }

@@ -8,17 +8,20 @@ ghost use Rattle.ps_stage.specs.Locations.{location_shown, IsOnBasis};
 ghost use Rattle.ps_stage.specs.Sides.{side_at};
 ghost use Rattle.ps_stage.specs.Standings.{basis_of, script_for};
 ghost use Rattle.ps_stage.specs.StepsShown.{IsStopped};
+ghost use Rattle.ps_session.specs.Behind.{IsBehind};
+ghost use Rattle.ps_session.specs.Histories.{grids_of};
 ghost use Rattle.ps_session.specs.Left.{IsLeft};
 ghost use Rattle.ps_session.specs.Nexts.{IsReadyFor};
 
-use crate::nexts::Next;
-use ps_board::{Board, History};
+use crate::nexts::{Next, NextLevel};
+use ps_board::{Board, Columns, History};
 use ps_model::Memory;
 use ps_screen::OutputText;
 use ps_stage::{HistoryChange, Location, PlayedLevel, Stage, Stop};
 use ps_turn::{Rules, TurnRules};
 
-/// Makes the board of a location ready to enter the history, where it enters it before what comes next.
+/// Makes the board of a location ready to enter the history, where it enters it before what comes next. Outside of the
+/// rows `behind`, where some are known, it shows the same objects as the latest board of the history.
 ///
 /// # Errors
 ///
@@ -26,24 +29,27 @@ use ps_turn::{Rules, TurnRules};
 fn make_ready<B: Board, H: History<B>>(
     history: &mut H,
     location: &Location<PlayedLevel<B>>,
-    next: &Next<PlayedLevel<B>>,
+    behind: &Option<Columns<B::Words>>,
+    next: &NextLevel<B>,
 ) -> Result<(), Memory>
+    requires { IsBehind (grids_of (H.boards history.old)) location.now behind.now }
     ensures boards { H.boards history.new ≡ H.boards history.old }
     ensures ready { OnOk result (IsReadyFor (H.ready history.new) location.now next.now) }
 {
-    let Next::Goes(_, HistoryChange::Adds) = next else {
+    let Next::Goes(_, HistoryChange::Adds, _) = next else {
         return Ok(());
     };
     match location {
-        Location::Playing(level) => history.make_ready(level.board()),
-        Location::Waiting(level, _) => history.make_ready(level.board()),
+        Location::Playing(level) => history.make_ready(level.board(), behind.as_ref()),
+        Location::Waiting(level, _) => history.make_ready(level.board(), behind.as_ref()),
         Location::AtMessage(_) => Ok(()),
         Location::Ended(_) => Ok(()),
     }
 }
 
 /// Makes the board of a location ready to enter the history, where it enters it before what comes next, and adds the
-/// text of the stage to the output.
+/// text of the stage to the output. Outside of the rows `behind`, where some are known, the board shows the same
+/// objects as the latest one of the history.
 ///
 /// # Errors
 ///
@@ -52,16 +58,18 @@ pub fn prepare<B: Board, H: History<B>>(
     stage: &mut Stage<'_, B>,
     location: &Location<PlayedLevel<B>>,
     history: &mut H,
-    next: &Next<PlayedLevel<B>>,
+    behind: &Option<Columns<B::Words>>,
+    next: &NextLevel<B>,
     output: &mut OutputText,
 ) -> Result<(), Memory>
+    requires { IsBehind (grids_of (H.boards history.old)) location.now behind.now }
     ensures game { stage.new.game ≡ stage.old.game }
     ensures boards { H.boards history.new ≡ H.boards history.old }
     ensures ready { OnOk result (IsReadyFor (H.ready history.new) location.now next.now) }
     ensures moved { OnOk result (output.new ≡ output.old ++ stage.old.text) }
     ensures kept { OnErr result (output.new ≡ output.old) }
 {
-    make_ready(history, location, next)?;
+    make_ready(history, location, behind, next)?;
     stage.move_text(output)
 }
 

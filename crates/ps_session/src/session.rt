@@ -14,7 +14,7 @@ use crate::commit::{commit, give_up};
 use crate::locations::next_at;
 use crate::phase::Phase;
 use crate::ready::{begin, prepare, tell_stop};
-use ps_board::{Board, History};
+use ps_board::{Board, Columns, History};
 use ps_model::{Ending, Key, Memory};
 use ps_screen::OutputText;
 use ps_stage::{BoardSides, Location, PlayedLevel, SessionGame, Stage, Stop};
@@ -27,6 +27,9 @@ pub struct Session<'g, B: Board, H: History<B>> {
     stage: Stage<'g, B>,
     location: Location<PlayedLevel<B>>,
     history: H,
+    /// Rows, if they are known, outside of which the level's board shows the same objects as the latest one of the
+    /// history.
+    behind: Option<Columns<B::Words>>,
 }
 
 /// Written out, so that who owns a session calls this on each way out, instead of dropping its parts there.
@@ -36,6 +39,7 @@ impl<'g, B: Board, H: History<B>> Drop for Session<'g, B, H> {
             stage: _stage,
             location: _location,
             history: _history,
+            behind: _,
         } = self;
     }
 }
@@ -44,6 +48,7 @@ impl<'g, B: Board, H: History<B>> Model for Session<'g, B, H> {
     ghost use Rattle.std.specs.Prelude.{◌≡◌};
     ghost use Rattle.ps_stage.specs.Locations.{location_shown, IsOnBasis};
     ghost use Rattle.ps_stage.specs.Standings.{SessionValue, basis_of};
+    ghost use Rattle.ps_session.specs.Behind.{IsBehind};
     ghost use Rattle.ps_session.specs.Histories.{AreOnTable, grids_of};
 
     ghost Value = { SessionValue };
@@ -54,7 +59,8 @@ impl<'g, B: Board, H: History<B>> Model for Session<'g, B, H> {
     } };
 
     ghost invariant = { λ s. IsOnBasis (basis_of B.table_for s.stage.game.names) s.location
-        × AreOnTable (B.table_for s.stage.game.names.layers) (H.boards s.history) };
+        × (AreOnTable (B.table_for s.stage.game.names.layers) (H.boards s.history)
+        × IsBehind (grids_of (H.boards s.history)) s.location s.behind) };
 }
 
 impl<'g, B: Board, H: History<B>> Session<'g, B, H> {
@@ -92,6 +98,7 @@ impl<'g, B: Board, H: History<B>> Session<'g, B, H> {
             stage,
             location,
             history,
+            behind: None,
         })
     }
 
@@ -143,6 +150,7 @@ impl<'g, B: Board, H: History<B>> Session<'g, B, H> {
             &mut self.stage,
             &self.location,
             &mut self.history,
+            &self.behind,
             &next,
             output,
         );
@@ -150,7 +158,13 @@ impl<'g, B: Board, H: History<B>> Session<'g, B, H> {
             give_up(&mut self.stage, next);
             return Err(Stop::Memory);
         }
-        commit(&mut self.stage, &mut self.location, &mut self.history, next);
+        commit(
+            &mut self.stage,
+            &mut self.location,
+            &mut self.history,
+            &mut self.behind,
+            next,
+        );
         Ok(self.phase())
     }
 

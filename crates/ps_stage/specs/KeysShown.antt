@@ -1,5 +1,5 @@
 -- What turns of a key tell, as steps and outcomes of the definitions.
-use Rattle.std.specs.Prelude.{ℕ, List, ◌≡◌, ⊤, true, false}
+use Rattle.std.specs.Prelude.{ℕ, Bool, List, ◌≡◌, ⊤, true, false}
 use Rattle.ps_model.specs.board.Turns as model
 use Rattle.ps_model.specs.board.Turns.{Script}
 use Rattle.ps_model.specs.session.Sessions.{Play, Step, Playing, after, quietly, seen, shown}
@@ -44,13 +44,18 @@ key_told_step script (Ends end) play text again_turns = key_end_step script end 
 key_told_step script GoesOn play text again_turns = after text (again_turns play)
 
 -- the outcome of a turn that was tried on a level
-abbrev pub tried_outcome : Tried Standing → model.Outcome
+abbrev pub tried_outcome : Tried Standing (List Bool) → model.Outcome
 tried_outcome (Blocked message) = model.Blocked message
 tried_outcome (Restarted message) = model.Restarted message
-tried_outcome (Done next done) = model.Finished (done_shown done next.board)
+tried_outcome (Done next done rows) = model.Finished (done_shown done next.board)
 
 -- the level behind a done turn is the one before with the turn's board
-abbrev pub IsNext : Standing → Tried Standing → Type 0
+abbrev pub IsNext : Standing → Tried Standing (List Bool) → Type 0
 IsNext level (Blocked message) = ⊤
 IsNext level (Restarted message) = ⊤
-IsNext level (Done next done) = next ≡ with_done level done next.board
+IsNext level (Done next done rows) = next ≡ with_done level done next.board
+
+-- again turns come behind a turn of a key
+abbrev pub is_going_on : KeyTold → Bool
+is_going_on (Ends end) = false
+is_going_on GoesOn = true

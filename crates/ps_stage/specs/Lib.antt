@@ -5,3 +5,4 @@ pub mod Playable
 pub mod Sides
 pub mod Standings
 pub mod StepsShown
+pub mod Touched

@@ -38,12 +38,12 @@ history_change_if true = Adds
 history_change_if false = Keeps
 
 -- what comes of a key in a level with this history
-abbrev pub change_shown : List Grid → Standing → Change Standing → model.Session
+abbrev pub change_shown : List Grid → Standing → Change Standing (List Bool) → model.Session
 change_shown history level (Stays pending) = stands pending (play_of history level)
-change_shown history level (Goes location history_change) =
+change_shown history level (Goes location history_change rows) =
     location_shown (history_behind history_change history level.board) location
 
 -- the level that it goes to, if there is one, rests on this
-abbrev pub GoesOnBasis : Basis → Change Standing → Type 0
+abbrev pub GoesOnBasis : Basis → Change Standing (List Bool) → Type 0
 GoesOnBasis basis (Stays pending) = ⊤
-GoesOnBasis basis (Goes location history_change) = IsOnBasis basis location
+GoesOnBasis basis (Goes location history_change rows) = IsOnBasis basis location

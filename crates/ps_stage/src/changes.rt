@@ -1,6 +1,6 @@
 //! What comes of a key in a level: a turn with an input, and going on behind a message.
 
-ghost use Rattle.std.specs.Prelude.{◌≡◌, IfErr, IfOk, List, Some};
+ghost use Rattle.std.specs.Prelude.{◌≡◌, IfErr, IfOk, IfSome, OnOk, List, Some, false};
 ghost use Rattle.ps_model.specs.board.Grid.{Grid};
 ghost use Rattle.ps_model.specs.declared.limits.TheConstants.{AGAIN_LIMIT};
 ghost use Rattle.ps_model.specs.session.Rooms.{frame_in};
@@ -13,14 +13,15 @@ ghost use Rattle.ps_stage.specs.KeysShown.{IsNext, key_end_step, key_shown, trie
 ghost use Rattle.ps_stage.specs.Locations.{change_shown, history_behind, history_change_if, GoesOnBasis};
 ghost use Rattle.ps_stage.specs.Standings.{Standing, basis_of, play_of, script_for};
 ghost use Rattle.ps_stage.specs.StepsShown.{IsStopped, came, stands, pending_shown};
+ghost use Rattle.ps_stage.specs.Touched.{AreTouched, GoesFrom, IsTouchedBy};
 
 use crate::entering::located;
-use crate::levels::{PlayedLevel, Tried};
+use crate::levels::{LevelChange, PlayedLevel, Tried, TriedTurn};
 use crate::locations::{Change, HistoryChange, KeyEnd, KeyTold, Pending};
 use crate::stage::Stage;
 use crate::starts::again_limit;
 use crate::stops::Stop;
-use ps_board::Board;
+use ps_board::{Board, Columns};
 use ps_model::{Input, Memory};
 use ps_text::Text;
 use ps_turn::{DoneTurn, Rules, TurnRules};
@@ -65,11 +66,12 @@ impl<'g, B: Board> Stage<'g, B> {
         &mut self,
         rules: &mut TurnRules<B, R>,
         level: &PlayedLevel<B>,
-    ) -> Result<Change<PlayedLevel<B>>, Stop>
+    ) -> Result<LevelChange<B>, Stop>
         ensures game { self.new.game ≡ self.old.game }
         ensures plain { R.meant rules.new.plain ≡ R.meant rules.old.plain }
         ensures late { R.meant rules.new.late ≡ R.meant rules.old.late }
         ensures basis { IfOk result (λ change. GoesOnBasis (basis_of B.table_for self.old.game.names) change) }
+        ensures touched { IfOk result (λ change. (before : Grid) → GoesFrom before change) }
         ensures came { IfOk result (λ change. (history before : List Grid) (first : Standing) → after self.old.text
             (level_done (script_for B.table_for self.old.game (R.meant rules.old.plain) (R.meant rules.old.late))
             (play_of history level.now))
@@ -82,7 +84,7 @@ impl<'g, B: Board> Stage<'g, B> {
             self.new.text) }
     {
         let location = self.level_done(rules, level)?;
-        Ok(Change::Goes(location, HistoryChange::Clears))
+        Ok(Change::Goes(location, HistoryChange::Clears, None))
     }
 
     /// Goes where the turns of a key have ended, with the history as it is then.
@@ -92,12 +94,15 @@ impl<'g, B: Board> Stage<'g, B> {
         mut level: PlayedLevel<B>,
         end: KeyEnd,
         history_change: HistoryChange,
-    ) -> Result<Change<PlayedLevel<B>>, Stop>
+        rows: Option<Columns<B::Words>>,
+    ) -> Result<LevelChange<B>, Stop>
         requires { level.basis ≡ basis_of B.table_for self.old.game.names }
         ensures game { self.new.game ≡ self.old.game }
         ensures plain { R.meant rules.new.plain ≡ R.meant rules.old.plain }
         ensures late { R.meant rules.new.late ≡ R.meant rules.old.late }
         ensures basis { IfOk result (λ change. GoesOnBasis (basis_of B.table_for self.old.game.names) change) }
+        ensures touched { IfOk result (λ change. (before : Grid)
+            → IfSome rows (λ rows. AreTouched rows before level.board) → GoesFrom before change) }
         ensures came { IfOk result (λ change. (history : List Grid) (first : Standing)
             → key_end_step (script_for B.table_for self.old.game (R.meant rules.old.plain) (R.meant rules.old.late))
             end (play_of (history_behind history_change history first.board) level) self.old.text
@@ -108,7 +113,11 @@ impl<'g, B: Board> Stage<'g, B> {
             (play_of (history_behind history_change history first.board) level) self.old.text) self.new.text) }
     {
         match end {
-            KeyEnd::Stops(pending) => Ok(Change::Goes(located(level, pending), history_change)),
+            KeyEnd::Stops(pending) => Ok(Change::Goes(
+                located(level, pending),
+                history_change,
+                rows,
+            )),
             KeyEnd::Won => {
                 let change = self.end_level(rules, &level);
                 self.keep_level(level);
@@ -117,7 +126,7 @@ impl<'g, B: Board> Stage<'g, B> {
             KeyEnd::Restarts(message) => {
                 let location = self.restart(rules, &mut level, message);
                 self.keep_level(level);
-                Ok(Change::Goes(location?, history_change))
+                Ok(Change::Goes(location?, history_change, None))
             }
         }
     }
@@ -135,6 +144,7 @@ impl<'g, B: Board> Stage<'g, B> {
         ensures plain { R.meant rules.new.plain ≡ R.meant rules.old.plain }
         ensures late { R.meant rules.new.late ≡ R.meant rules.old.late }
         ensures basis { level.new.basis ≡ level.old.basis }
+        ensures ends { done.now.again ≡ false → OnOk result (level.new.board ≡ level.old.board) }
         ensures came { IfOk result (λ end. (history : List Grid)
             → after self.old.text
             (key_shown (script_for B.table_for self.old.game (R.meant rules.old.plain) (R.meant rules.old.late))
@@ -157,12 +167,15 @@ impl<'g, B: Board> Stage<'g, B> {
         rules: &mut TurnRules<B, R>,
         mut level: PlayedLevel<B>,
         done: &DoneTurn,
-    ) -> Result<Change<PlayedLevel<B>>, Stop>
+        rows: Columns<B::Words>,
+    ) -> Result<LevelChange<B>, Stop>
         requires { level.basis ≡ basis_of B.table_for self.old.game.names }
         ensures game { self.new.game ≡ self.old.game }
         ensures plain { R.meant rules.new.plain ≡ R.meant rules.old.plain }
         ensures late { R.meant rules.new.late ≡ R.meant rules.old.late }
         ensures basis { IfOk result (λ change. GoesOnBasis (basis_of B.table_for self.old.game.names) change) }
+        ensures touched { IfOk result (λ change. (before : Grid)
+            → AreTouched rows before level.board → GoesFrom before change) }
         ensures came { IfOk result (λ change. (history : List Grid) (first : Standing)
             → after self.old.text
             (key_shown (script_for B.table_for self.old.game (R.meant rules.old.plain) (R.meant rules.old.late))
@@ -180,8 +193,9 @@ impl<'g, B: Board> Stage<'g, B> {
             self.new.text) }
     {
         let history_change = history_change_if(done.changed);
+        let rows = if done.again { None } else { Some(rows) };
         match self.end_key(rules, &mut level, done) {
-            Ok(end) => self.finish_key(rules, level, end, history_change),
+            Ok(end) => self.finish_key(rules, level, end, history_change, rows),
             Err(Memory) => {
                 self.keep_level(level);
                 Err(Stop::Memory)
@@ -195,7 +209,7 @@ impl<'g, B: Board> Stage<'g, B> {
         rules: &mut TurnRules<B, R>,
         level: &mut PlayedLevel<B>,
         input: Input,
-    ) -> Result<Tried<PlayedLevel<B>>, Memory>
+    ) -> Result<TriedTurn<B>, Memory>
         requires { level.old.basis ≡ basis_of B.table_for self.old.game.names }
         ensures stage { self.new ≡ self.old }
         ensures level { level.new ≡ level.old }
@@ -205,6 +219,7 @@ impl<'g, B: Board> Stage<'g, B> {
             ≡ turn (script_for B.table_for self.old.game (R.meant rules.old.plain) (R.meant rules.old.late))
             (Some input) level.old.board) }
         ensures next { IfOk result (λ tried. IsNext level.old tried) }
+        ensures touched { IfOk result (λ tried. IsTouchedBy level.old.board tried) }
     {
         level.try_turn(
             self.alloc,
@@ -221,15 +236,17 @@ impl<'g, B: Board> Stage<'g, B> {
         &mut self,
         rules: &mut TurnRules<B, R>,
         level: &mut PlayedLevel<B>,
-        tried: Tried<PlayedLevel<B>>,
-    ) -> Result<Change<PlayedLevel<B>>, Stop>
+        tried: TriedTurn<B>,
+    ) -> Result<LevelChange<B>, Stop>
         requires basis { level.old.basis ≡ basis_of B.table_for self.old.game.names }
         requires next { IsNext level.old tried }
+        requires touched { IsTouchedBy level.old.board tried }
         ensures level { level.new ≡ level.old }
         ensures game { self.new.game ≡ self.old.game }
         ensures plain { R.meant rules.new.plain ≡ R.meant rules.old.plain }
         ensures late { R.meant rules.new.late ≡ R.meant rules.old.late }
         ensures basis { IfOk result (λ change. GoesOnBasis (basis_of B.table_for self.old.game.names) change) }
+        ensures touched { IfOk result (λ change. GoesFrom level.old.board change) }
         ensures came { IfOk result (λ change. (history : List Grid) → after self.old.text
             (turn_taken (script_for B.table_for self.old.game (R.meant rules.old.plain) (R.meant rules.old.late))
             (play_of history level.old) (tried_outcome tried))
@@ -249,10 +266,10 @@ impl<'g, B: Board> Stage<'g, B> {
             }
             Tried::Restarted(message) => {
                 let location = self.restart(rules, level, message)?;
-                Ok(Change::Goes(location, HistoryChange::Adds))
+                Ok(Change::Goes(location, HistoryChange::Adds, None))
             }
-            Tried::Done(next, done) => {
-                let change = self.follow_key(rules, next, &done);
+            Tried::Done(next, done, rows) => {
+                let change = self.follow_key(rules, next, &done, rows);
                 drop(done);
                 change
             }
@@ -271,13 +288,14 @@ impl<'g, B: Board> Stage<'g, B> {
         rules: &mut TurnRules<B, R>,
         level: &mut PlayedLevel<B>,
         input: Input,
-    ) -> Result<Change<PlayedLevel<B>>, Stop>
+    ) -> Result<LevelChange<B>, Stop>
         requires { level.old.basis ≡ basis_of B.table_for self.old.game.names }
         ensures level { level.new ≡ level.old }
         ensures game { self.new.game ≡ self.old.game }
         ensures plain { R.meant rules.new.plain ≡ R.meant rules.old.plain }
         ensures late { R.meant rules.new.late ≡ R.meant rules.old.late }
         ensures basis { IfOk result (λ change. GoesOnBasis (basis_of B.table_for self.old.game.names) change) }
+        ensures touched { IfOk result (λ change. GoesFrom level.old.board change) }
         ensures came { IfOk result (λ change. (history : List Grid) → after self.old.text
             (input_taken (script_for B.table_for self.old.game (R.meant rules.old.plain) (R.meant rules.old.late))
             (play_of history level.old) input)
@@ -309,13 +327,14 @@ impl<'g, B: Board> Stage<'g, B> {
         rules: &mut TurnRules<B, R>,
         level: &mut PlayedLevel<B>,
         left: u32,
-    ) -> Result<Change<PlayedLevel<B>>, Stop>
+    ) -> Result<LevelChange<B>, Stop>
         requires { level.old.basis ≡ basis_of B.table_for self.old.game.names }
         ensures level { level.new ≡ level.old }
         ensures game { self.new.game ≡ self.old.game }
         ensures plain { R.meant rules.new.plain ≡ R.meant rules.old.plain }
         ensures late { R.meant rules.new.late ≡ R.meant rules.old.late }
         ensures basis { IfOk result (λ change. GoesOnBasis (basis_of B.table_for self.old.game.names) change) }
+        ensures touched { IfOk result (λ change. (before : Grid) → GoesFrom before change) }
         ensures came { IfOk result (λ change. (history : List Grid) (first : Standing) → after self.old.text
             (key_turns (script_for B.table_for self.old.game (R.meant rules.old.plain) (R.meant rules.old.late)) left
             (play_of history level.old))
@@ -329,7 +348,7 @@ impl<'g, B: Board> Stage<'g, B> {
     {
         let mut next = self.copied(level)?;
         let end = self.key_turns(rules, &mut next, left)?;
-        self.finish_key(rules, next, end, HistoryChange::Keeps)
+        self.finish_key(rules, next, end, HistoryChange::Keeps, None)
     }
 
     /// The again turns of a start that are left come behind a message.
@@ -338,13 +357,14 @@ impl<'g, B: Board> Stage<'g, B> {
         rules: &mut TurnRules<B, R>,
         level: &mut PlayedLevel<B>,
         left: u32,
-    ) -> Result<Change<PlayedLevel<B>>, Stop>
+    ) -> Result<LevelChange<B>, Stop>
         requires { level.old.basis ≡ basis_of B.table_for self.old.game.names }
         ensures level { level.new ≡ level.old }
         ensures game { self.new.game ≡ self.old.game }
         ensures plain { R.meant rules.new.plain ≡ R.meant rules.old.plain }
         ensures late { R.meant rules.new.late ≡ R.meant rules.old.late }
         ensures basis { IfOk result (λ change. GoesOnBasis (basis_of B.table_for self.old.game.names) change) }
+        ensures touched { IfOk result (λ change. (before : Grid) → GoesFrom before change) }
         ensures came { IfOk result (λ change. (history : List Grid) (first : Standing) → after self.old.text
             (start_turns (script_for B.table_for self.old.game (R.meant rules.old.plain) (R.meant rules.old.late)) left
             (play_of history level.old))
@@ -358,7 +378,7 @@ impl<'g, B: Board> Stage<'g, B> {
     {
         let mut next = self.copied(level)?;
         let pending = self.start_turns(rules, &mut next, left)?;
-        Ok(Change::Goes(located(next, pending), HistoryChange::Keeps))
+        Ok(Change::Goes(located(next, pending), HistoryChange::Keeps, None))
     }
 
     /// Goes on behind a message of a level that was dismissed. The level stays as it is. Where nothing is to come, no
@@ -373,13 +393,14 @@ impl<'g, B: Board> Stage<'g, B> {
         rules: &mut TurnRules<B, R>,
         level: &mut PlayedLevel<B>,
         pending: Pending,
-    ) -> Result<Change<PlayedLevel<B>>, Stop>
+    ) -> Result<LevelChange<B>, Stop>
         requires { level.old.basis ≡ basis_of B.table_for self.old.game.names }
         ensures level { level.new ≡ level.old }
         ensures game { self.new.game ≡ self.old.game }
         ensures plain { R.meant rules.new.plain ≡ R.meant rules.old.plain }
         ensures late { R.meant rules.new.late ≡ R.meant rules.old.late }
         ensures basis { IfOk result (λ change. GoesOnBasis (basis_of B.table_for self.old.game.names) change) }
+        ensures touched { IfOk result (λ change. (before : Grid) → GoesFrom before change) }
         ensures came { IfOk result (λ change. (history : List Grid) → after self.old.text
             (gone_on (script_for B.table_for self.old.game (R.meant rules.old.plain) (R.meant rules.old.late))
             (play_of history level.old) (pending_shown pending))

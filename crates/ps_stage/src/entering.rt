@@ -1,6 +1,6 @@
 //! Entries as they begin, levels that are done, and restarts.
 
-ghost use Rattle.std.specs.Prelude.{◌≡◌, ◌<◌, ◌≤◌, IfErr, IfOk, suc, ℕ, Option, Some};
+ghost use Rattle.std.specs.Prelude.{◌≡◌, ◌<◌, ◌≤◌, Bool, IfErr, IfOk, suc, ℕ, Option, Some};
 ghost use Rattle.std.specs.Prelude.{List, [], ◌∷◌, filter, length, take};
 ghost use Rattle.ps_model.specs.board.Grid.{Grid};
 ghost use Rattle.ps_model.specs.session.LevelLines.{LevelEntry};
@@ -12,6 +12,7 @@ ghost use Rattle.ps_stage.specs.Standings.{Basis, basis_of, play_of, script_for,
 ghost use Rattle.ps_stage.specs.Sides.{side_at};
 ghost use Rattle.ps_stage.specs.StepsShown.{IsStopped, came, stands};
 ghost use Rattle.ps_stage.specs.Locations.{location_shown, IsOnBasis};
+ghost use Rattle.ps_stage.specs.Touched.{AreTouched, IsTouchedAt};
 
 use crate::entries::EntryNumber;
 use crate::levels::PlayedLevel;
@@ -65,6 +66,8 @@ pub(crate) fn located<B: Board>(
 ) -> Location<PlayedLevel<B>>
     ensures shown { (history : List Grid) → location_shown history result ≡ stands pending (play_of history level) }
     ensures basis { (basis : Basis) → level.basis ≡ basis → IsOnBasis basis result }
+    ensures touched { (rows : List Bool) (before : Grid) → AreTouched rows before level.board
+        → IsTouchedAt rows before result }
 {
     match pending {
         None => Location::Playing(level),

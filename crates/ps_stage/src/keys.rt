@@ -1,13 +1,13 @@
 //! The turns of a key: its own, and the again turns that follow.
 
-ghost use Rattle.std.specs.Prelude.{◌≡◌, IfOk, suc, List, None};
+ghost use Rattle.std.specs.Prelude.{◌≡◌, IfOk, suc, List, None, false};
 ghost use Rattle.ps_model.specs.board.Grid.{Grid};
 ghost use Rattle.ps_model.specs.board.Programs.{Section};
 ghost use Rattle.ps_model.specs.board.Turns.{Script};
 ghost use Rattle.ps_model.specs.session.Sessions.{Play, Step, after};
 ghost use Rattle.ps_model.specs.session.KeySteps.{key_pending, key_told, key_turns, all_key_turns};
 ghost use Rattle.ps_turn.specs.States.{done_shown};
-ghost use Rattle.ps_stage.specs.KeysShown.{key_end_step, key_outcome_shown, key_shown, key_told_step};
+ghost use Rattle.ps_stage.specs.KeysShown.{is_going_on, key_end_step, key_outcome_shown, key_shown, key_told_step};
 ghost use Rattle.ps_stage.specs.Standings.{basis_of, play_of, script_for, script_of};
 ghost use Rattle.ps_stage.specs.StepsShown.{pending_shown};
 
@@ -37,6 +37,7 @@ impl<'g, B: Board> Stage<'g, B> {
     /// again turns come, if the turn is to come again.
     fn tell_key(&mut self, done: &DoneTurn, left: u32) -> Result<KeyTold, Memory>
         ensures game { self.new.game ≡ self.old.game }
+        ensures ends { done.now.again ≡ false → IfOk result (λ told. is_going_on told ≡ false) }
         ensures told { IfOk result (λ told. (script : Script) (play : Play) (g : Grid) (turns : Play → Step)
             → after self.old.text (key_told script play (done_shown done.now g) left turns)
             ≡ key_told_step script told play self.new.text turns) }
@@ -64,6 +65,8 @@ impl<'g, B: Board> Stage<'g, B> {
         requires { level.old.basis ≡ basis_of B.table_for self.old.game.names }
         ensures game { self.new.game ≡ self.old.game }
         ensures basis { level.new.basis ≡ level.old.basis }
+        ensures board { level.new.board ≡ level.old.board }
+        ensures ends { done.now.again ≡ false → IfOk result (λ told. is_going_on told ≡ false) }
         ensures told { IfOk result (λ told. (history : List Grid) (plain late : List Section) (turns : Play → Step)
             → after self.old.text (key_shown (script_of self.old.game plain late) (play_of history level.old)
             (done_shown done.now level.old.board) left turns)

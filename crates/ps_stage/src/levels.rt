@@ -10,14 +10,16 @@ ghost use Rattle.ps_screen.specs.FrameTexts.{IsFrameOf};
 ghost use Rattle.ps_turn.specs.States.{HaveSameSides, outcome_shown, is_done};
 ghost use Rattle.ps_stage.specs.KeysShown.{IsNext, tried_outcome};
 ghost use Rattle.ps_stage.specs.Playable.{IsPlayable, LevelFits};
+ghost use Rattle.ps_stage.specs.Touched.{IsTouchedBy};
 ghost use Rattle.ps_stage.specs.Standings.{basis_of, script_for, seen_level, with_done};
 ghost use Rattle.ps_stage.specs.StepsShown.{board_taken, counts, taken};
 
 use crate::entries::EntryNumber;
 use crate::game::SessionGame;
 use crate::loading::load;
+use crate::locations::Change;
 use crate::spares::SpareBoards;
-use ps_board::Board;
+use ps_board::{Board, Columns, recall_shape};
 use ps_levels::Level;
 use ps_model::{Input, Memory, Room, RoomSize};
 use ps_names::Names;
@@ -107,13 +109,19 @@ impl Counting {
 }
 
 /// What comes of a turn that leaves the level as it is: nothing; a restart, with a message or without; or the level
-/// behind the turn.
+/// behind the turn, and rows outside of which its board shows the same objects. `S` is a set of rows.
 #[derive(Drop)]
-pub enum Tried<L> {
+pub enum Tried<L, S> {
     Blocked(Option<Text>),
     Restarted(Option<Text>),
-    Done(L, DoneTurn),
+    Done(L, DoneTurn, S),
 }
+
+/// What comes of a turn of a level.
+pub type TriedTurn<B> = Tried<PlayedLevel<B>, Columns<<B as Board>::Words>>;
+
+/// What comes of a key in a level.
+pub type LevelChange<B> = Change<PlayedLevel<B>, Columns<<B as Board>::Words>>;
 
 /// A turn of a game, on a second board that is equal to the first; see `ps_turn::turn`.
 ///
@@ -249,8 +257,8 @@ fn boards_beside<B: Board>(
     Ok((spare, restart_board))
 }
 
-/// A level of these boards: the first is copied, and the second shared. The last frame showed that room; the text of the
-/// board's frame is this one, drawn by these names, if it was.
+/// A level of these boards: the first is copied, and the second shared. The last frame showed that room; the text of
+/// the board's frame is this one, drawn by these names, if it was.
 ///
 /// # Errors
 ///
@@ -653,9 +661,9 @@ impl<B: Board> PlayedLevel<B> {
         Ok(())
     }
 
-    /// What the level behind a done turn needs beside the board that the turn came to: the text of that board's frame in
-    /// place of that of its own; a board that shows the same, for the next turn; and the one that a restart goes back
-    /// to. The board tells in which rows the turn has touched it.
+    /// What the level behind a done turn needs beside the board that the turn came to: the text of that board's frame
+    /// in place of that of its own; a board that shows the same, for the next turn; and the one that a restart goes
+    /// back to. The board tells in which rows the turn has touched it.
     ///
     /// # Errors
     ///
@@ -702,7 +710,7 @@ impl<B: Board> PlayedLevel<B> {
         game: &SessionGame<'_>,
         rules: &mut TurnRules<B, R>,
         input: Input,
-    ) -> Result<Tried<PlayedLevel<B>>, Memory>
+    ) -> Result<TriedTurn<B>, Memory>
         requires basis { self.old.basis ≡ basis_of B.table_for game.now.names }
         requires picture { picture.old ≡ game.now.names }
         ensures picture { picture.new ≡ picture.old }
@@ -711,6 +719,7 @@ impl<B: Board> PlayedLevel<B> {
             ≡ turn (script_for B.table_for game.now (R.meant rules.old.plain) (R.meant rules.old.late)) (Some input)
             self.old.board) }
         ensures next { IfOk result (λ tried. IsNext self.old tried) }
+        ensures touched { IfOk result (λ tried. IsTouchedBy self.old.board tried) }
         ensures plain { R.meant rules.new.plain ≡ R.meant rules.old.plain }
         ensures late { R.meant rules.new.late ≡ R.meant rules.old.late }
     {
@@ -730,6 +739,8 @@ impl<B: Board> PlayedLevel<B> {
                 return Err(Memory);
             }
         };
+        recall_shape(&*self.board);
+        let rows = spare.rows_touched();
         let mut frame = self.frame.take();
         match self.behind(alloc, spares, picture, &*spare, &mut frame, &done) {
             Ok((copy, restart_board)) => {
@@ -742,7 +753,7 @@ impl<B: Board> PlayedLevel<B> {
                     frame,
                     names: Snapshot::of(game.names()),
                 };
-                Ok(Tried::Done(next, done))
+                Ok(Tried::Done(next, done, rows))
             }
             Err(Memory) => {
                 drop(done);

@@ -22,7 +22,7 @@ mod stops;
 
 pub use entries::EntryNumber;
 pub use game::SessionGame;
-pub use levels::PlayedLevel;
+pub use levels::{LevelChange, PlayedLevel};
 pub use locations::{Change, HistoryChange, Location, Pending};
 pub use ps_board::Board;
 pub use ps_model::{Ending, Input, Memory, Options};

@@ -41,13 +41,14 @@ pub enum HistoryChange {
     Clears,
 }
 
-/// What comes of a key in a level.
+/// What comes of a key in a level. `S` is a set of rows.
 #[derive(Drop, Debug)]
-pub enum Change<L> {
+pub enum Change<L, S> {
     /// The level stays as it is; a message may wait.
     Stays(Option<Pending>),
-    /// The player goes to another location, or to another board of the level.
-    Goes(Location<L>, HistoryChange),
+    /// The player goes to another location, or to another board of the level. Rows, where some are told, are such that
+    /// outside of them that board shows the same objects as the one before.
+    Goes(Location<L>, HistoryChange, Option<S>),
 }
 
 /// What comes behind a frame of the start of a level.

@@ -1,5 +1,8 @@
-use Rattle.std.proofs.Common.{◌≡◌, ◌∙◌, ◌*◌, ◌≤◌, ℕ, length, refl, sym, arith, subst, [], List}
-use Rattle.ps_rows.specs.RowDifferences.{Difference, LeadBothWays}
+use Rattle.std.proofs.Common.{◌≡◌, ◌∙◌, ◌*◌, ◌≤◌, ℕ, Bool, length, refl, sym, ap, arith, subst, [], List}
+use Rattle.ps_board.proofs.Taken.{below-init}
+use Rattle.ps_rows.specs.MixedPlanes.{mixed_planes}
+use Rattle.ps_rows.specs.RowDifferences.{Difference, LeadBothWays, rows_changed}
+use Rattle.ps_rows.proofs.MixedPlanes.{length-mixed, mixed_plane, mixed_same, mixed_within}
 use Rattle.ps_rows.proofs.RowDifferences.{all_back, all_forth, both_none, both_planes, both_reach}
 use Rattle.ps_rows.proofs.Passed.{next_enough, own_order, planes_enough}
 use Rattle.ps_laws.proofs.common.Orders.{two_up}
@@ -10,45 +13,65 @@ loop-plane-init g c =
     let p = c.args.first.now in
     let start : 0 ≡ 0 * p.height = omega arith in
     let none : List Difference = [] in
-    let E : ℕ → Type 0 = λ end. LeadBothWays p.height end p.words.items c.args.second.now.words.items none in
-    rw c.new-found.ensures.items (subst E start (both_none p.height p.words.items c.args.second.now.words.items))
+    let mixed : List (List Bool) =
+    mixed_planes p.height c.both-within.result p.words.items c.args.second.now.words.items in
+    let E : ℕ → Type 0 = λ end. LeadBothWays p.height end p.words.items mixed none in
+    rw c.new-found.ensures.items (subst E start (both_none p.height p.words.items mixed))
 
 pub returns-clause-forth : goal.returns-clause-forth
 returns-clause-forth g c =
     let p = c.args.first.now in
     let o = c.args.second.now in
     let marked : ℕ = c.planes_marked-marked.result in
+    let within : List Bool = c.both-within.result in
+    let mixed : List (List Bool) = mixed_planes p.height within p.words.items o.words.items in
     let whole : length p.words.items ≤ length p.words.items = own_order (length p.words.items) in
     let N : ℕ → Type 0 = λ n. c.args.planes * p.height ≤ n in
     let enough : c.args.planes * p.height ≤ length p.words.items = subst N p.words.ok.0 c.requires.planes in
     let long : length o.words.items ≡ length p.words.items = sym o.words.ok.0 ∙ c.requires.count ∙ p.words.ok.0 in
-    all_forth p.height (length p.words.items) p.words.items o.words.items c.loop-plane.found.items whole long
-    (both_reach p.height (c.args.planes * p.height) (length p.words.items) p.words.items o.words.items
-    c.loop-plane.found.items enough (λ place from below. c.requires.rest place from)
-    (both_planes p.height c.loop-plane.plane c.args.planes p.words.items o.words.items c.loop-plane.found.items
+    let all : mixed ≡ mixed_planes p.height c.args.rows p.words.items o.words.items =
+    mixed_within p.height c.args.rows p.words.items o.words.items c.below-all.result within p.some_row p.rows
+    c.below-all.ensures c.both-within.ensures in
+    all_forth p.height (length p.words.items) p.words.items mixed c.loop-plane.found.items whole
+    (length-mixed p.height within p.words.items o.words.items)
+    (both_reach p.height (c.args.planes * p.height) (length p.words.items) p.words.items mixed
+    c.loop-plane.found.items enough
+    (λ place from below. mixed_same p.height within p.words.items o.words.items long place (c.requires.rest place from))
+    (both_planes p.height c.loop-plane.plane c.args.planes p.words.items mixed c.loop-plane.found.items
     p.some_row
     (two_up c.loop-plane.plane marked c.args.planes c.loop-plane.auto.plane-end c.planes_marked-marked.ensures.few)
-    (λ plane from below. c.planes_marked-marked.ensures.same plane
-    (two_up marked c.loop-plane.plane plane c.loop-plane-test.false from) below)
+    (λ plane from below. mixed_plane p.height within p.words.items o.words.items long plane
+    (c.planes_marked-marked.ensures.same plane
+    (two_up marked c.loop-plane.plane plane c.loop-plane-test.false from) below))
     c.loop-plane.invariant))
+    ∙ all
 
 pub returns-clause-back : goal.returns-clause-back
 returns-clause-back g c =
     let p = c.args.first.now in
     let o = c.args.second.now in
     let marked : ℕ = c.planes_marked-marked.result in
+    let within : List Bool = c.both-within.result in
+    let mixed : List (List Bool) = mixed_planes p.height within p.words.items o.words.items in
     let whole : length p.words.items ≤ length p.words.items = own_order (length p.words.items) in
     let N : ℕ → Type 0 = λ n. c.args.planes * p.height ≤ n in
     let enough : c.args.planes * p.height ≤ length p.words.items = subst N p.words.ok.0 c.requires.planes in
     let long : length o.words.items ≡ length p.words.items = sym o.words.ok.0 ∙ c.requires.count ∙ p.words.ok.0 in
-    all_back p.height (length p.words.items) p.words.items o.words.items c.loop-plane.found.items whole long
-    (both_reach p.height (c.args.planes * p.height) (length p.words.items) p.words.items o.words.items
-    c.loop-plane.found.items enough (λ place from below. c.requires.rest place from)
-    (both_planes p.height c.loop-plane.plane c.args.planes p.words.items o.words.items c.loop-plane.found.items
+    let all : mixed ≡ mixed_planes p.height c.args.rows p.words.items o.words.items =
+    mixed_within p.height c.args.rows p.words.items o.words.items c.below-all.result within p.some_row p.rows
+    c.below-all.ensures c.both-within.ensures in
+    ap (λ (words : List (List Bool)). rows_changed p.height words c.loop-plane.found.items) (sym all)
+    ∙ all_back p.height (length p.words.items) p.words.items mixed c.loop-plane.found.items whole
+    (length-mixed p.height within p.words.items o.words.items)
+    (both_reach p.height (c.args.planes * p.height) (length p.words.items) p.words.items mixed
+    c.loop-plane.found.items enough
+    (λ place from below. mixed_same p.height within p.words.items o.words.items long place (c.requires.rest place from))
+    (both_planes p.height c.loop-plane.plane c.args.planes p.words.items mixed c.loop-plane.found.items
     p.some_row
     (two_up c.loop-plane.plane marked c.args.planes c.loop-plane.auto.plane-end c.planes_marked-marked.ensures.few)
-    (λ plane from below. c.planes_marked-marked.ensures.same plane
-    (two_up marked c.loop-plane.plane plane c.loop-plane-test.false from) below)
+    (λ plane from below. mixed_plane p.height within p.words.items o.words.items long plane
+    (c.planes_marked-marked.ensures.same plane
+    (two_up marked c.loop-plane.plane plane c.loop-plane-test.false from) below))
     c.loop-plane.invariant))
 
 pub planes_marked-marked-requires : goal.planes_marked-marked-requires
@@ -70,7 +93,8 @@ add_differences-requires g c =
       plane = next_enough p.height c.loop-plane.plane c.planes_marked-marked.result c.args.planes p.words.len
           p.words.len
           c.loop-plane-test.true c.planes_marked-marked.ensures.few c.requires.planes refl;
-      all = c.below-all.ensures;
+      rows = (below-init c.args.rows c.below-all.result c.both-within.result p.height c.below-all.ensures
+          c.both-within.ensures).at;
       before = c.loop-plane.invariant;
     }
 

@@ -27,6 +27,7 @@ returns-then-is_ignored_in_level g c =
           c.args.level.now) c.args.key ignored;
       stopped = tt;
       basis = tt;
+      touched = tt;
       ignored = λ e. refl;
     }
 
@@ -48,6 +49,7 @@ returns-in_ok-next-in-Move g c =
           ∙ c.in_ok-next-in-Move.ensures.came grids;
       stopped = tt;
       basis = c.in_ok-next-in-Move.ensures.basis;
+      touched = c.in_ok-next-in-Move.ensures.touched;
       ignored = λ e. absurd (true≢false (sym e ∙ heeded));
     }
 
@@ -69,6 +71,7 @@ returns-in_ok-next-in-Undo g c =
           ∙ c.in_ok-next-in-Undo.ensures.came script.plain script.late;
       stopped = tt;
       basis = c.in_ok-next-in-Undo.ensures.basis;
+      touched = c.in_ok-next-in-Undo.ensures.touched;
       ignored = λ e. absurd (true≢false (sym e ∙ heeded));
     }
 
@@ -89,6 +92,7 @@ returns-in_ok-next-in-Restart g c =
       came = restarted_by script play c.args.key c.in-Restart.is heeded ∙ c.in_ok-next-in-Restart.ensures.came grids;
       stopped = tt;
       basis = c.in_ok-next-in-Restart.ensures.basis;
+      touched = c.in_ok-next-in-Restart.ensures.touched;
       ignored = λ e. absurd (true≢false (sym e ∙ heeded));
     }
 
@@ -110,6 +114,7 @@ returns-in_ok-next-in-Quit g c =
           ∙ c.in_ok-next-in-Quit.ensures.came grids (Playing c.args.level.now);
       stopped = tt;
       basis = c.in_ok-next-in-Quit.ensures.basis _;
+      touched = c.in_ok-next-in-Quit.ensures.touched _;
       ignored = λ e. absurd (true≢false (sym e ∙ heeded));
     }
 

@@ -22,6 +22,7 @@ returns-then-is_ignored_at_message g c =
           ignored;
       stopped = tt;
       basis = tt;
+      touched = tt;
       ignored = λ e. refl;
     }
 
@@ -44,5 +45,6 @@ returns g c =
           ∙ c.in_ok-location.ensures.came;
       stopped = tt;
       basis = c.in_ok-location.ensures.basis;
+      touched = refl;
       ignored = λ e. absurd (true≢false (sym e ∙ heeded));
     }

@@ -12,6 +12,9 @@ use Rattle.ps_session.proofs.messages.key_at_level_message.Goals as goal
 pub returns-in-Quit-clause-basis : goal.returns-in-Quit-clause-basis
 returns-in-Quit-clause-basis g c = c.in_ok-next.ensures.basis _
 
+pub returns-in-Quit-clause-touched : goal.returns-in-Quit-clause-touched
+returns-in-Quit-clause-touched g c = c.in_ok-next.ensures.touched _
+
 pub returns : goal.returns
 returns g c =
     let script : Script = script_for g.B.Board.table_for c.args.stage.now.game (g.R.Rules.meant c.args.rules.now.plain)
@@ -33,5 +36,6 @@ returns g c =
           (sym (c.next_of.ensures.waiting history c.args.level.now c.args.pending));
       stopped = tt;
       basis = c.next_of.ensures.basis _ c.in_ok-change.ensures.basis;
+      touched = c.next_of.ensures.touched _ (c.in_ok-change.ensures.touched _);
       ignored = λ e. absurd (true≢false (sym e ∙ heeded));
     }

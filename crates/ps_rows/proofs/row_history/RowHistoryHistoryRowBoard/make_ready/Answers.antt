@@ -1,8 +1,26 @@
-use Rattle.std.proofs.Common.{ap, Some}
-use Rattle.ps_rows.specs.RowHistories.{HistoryShown}
+use Rattle.std.proofs.Common.{◌≡◌, ◌∙◌, ap, sym, subst, Option, Some}
+use Rattle.std.specs.Prelude.{IfSome}
+use Rattle.ps_board.specs.Histories.{BoardShown, latest_board}
+use Rattle.ps_board.specs.Rows.{DifferOnlyOn}
+use Rattle.ps_rows.specs.RowHistories.{HistoryShown, kept, shown}
+use Rattle.ps_rows.specs.Showing.{grid_shown}
+use Rattle.ps_rows.proofs.RowHistories.{latest_shown}
 use Rattle.ps_rows.proofs.row_history.RowHistoryHistoryRowBoard.make_ready.Goals.{in-None+in_ok-copied-in-None}
 use Rattle.ps_rows.proofs.row_history.RowHistoryHistoryRowBoard.make_ready.Goals.{in-Some+in_ok-step-in-Some}
 use Rattle.ps_rows.proofs.row_history.RowHistoryHistoryRowBoard.make_ready.Goals as goal
+
+pub step_to-requires : goal.step_to-requires
+step_to-requires g c =
+    let b = c.args.board.now in
+    let l = c.in-Some.latest.value in
+    let known : latest_board c.args.self.now.boards
+    ≡ Some (shown (kept l.members.table.items l.width l.planes.height l.layers l.planes.words.items)) =
+    ap (λ (history : HistoryShown). latest_board history.boards) (sym c.self.view_is)
+    ∙ latest_shown _ c.self.inside.latest c.in-Some.latest c.self.inside.steps.items (sym c.in-Some.is) in
+    let P : Option BoardShown → Type 0 = λ o. IfSome c.args.rows (λ rows. IfSome o (λ latest.
+    DifferOnlyOn rows.now latest.grid
+    (grid_shown b.members.table.items b.width b.planes.height b.layers b.planes.words.items))) in
+    rw c.deref.ensures (subst P known c.requires)
 
 pub invariant_of-self : goal.invariant_of-self
 invariant_of-self g c = elim c.match-self.branch [

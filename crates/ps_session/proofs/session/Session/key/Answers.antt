@@ -7,6 +7,7 @@ use Rattle.ps_stage.specs.Standings.{Basis, SessionValue, StageValue, basis_of, 
 use Rattle.ps_session.specs.Histories.{AreOnTable, grids_of}
 use Rattle.ps_session.specs.Nexts.{next_shown, next_step}
 use Rattle.ps_session.specs.Bases.{AnswersOnBasis}
+use Rattle.ps_session.specs.Behind.{AnswersFrom}
 use Rattle.ps_session.proofs.KeyEnds.{error_came, game_of_value, ignored_inside, left_of_value, no_text_come}
 use Rattle.ps_session.proofs.KeyEnds.{none_came, same_value, session_come, step_of_value, text_come}
 use Rattle.ps_session.proofs.session.Session.key.Goals as goal
@@ -15,11 +16,16 @@ pub next_at-found-requires : goal.next_at-found-requires
 next_at-found-requires g c = record {
   empty = c.forget_text.ensures.text;
   basis = rw c.forget_text.ensures.game c.self.invariant.0;
-  boards = rw c.forget_text.ensures.game c.self.invariant.1;
+  boards = rw c.forget_text.ensures.game c.self.invariant.1.0;
 }
 
 pub commit-requires : goal.commit-requires
-commit-requires g c = record { ready = c.in_default.ensures.ready }
+commit-requires g c = record {
+  behind = rw (c.prepare-done.ensures.boards, c.in-Ok-Some.ensures.same) c.self.invariant.1.1;
+  touched = rw c.in-Ok-Some.ensures.same
+      (subst (AnswersFrom c.self.inside.location) c.in-Ok-Some.field-0-is c.in-Ok-Some.ensures.touched);
+  ready = c.in_default.ensures.ready;
+}
 
 pub returns-in-Ok-None : goal.returns-in-Ok-None
 returns-in-Ok-None g c =
@@ -149,5 +155,11 @@ invariant_of-self-2 g c =
     let comes : AnswersOnBasis basis (Some c.in-Ok-Some.next) =
     subst (AnswersOnBasis basis) c.in-Ok-Some.field-0-is answers in
     let before : AreOnTable basis.table (g.H.History.boards c.prepare-done.new.history) =
-    rw c.prepare-done.ensures.boards c.self.invariant.1 in
-    rw game (c.commit.ensures.location basis here comes, c.commit.ensures.boards basis before here)
+    rw c.prepare-done.ensures.boards c.self.invariant.1.0 in
+    rw game (
+      c.commit.ensures.location basis here comes,
+      (
+        c.commit.ensures.boards basis before here,
+        c.commit.ensures.behind,
+      ),
+    )

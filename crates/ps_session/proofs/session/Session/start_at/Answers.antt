@@ -15,8 +15,11 @@ pub invariant_of-result : goal.invariant_of-result
 invariant_of-result g c = (
   subst (λ (game : SessionParts). IsOnBasis (basis_of g.B.Board.table_for game.names) c.in_ok-location.location)
       (sym c.in_ok-location.ensures.game) c.in_ok-location.ensures.basis,
-  none_on_table (g.B.Board.table_for c.begin.new.stage.game.names.layers)
-      (g.H.History.boards c.in_ok-history.history) c.in_ok-history.ensures,
+  (
+    none_on_table (g.B.Board.table_for c.begin.new.stage.game.names.layers)
+        (g.H.History.boards c.in_ok-history.history) c.in_ok-history.ensures,
+    tt,
+  ),
 )
 
 pub returns : goal.returns

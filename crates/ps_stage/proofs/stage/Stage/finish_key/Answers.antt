@@ -1,4 +1,5 @@
 use Rattle.std.proofs.Common.{◌∙◌, List, sym, subst, ap}
+use Rattle.std.proofs.lemmas.Option.{IfSome_then}
 use Rattle.ps_model.specs.board.Grid.{Grid}
 use Rattle.ps_model.specs.board.Turns.{Script}
 use Rattle.ps_model.specs.session.Sessions.{Session, after}
@@ -45,3 +46,7 @@ returns-in-Won-clause-stopped g c =
     (after c.args.self.now.text (level_done script (play_of behind c.args.level))) stage.text)
     (sym c.keep_level.ensures)
     (stops behind)))
+
+pub returns-in-Stops-clause-touched : goal.returns-in-Stops-clause-touched
+returns-in-Stops-clause-touched g c = λ before touched.
+    IfSome_then c.args.rows touched (λ rows known. c.located.ensures.touched rows before known)

@@ -1,4 +1,4 @@
-use Rattle.std.proofs.Common.{◌≡◌, ◌∙◌, List, sym, subst, ap}
+use Rattle.std.proofs.Common.{◌≡◌, ◌∙◌, List, sym, subst, ap, Bool}
 use Rattle.ps_model.specs.board.Grid.{Grid}
 use Rattle.ps_model.specs.board.Turns.{Script}
 use Rattle.ps_model.specs.session.Sessions.{Step, after}
@@ -16,12 +16,12 @@ returns-in-Done-clause-came g c =
     let plain = g.R.Rules.meant c.args.rules.now.plain in
     let late = g.R.Rules.meant c.args.rules.now.late in
     let script : Script = script_for g.B.Board.table_for c.args.self.now.game plain late in
-    let taken = λ (tried : Tried Standing) (history : List Grid). after c.args.self.now.text
+    let taken = λ (tried : Tried Standing (List Bool)) (history : List Grid). after c.args.self.now.text
     (turn_taken script (play_of history c.args.level.now) (tried_outcome tried)) in
     let next : c.in-Done.next ≡ with_done c.args.level.now c.in-Done.done c.in-Done.next.board =
     subst (IsNext c.args.level.now) c.in-Done.is c.requires.next in
     if_ok c.follow_key-change.result c.follow_key-change.ensures.came (λ change comes history.
-    ap (λ (tried : Tried Standing). taken tried history) c.in-Done.is
+    ap (λ (tried : Tried Standing (List Bool)). taken tried history) c.in-Done.is
     ∙ ap (after c.args.self.now.text) (done_taken script c.args.level.now c.in-Done.next history c.in-Done.done next)
     ∙ comes history c.args.level.now)
 
@@ -30,13 +30,13 @@ returns-in-Done-clause-stopped g c =
     let plain = g.R.Rules.meant c.args.rules.now.plain in
     let late = g.R.Rules.meant c.args.rules.now.late in
     let script : Script = script_for g.B.Board.table_for c.args.self.now.game plain late in
-    let taken = λ (tried : Tried Standing) (history : List Grid). after c.args.self.now.text
+    let taken = λ (tried : Tried Standing (List Bool)) (history : List Grid). after c.args.self.now.text
     (turn_taken script (play_of history c.args.level.now) (tried_outcome tried)) in
     let next : c.in-Done.next ≡ with_done c.args.level.now c.in-Done.done c.in-Done.next.board =
     subst (IsNext c.args.level.now) c.in-Done.is c.requires.next in
     if_err c.follow_key-change.result c.follow_key-change.ensures.stopped (λ stop stops history.
     subst (λ (step : Step). IsStopped script stop step c.follow_key-change.new.self.text)
-    (sym (ap (λ (tried : Tried Standing). taken tried history) c.in-Done.is
+    (sym (ap (λ (tried : Tried Standing (List Bool)). taken tried history) c.in-Done.is
     ∙ ap (after c.args.self.now.text) (done_taken script c.args.level.now c.in-Done.next history c.in-Done.done next)))
     (stops history c.args.level.now))
 
