@@ -20,4 +20,4 @@ pub mod Differing
 pub mod OneColumn
 pub mod AllRows
 pub mod CellLaws
-mod SlotCopies
+pub mod LayerObjects

@@ -1,6 +1,6 @@
--- Cells with the same slots have the same objects.
+-- Cells with the same slots have on each layer the same object.
 use Rattle.std.proofs.Common.{◌≡◌, ◌&&◌, ℕ, ◌+◌, ◌*◌, ◌-◌, ◌<◌, ◌≤◌, zero, suc, true, List, [], ◌∷◌, take, drop, get_or}
-use Rattle.std.proofs.Common.{refl, ap, ap₂, ◌∙◌, arith}
+use Rattle.std.proofs.Common.{Option, None, Some, map, refl, ap, ap₂, ◌∙◌, arith}
 use Rattle.std.specs.Simd.{first_chunks}
 use Rattle.std.proofs.lemmas.Bool.{and_parts, eqb-true, false≢true}
 use Rattle.std.proofs.lemmas.List.{drop-drop}
@@ -9,27 +9,28 @@ use Rattle.ps_model.specs.declared.pieces.ObjectId.{ObjectId}
 use Rattle.ps_model.specs.declared.pieces.Slot.{Slot}
 use Rattle.ps_model.specs.declared.pieces.Slot.TheVariants.{Bare, Holds}
 use Rattle.ps_model.specs.board.Attempts.{same_cell}
+use Rattle.ps_model.specs.board.Grid.{object_in}
 use Rattle.ps_model.specs.meaning.Fitting.{same_motion}
 use Rattle.ps_model.specs.names.Names.{same_object}
-use Rattle.ps_model.specs.session.Frames.{objects_in}
 
 -- an object by its number
 abbrev object_of : ℕ → ObjectId
 object_of number = record { 0 = number }
 
--- the same slots hold the same objects
-pub same_objects : (first second : List Slot) → same_cell first second ≡ true → objects_in first ≡ objects_in second
+-- the same slots hold the same objects, layer by layer
+pub same_objects : (first second : List Slot) → same_cell first second ≡ true →
+    map object_in first ≡ map object_in second
 same_objects [] [] h = refl
 same_objects [] (y ∷ ys) h = absurd (false≢true h)
 same_objects (x ∷ xs) [] h = absurd (false≢true h)
-same_objects (Bare ∷ xs) (Bare ∷ ys) h = same_objects xs ys h
+same_objects (Bare ∷ xs) (Bare ∷ ys) h = ap (λ (os : List (Option ObjectId)). None ∷ os) (same_objects xs ys h)
 same_objects (Bare ∷ xs) (Holds object motion ∷ ys) h = absurd (false≢true h)
 same_objects (Holds object motion ∷ xs) (Bare ∷ ys) h = absurd (false≢true h)
 same_objects (Holds object motion ∷ xs) (Holds other moving ∷ ys) h =
     let parts = and_parts (same_object object other && same_motion motion moving) (same_cell xs ys) h in
     let heads = and_parts (same_object object other) (same_motion motion moving) parts.0 in
-    ap₂ (λ (o : ObjectId) (os : List ObjectId).
-    o ∷ os) (ap object_of (eqb-true object.0 other.0 heads.0)) (same_objects xs ys parts.1)
+    ap₂ (λ (o : ObjectId) (os : List (Option ObjectId)).
+    Some o ∷ os) (ap object_of (eqb-true object.0 other.0 heads.0)) (same_objects xs ys parts.1)
 
 -- the slots of a cell in the flat list
 pub chunk_at : {X : Type 0} (n k i : ℕ) (xs d : List X) → i < k →

@@ -10,4 +10,3 @@ pub mod Joinings
 pub mod RowsOfGrids
 pub mod Rows
 pub mod Histories
-pub mod SlotCopies

@@ -1,13 +1,14 @@
 -- Rows of two boards of the same size: where they show the same objects. Motions don't count.
-use Rattle.std.specs.Prelude.{◌≡◌, ◌<◌, ◌+◌, ◌*◌, ℕ, Bool, true, false, List}
-use Rattle.ps_model.specs.board.Grid.{Grid, cell_at}
+use Rattle.std.specs.Prelude.{◌≡◌, ◌<◌, ◌+◌, ◌*◌, ℕ, Bool, true, false, List, map}
+use Rattle.ps_model.specs.board.Grid.{Grid, cell_at, object_in}
 use Rattle.ps_model.specs.session.Frames.{objects_in}
 use Rattle.ps_board.specs.ColumnSets.{column_at}
 
--- the cell of a column of the row has the same objects in both
+-- the cell of a column of the row has on each layer the same object in both, or none
 abbrev pub HaveSameCell : Grid → Grid → ℕ → ℕ → Type 0
 HaveSameCell first second row column =
-    objects_in (cell_at first (column * first.height + row)) ≡ objects_in (cell_at second (column * first.height + row))
+    map object_in (cell_at first (column * first.height + row))
+    ≡ map object_in (cell_at second (column * first.height + row))
 
 -- each cell of the row has
 abbrev pub HaveSameRow : Grid → Grid → ℕ → Type 0
@@ -22,10 +23,6 @@ DifferOnlyIn columns first second row = (column : ℕ) → column < first.width 
 abbrev pub DifferOnlyOn : List Bool → Grid → Grid → Type 0
 DifferOnlyOn rows first second = (row : ℕ) → row < first.height → column_at rows row ≡ false →
     HaveSameRow first second row
-
--- each row has whose number is in a set
-abbrev pub AgreeOn : List Bool → Grid → Grid → Type 0
-AgreeOn rows first second = (row : ℕ) → row < first.height → column_at rows row ≡ true → HaveSameRow first second row
 
 -- the cells of a row whose columns are in a set have the same objects as the one of a column
 abbrev pub AreAlike : List Bool → Grid → ℕ → ℕ → Type 0

@@ -26,6 +26,12 @@ row_movers g layer row = row_slots is_moving g layer row
 abbrev pub row_holders : Grid → ObjectId → ℕ → ℕ → List Bool
 row_holders g object layer row = row_slots (slot_holds object) g layer row
 
+-- on the rows whose numbers aren't in a set no object of a layer is about to do something
+abbrev pub MoveOnlyOn : Grid → ℕ → List Bool → Type 0
+MoveOnlyOn g layer rows =
+    (row : ℕ) → row < g.height → column_at rows row ≡ false → (x : ℕ) → x < g.width →
+    is_moving (slot_at g (x * g.height + row) layer) ≡ false
+
 -- on the rows whose numbers aren't in a set no slot passes a test
 abbrev pub PassOnlyOn : (Slot → Bool) → Grid → List Bool → Type 0
 PassOnlyOn passes g rows =

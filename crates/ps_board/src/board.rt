@@ -9,8 +9,8 @@ ghost use Rattle.ps_model.specs.declared.pieces.Motion.TheVariants.{Still};
 ghost use Rattle.ps_model.specs.meaning.Compiled.{slot_holds};
 ghost use Rattle.ps_board.specs.Rooms.{HasRoom, HaveRoom, layer_numbers};
 ghost use Rattle.ps_board.specs.ColumnSets.{column_at};
-ghost use Rattle.ps_board.specs.RowsOfGrids.{PassOnlyOn, is_moving, row_holders, row_movers};
-ghost use Rattle.ps_board.specs.Rows.{AgreeOn, AreAlike, DifferOnlyIn, DifferOnlyOn};
+ghost use Rattle.ps_board.specs.RowsOfGrids.{MoveOnlyOn, PassOnlyOn, is_moving, row_holders, row_movers};
+ghost use Rattle.ps_board.specs.Rows.{AreAlike, DifferOnlyIn, DifferOnlyOn};
 
 use crate::columns::Columns;
 use crate::words::ColumnWords;
@@ -144,6 +144,12 @@ pub trait Board: Drop {
     fn rows_moving_any(&self) -> Columns<Self::Words>
         ensures { PassOnlyOn is_moving (grid self.now) result };
 
+    /// Rows, as a set of their numbers, without which nothing on a layer is about to move or to act. There may be more
+    /// of them, and all of them, as a board needn't look for it.
+    fn rows_moving_on(&self, layer: LayerId) -> Columns<Self::Words>
+        requires { layer.0 < (grid self.now).layers }
+        ensures { MoveOnlyOn (grid self.now) layer.0 result };
+
     /// Rows, as a set of their numbers, without which an object stands nowhere, on whatever layer. There may be more of
     /// them, and all of them, as a board needn't look for it.
     fn rows_holding(&self, object: ObjectId) -> Columns<Self::Words>
@@ -190,21 +196,28 @@ pub trait Board: Drop {
     fn rows_touched(&self) -> Columns<Self::Words>
         ensures { DifferOnlyOn result (origin self.now) (grid self.now) };
 
-    /// Makes these rows of another board of the same size, with as many layers and the same room, show the same objects
-    /// as here. Its other rows keep their objects. What is about to move there may come to rest. Its origin is then
-    /// what it shows.
+    /// Whether another board of the same size, with as many layers and the same room, which shows the same objects
+    /// outside of these rows, at rest or not, shows the same. The rows that both show at rest needn't be read but for
+    /// these.
+    fn same_on(&self, other: &Self, rows: &Columns<Self::Words>) -> bool
+        requires width { (grid other.now).width ≡ (grid self.now).width }
+        requires height { (grid other.now).height ≡ (grid self.now).height }
+        requires layers { (grid other.now).layers ≡ (grid self.now).layers }
+        requires table { table other.now ≡ table self.now }
+        requires only { DifferOnlyOn rows.now (grid self.now) (grid other.now) }
+        ensures { result ≡ same_cells (grid self.now).cells (grid other.now).cells };
+
+    /// Makes another board of the same size, with as many layers and the same room, which shows the same objects
+    /// outside of these rows, at rest or not, show what this one does.
     fn copy_rows(&self, other: &mut Self, rows: &Columns<Self::Words>)
         requires width { (grid other.old).width ≡ (grid self.now).width }
         requires height { (grid other.old).height ≡ (grid self.now).height }
         requires layers { (grid other.old).layers ≡ (grid self.now).layers }
         requires table { table other.old ≡ table self.now }
-        ensures copied { AgreeOn rows.now (grid self.now) (grid other.new) }
-        ensures left { DifferOnlyOn rows.now (grid other.old) (grid other.new) }
-        ensures width { (grid other.new).width ≡ (grid self.now).width }
-        ensures height { (grid other.new).height ≡ (grid self.now).height }
-        ensures layers { (grid other.new).layers ≡ (grid self.now).layers }
+        requires only { DifferOnlyOn rows.now (grid self.now) (grid other.old) }
+        ensures grid { grid other.new ≡ grid self.now }
         ensures table { table other.new ≡ table self.now }
-        ensures origin { origin other.new ≡ grid other.new };
+        ensures origin { origin other.new ≡ grid self.now };
 }
 
 /// Recalls that a board has the shape of one: from 1 to `SIDE_LIMIT` columns and rows, from 1 to `LAYER_LIMIT` layers,

@@ -1,16 +1,15 @@
 //! A board that keeps its slots in one list.
 
-ghost use Rattle.std.specs.Prelude.{◌≡◌, ℕ, ◌+◌, ◌*◌, ◌<◌, ◌≤◌, IfOk, None, drop, length, take};
+ghost use Rattle.std.specs.Prelude.{◌≡◌, ℕ, ◌+◌, ◌*◌, ◌<◌, ◌≤◌, IfOk, None, drop, length, map, take};
 ghost use Rattle.std.specs.Prelude.{true, vec_len};
 ghost use Rattle.std.specs.Simd.{first_chunks};
-ghost use Rattle.ps_model.specs.board.Grid.{cell_at, slot_at, slot_at_rest, slot_of};
+ghost use Rattle.ps_model.specs.board.Grid.{cell_at, object_in, slot_at, slot_at_rest, slot_of};
 ghost use Rattle.ps_model.specs.declared.limits.TheConstants.{LAYER_LIMIT, SIDE_LIMIT};
-ghost use Rattle.ps_model.specs.session.Frames.{objects_in};
 
 use crate::board::Board;
 use crate::columns::Columns;
 use crate::many_words::{ManyWords, WORDS_LIMIT};
-use crate::slots::{copy_slots, is_moving, same_slots, slot_holds};
+use crate::slots::{is_moving, same_slots, slot_holds};
 use ps_model::{LayerId, Memory, Motion, ObjectId, Slot};
 use std::alloc::Global;
 use std::snapshot::Snapshot;
@@ -70,8 +69,8 @@ impl ListBoard {
         requires width { other.now.width ≡ self.now.width }
         requires height { other.now.height ≡ self.now.height }
         requires layers { other.now.layers ≡ self.now.layers }
-        ensures { result ≡ true → objects_in (cell_at (⟦<ListBoard as Board>⟧.grid self.now) cell)
-            ≡ objects_in (cell_at (⟦<ListBoard as Board>⟧.grid other.now) cell) }
+        ensures { result ≡ true → map object_in (cell_at (⟦<ListBoard as Board>⟧.grid self.now) cell)
+            ≡ map object_in (cell_at (⟦<ListBoard as Board>⟧.grid other.now) cell) }
     {
         same_slots(self.cell_slots(cell), other.cell_slots(cell))
     }
@@ -233,6 +232,11 @@ impl Board for ListBoard {
     }
 
     /// All rows, likewise.
+    fn rows_moving_on(&self, _layer: LayerId) -> Columns<ManyWords<WORDS_LIMIT>> {
+        Columns::below(self.height)
+    }
+
+    /// All rows, likewise.
     fn rows_holding(&self, _object: ObjectId) -> Columns<ManyWords<WORDS_LIMIT>> {
         Columns::below(self.height)
     }
@@ -265,11 +269,13 @@ impl Board for ListBoard {
         Columns::below(self.height)
     }
 
-    /// Motions are copied too.
-    fn copy_rows(&self, other: &mut ListBoard, rows: &Columns<ManyWords<WORDS_LIMIT>>) {
-        let (layers, height) = (self.layers as usize, self.height as usize);
-        let others = other.slots.as_mut_slice();
-        copy_slots(self.slots.as_slice(), layers, height, rows, others);
-        other.origin = Snapshot::of(&other.slots);
+    /// All rows are looked at.
+    fn same_on(&self, other: &ListBoard, _rows: &Columns<ManyWords<WORDS_LIMIT>>) -> bool {
+        self.same(other)
+    }
+
+    /// All rows are copied.
+    fn copy_rows(&self, other: &mut ListBoard, _rows: &Columns<ManyWords<WORDS_LIMIT>>) {
+        self.copy_into(other);
     }
 }

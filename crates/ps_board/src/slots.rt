@@ -1,16 +1,12 @@
-//! Slots in a list: whether they hold the same, and copies of some of them.
+//! Slots in a list: whether they hold the same.
 
-ghost use Rattle.std.specs.Prelude.{◌≡◌, ◌<◌, ◌≤◌, length};
+ghost use Rattle.std.specs.Prelude.{◌≡◌, length};
 ghost use Rattle.ps_model.specs.board.Attempts.{same_cell, same_slot};
 ghost use Rattle.ps_model.specs.meaning.Fitting.{direction_number, motion_number, same_motion};
 ghost use Rattle.ps_model.specs.meaning.Compiled.{slot_holds};
 ghost use Rattle.ps_model.specs.names.Names.{same_object};
-ghost use Rattle.ps_model.specs.declared.limits.TheConstants.{SIDE_LIMIT};
 ghost use Rattle.ps_board.specs.RowsOfGrids.{is_moving};
-ghost use Rattle.ps_board.specs.SlotCopies.{AreSlotsCopied};
 
-use crate::columns::Columns;
-use crate::words::ColumnWords;
 use ps_model::{Direction, Motion, ObjectId, Slot};
 
 /// A number for each direction.
@@ -71,29 +67,6 @@ pub fn same_slots(first: &[Slot], second: &[Slot]) -> bool
         }
     }
     true
-}
-
-/// Copies the slots of those rows of a board that are in a set, in a list that has so many layers of each cell, and the
-/// cells of each column with so many rows.
-pub fn copy_slots<W: ColumnWords>(
-    slots: &[Slot],
-    layers: usize,
-    height: usize,
-    rows: &Columns<W>,
-    others: &mut [Slot],
-)
-    requires long { length others.old ≡ length slots.now }
-    requires layers { 0 < layers }
-    requires some_row { 0 < height }
-    requires rows { height ≤ SIDE_LIMIT }
-    ensures { AreSlotsCopied layers height rows.now slots.now others.old others.new }
-{
-    for place in 0..slots.len() {
-        let row = place / layers % height;
-        if rows.has(row as u32) {
-            others[place] = slots[place];
-        }
-    }
 }
 
 /// Whether the object of a slot is about to do something.

@@ -1,18 +1,17 @@
 -- Columns and rows in which objects of a layer are about to do something.
-use Rattle.std.proofs.Common.{◌≡◌, ◌∙◌, ℕ, ◌+◌, ◌*◌, ◌<◌, ◌≤◌, ◌&&◌, ◌||◌, Bool, false, List, []}
+use Rattle.std.proofs.Common.{◌≡◌, ◌∙◌, ℕ, ◌+◌, ◌*◌, ◌<◌, ◌≤◌, ◌&&◌, ◌||◌, inl, inr, Bool, false, List, []}
 use Rattle.std.proofs.Common.{length, refl, sym, ap, arith}
-use Rattle.std.proofs.Math.Bool.{and-true}
 use Rattle.std.proofs.Math.Nat.{mul-le-mul}
-use Rattle.std.proofs.lemmas.Bool.{lt-ltb}
+use Rattle.std.proofs.lemmas.Bool.{cases_Bool}
 use Rattle.std.proofs.lemmas.List.{get_or_past}
 use Rattle.ps_model.specs.declared.limits.TheConstants.{SIDE_LIMIT}
 use Rattle.ps_model.specs.declared.pieces.Slot.TheVariants.{Bare}
 use Rattle.ps_model.specs.board.Grid.{Grid, IsGrid, slot_at}
 use Rattle.ps_board.specs.ColumnSets.{both_columns, column_at, columns_below, either_columns}
-use Rattle.ps_board.specs.RowsOfGrids.{is_moving, row_movers}
+use Rattle.ps_board.specs.RowsOfGrids.{MoveOnlyOn, is_moving, row_movers}
 use Rattle.ps_board.proofs.ColumnLaws.{column_at-where}
-use Rattle.ps_board.proofs.Taken.{in_both}
-use Rattle.ps_move.specs.Parts.{IsBelow, IsStillOutside}
+use Rattle.ps_board.proofs.AllRows.{none_outside}
+use Rattle.ps_move.specs.Parts.{IsBelow}
 
 -- a row in whose columns beside these the objects of a layer are still
 abbrev pub IsStillRow : Grid → ℕ → List Bool → ℕ → Type 0
@@ -43,10 +42,30 @@ movers_beside g layer row shape = λ column across out.
     sym (column_at-where (λ y. is_moving (slot_at g (y * g.height + row) layer)) column
     (omega (arith, across, shape.columns))) ∙ out
 
--- the rows of a set that a grid has
-pub outside_both : (g : Grid) (set below left : List Bool) → IsGrid g → below ≡ columns_below g.height →
-    left ≡ both_columns set below → IsStillOutside g set → IsStillOutside g left
-outside_both g set below left shape b e still = λ column row layer across down out.
-    still column row layer across down
-    (sym (in_both set below left g.height row b e (omega (arith, down, shape.rows))
-    ∙ ap (λ (t : Bool). column_at set row && t) (lt-ltb row g.height down) ∙ and-true (column_at set row)) ∙ out)
+-- the numbers of a set that are in another
+at_both : (set other both : List Bool) (x : ℕ) → both ≡ both_columns set other → x < SIDE_LIMIT →
+    column_at both x ≡ (column_at set x && column_at other x)
+at_both set other both x e low =
+    ap (λ (cs : List Bool). column_at cs x) e ∙ column_at-where (λ y. column_at set y && column_at other y) x low
+
+pub below_both : (count : ℕ) (set other both : List Bool) → both ≡ both_columns set other → IsBelow count set →
+    IsBelow count both
+below_both count set other both e below = λ x low far.
+    at_both set other both x e low ∙ ap (λ (t : Bool). t && column_at other x) (below x low far)
+
+-- what moves in the rows of two sets alone moves in those alone that are in both
+pub moves_in_both : (g : Grid) (layer : ℕ) (set other both : List Bool) → IsGrid g → both ≡ both_columns set other →
+    MoveOnlyOn g layer set → MoveOnlyOn g layer other → MoveOnlyOn g layer both
+moves_in_both g layer set other both shape e one two = λ row down out x across.
+    let here : (column_at set row && column_at other row) ≡ false =
+    sym (at_both set other both row e (omega (arith, down, shape.rows))) ∙ out in
+    elim (cases_Bool (column_at set row)) [
+      | inl on ↦ two row down (sym (ap (λ (t : Bool). t && column_at other row) on) ∙ here) x across
+      | inr off ↦ one row down off x across
+    ]
+
+-- all rows of a grid
+pub moves_in_all : (g : Grid) (layer : ℕ) (rows : List Bool) → IsGrid g → rows ≡ columns_below g.height →
+    MoveOnlyOn g layer rows
+moves_in_all g layer rows shape all = λ row down out x across.
+    absurd (none_outside g.height rows shape.rows all row down out)

@@ -1,9 +1,14 @@
 -- Passes over layers, one after another.
-use Rattle.std.proofs.Common.{◌≡◌, ◌∙◌, ℕ, ◌+◌, ◌*◌, ◌≤◌, true, false, refl, arith}
+use Rattle.std.proofs.Common.{◌≡◌, ◌∙◌, ℕ, ◌+◌, ◌*◌, ◌≤◌, Bool, true, false, List, [], refl, subst, arith}
 use Rattle.ps_model.specs.board.Grid.{Grid, IsGrid}
+use Rattle.ps_board.specs.ColumnSets.{set_columns}
+use Rattle.ps_board.specs.RowsOfGrids.{MoveOnlyOn}
+use Rattle.ps_board.proofs.ColumnLaws.{none_in}
 use Rattle.ps_move.specs.Visits.{going_count}
 use Rattle.ps_move.specs.Parts.{ArePasses, IsPart}
 use Rattle.ps_move.proofs.Ends.{next_layer, next_pass}
+use Rattle.ps_move.proofs.Parts.{part_none}
+use Rattle.ps_move.proofs.StillCells.{columns_over}
 
 -- none at all
 pub passes_none : (g : Grid) (layer : ℕ) → ArePasses 0 g g layer layer
@@ -59,6 +64,16 @@ passes_end moved old now new first layer shape p q = record {
   same = λ e. q.same refl ∙ p.same e;
   still = λ cell l still. q.still cell l (p.still cell l still);
 }
+
+-- those of a layer on which nothing moves: a pass would change nothing
+pub passes_still : (g : Grid) (layer : ℕ) (rows : List Bool) → IsGrid g → MoveOnlyOn g layer rows →
+    set_columns rows ≡ [] → ArePasses 0 g g layer (layer + 1)
+passes_still g layer rows shape still empty =
+    let start : 0 ≡ 0 * g.height = omega arith in
+    let P : ℕ → Type 0 = λ cell. IsPart false g g layer 0 cell in
+    passes_end 0 g g g layer layer shape (passes_none g layer)
+    (columns_over false g g layer 0 0 g.width (subst P start (part_none g layer 0)) (omega arith)
+    (λ column row low high down. still row down (none_in rows row empty (omega (arith, down, shape.rows))) column high))
 
 -- those of one layer after those of others
 pub passes_then : (a b : ℕ) (old now new : Grid) (first next last : ℕ) → ArePasses a old now first next →

@@ -15,9 +15,9 @@ use Rattle.ps_model.specs.board.Grid.{Grid, IsGrid, cell_at, slot_at}
 use Rattle.ps_model.specs.board.Movement.{aim_of}
 use Rattle.ps_board.specs.ColumnSets.{column_at}
 use Rattle.ps_board.specs.CellSets.{IsSetOf, cell_in}
-use Rattle.ps_board.specs.RowsOfGrids.{PassOnlyOn, is_moving}
+use Rattle.ps_board.specs.RowsOfGrids.{MoveOnlyOn, PassOnlyOn, is_moving}
 use Rattle.ps_move.specs.Visits.{way, if_bare}
-use Rattle.ps_move.specs.Parts.{IsPart, IsStillBeside, IsStillIn, IsStillOutside}
+use Rattle.ps_move.specs.Parts.{IsPart, IsStillBeside, IsStillIn}
 use Rattle.ps_move.proofs.Parts.{part_none, part_then, part_stays}
 
 -- what is still has no target
@@ -120,13 +120,13 @@ rows_over went old now layer first column from to p up still =
     subst W (or-false went) (part_then went false old now now layer first (column * old.height + from)
     (column * old.height + to) p (subst H p.height between))
 
--- outside of these rows everything stays still
-pub outside_then : (old new : Grid) (rows : List Bool) → new.width ≡ old.width → new.height ≡ old.height →
+-- outside of these rows everything on a layer stays still
+pub outside_then : (old new : Grid) (layer : ℕ) (rows : List Bool) → new.width ≡ old.width → new.height ≡ old.height →
     ((cell layer : ℕ) → is_moving (slot_at old cell layer) ≡ false → is_moving (slot_at new cell layer) ≡ false) →
-    IsStillOutside old rows → IsStillOutside new rows
-outside_then old new rows width height stay still = λ column row layer across down out.
+    MoveOnlyOn old layer rows → MoveOnlyOn new layer rows
+outside_then old new layer rows width height stay still = λ row down out column across.
     rw height (stay (column * old.height + row) layer
-    (still column row layer (rw (← width) across) (rw (← height) down) out))
+    (still row (rw (← height) down) out column (rw (← width) across)))
 
 -- beside these cells everything stays still
 pub beside_then : (old new : Grid) (cells : List (List Bool)) → new.width ≡ old.width → new.height ≡ old.height →
@@ -160,15 +160,15 @@ movers_still g cells told = λ column row layer across down out.
     slot_still (cell_at g (column * g.height + row)) layer (is_moving (slot_at g (column * g.height + row) layer)) refl
     (sym (told column row across down) ∙ out)
 
--- outside of the rows in which something moves
-pub rows_still : (g : Grid) (rows : List Bool) → PassOnlyOn is_moving g rows → IsStillOutside g rows
-rows_still g rows told = λ column row layer across down out.
+-- outside of the rows in which something moves on any layer
+pub rows_still : (g : Grid) (layer : ℕ) (rows : List Bool) → PassOnlyOn is_moving g rows → MoveOnlyOn g layer rows
+rows_still g layer rows told = λ row down out column across.
     slot_still (cell_at g (column * g.height + row)) layer (is_moving (slot_at g (column * g.height + row) layer)) refl
     (told row down out column across)
 
 -- beside the rows of a column that are visited everything is still
 pub visited_still : (g : Grid) (layer column : ℕ) (rows visited : List Bool) (few : Bool) (cells : List (List Bool)) →
-    IsGrid g → column < g.width → IsStillOutside g rows → (few ≡ false → IsStillBeside g cells) →
+    IsGrid g → column < g.width → MoveOnlyOn g layer rows → (few ≡ false → IsStillBeside g cells) →
     ((row : ℕ) → row < SIDE_LIMIT → column_at visited row ≡ false → column_at rows row ≡ true →
     (few ≡ false) × (cell_in cells column row ≡ false)) →
     IsStillIn g layer column visited
@@ -176,7 +176,7 @@ visited_still g layer column rows visited few cells shape across outside beside 
     by_set row down out (column_at rows row) refl where
       by_set : (row : ℕ) → row < g.height → column_at visited row ≡ false → (b : Bool) → column_at rows row ≡ b →
           is_moving (slot_at g (column * g.height + row) layer) ≡ false
-      by_set row down out false e = outside column row layer across down e
+      by_set row down out false e = outside row down e column across
       by_set row down out true e =
           let other = others row (omega (arith, down, shape.rows)) out e in
           beside other.0 column row layer across down other.1

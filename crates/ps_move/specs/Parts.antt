@@ -38,12 +38,6 @@ pub record ArePasses (moved : ℕ) (old new : Grid) (first last : ℕ) : Type 0 
 abbrev pub IsBelow : ℕ → List Bool → Type 0
 IsBelow count numbers = (x : ℕ) → x < SIDE_LIMIT → count ≤ x → column_at numbers x ≡ false
 
--- outside of the rows of a set no object is about to do something
-abbrev pub IsStillOutside : Grid → List Bool → Type 0
-IsStillOutside g rows =
-    (column row layer : ℕ) → column < g.width → row < g.height → column_at rows row ≡ false →
-    is_moving (slot_at g (column * g.height + row) layer) ≡ false
-
 -- beside the cells of a set no object is about to do something
 abbrev pub IsStillBeside : Grid → List (List Bool) → Type 0
 IsStillBeside g cells =

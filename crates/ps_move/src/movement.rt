@@ -13,9 +13,9 @@ ghost use Rattle.ps_model.specs.board.WeakMovement.{IsWeaklySlid};
 ghost use Rattle.ps_model.specs.declared.limits.TheConstants.{LAYER_LIMIT, SIDE_LIMIT};
 ghost use Rattle.ps_board.specs.ColumnSets.{column_at};
 ghost use Rattle.ps_board.specs.CellSets.{cell_in};
+ghost use Rattle.ps_board.specs.RowsOfGrids.{MoveOnlyOn};
 ghost use Rattle.ps_move.specs.Visits.{way, visited, going_count};
 ghost use Rattle.ps_move.specs.Parts.{ArePasses, IsBelow, IsPart, IsStillBeside, IsStillBetween, IsStillIn};
-ghost use Rattle.ps_move.specs.Parts.{IsStillOutside};
 
 use ps_board::{Board, CellSet, Columns, Direction, LayerId, Motion};
 use std::marker::Model;
@@ -101,7 +101,8 @@ fn note_cells<B: Board>(board: &B, few: bool, moving: &mut CellSet<B>)
 }
 
 /// Lets the objects of a layer go, in passes until one moves nothing, and answers how many moved some. Something moves
-/// in these rows alone, and where they aren't few in these cells alone.
+/// on it in these rows alone, and where they aren't few in these cells alone. Of the rows those are visited that the
+/// board names for the layer: as a rule there is none.
 fn slide_layer<B: Board>(
     board: &mut B,
     layer: LayerId,
@@ -112,14 +113,18 @@ fn slide_layer<B: Board>(
     requires shape { IsGrid (B.grid board.old) }
     requires layer { layer.0 < (B.grid board.old).layers }
     requires below { IsBelow (B.grid board.old).height rows }
-    requires outside { IsStillOutside (B.grid board.old) rows }
+    requires outside { MoveOnlyOn (B.grid board.old) layer.0 rows }
     requires beside { few ≡ false → IsStillBeside (B.grid board.old) moving.now }
     ensures passes { ArePasses result (B.grid board.old) (B.grid board.new) layer.0 (layer.0 + 1) }
     ensures table { B.table board.new ≡ B.table board.old }
     ensures origin { B.origin board.new ≡ B.origin board.old }
 {
+    let own = rows.both(board.rows_moving_on(layer));
+    if own.is_empty() {
+        return 0;
+    }
     let mut passes = 0;
-    while pass(board, layer, rows, few, moving) {
+    while pass(board, layer, own, few, moving) {
         passes += 1;
     }
     passes
@@ -137,7 +142,7 @@ fn pass<B: Board>(
     requires shape { IsGrid (B.grid board.old) }
     requires layer { layer.0 < (B.grid board.old).layers }
     requires below { IsBelow (B.grid board.old).height rows }
-    requires outside { IsStillOutside (B.grid board.old) rows }
+    requires outside { MoveOnlyOn (B.grid board.old) layer.0 rows }
     requires beside { few ≡ false → IsStillBeside (B.grid board.old) moving.now }
     ensures part { let old = B.grid board.old in
         IsPart result old (B.grid board.new) layer.0 0 (old.width * old.height) }
@@ -158,7 +163,7 @@ fn moving_columns<B: Board>(board: &B, layer: LayerId, rows: Columns<B::Words>) 
     requires shape { IsGrid (B.grid board.now) }
     requires layer { layer.0 < (B.grid board.now).layers }
     requires below { IsBelow (B.grid board.now).height rows }
-    requires outside { IsStillOutside (B.grid board.now) rows }
+    requires outside { MoveOnlyOn (B.grid board.now) layer.0 rows }
     ensures narrow { IsBelow (B.grid board.now).width result }
     ensures still { IsStillBetween (B.grid board.now) layer.0 result }
 {

@@ -30,13 +30,13 @@ pub mod RowsDiffering
 pub mod Unlike
 pub mod SameWords
 pub mod RowCopies
-pub mod CopiesShown
 pub mod OneCell
 pub mod RowDifferences
 mod RowsAdded
 mod MixedPlanes
-mod CellObjects
+mod RowsApart
 mod MixedBoards
+mod CopiedBoards
 pub mod RowHistories
 pub mod TopicsTold
 pub mod LayersTouched

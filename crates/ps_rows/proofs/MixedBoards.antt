@@ -1,16 +1,12 @@
 -- A board whose planes are mixed from those of two boards: it is one, and what it shows.
-use Rattle.std.proofs.Common.{◌≡◌, ◌∙◌, ℕ, ◌+◌, ◌*◌, ◌/◌, ◌%◌, ◌<◌, ◌≤◌, inl, inr, Bool, true, false, Option, Some}
-use Rattle.std.proofs.Common.{List, [], length, map, refl, sym, ap, arith, subst}
-use Rattle.std.specs.Prelude.{slice_get}
-use Rattle.std.specs.List.{range_with_len}
+use Rattle.std.proofs.Common.{◌≡◌, ◌∙◌, ℕ, ◌*◌, ◌/◌, ◌%◌, ◌<◌, inl, inr, Bool, true, false, Option, Some}
+use Rattle.std.proofs.Common.{List, length, refl, sym, ap}
 use Rattle.std.proofs.lemmas.Bool.{cases_Bool}
-use Rattle.std.proofs.lemmas.Nat.{div_below, div-add-mod', mod_below}
+use Rattle.std.proofs.lemmas.Nat.{mod_below}
 use Rattle.ps_model.specs.declared.pieces.Slot.{Slot}
-use Rattle.ps_model.specs.board.Grid.{Grid, cell_at, motion_in}
+use Rattle.ps_model.specs.board.Grid.{Grid, motion_in}
 use Rattle.ps_model.specs.board.Movement.{is_number}
 use Rattle.ps_model.specs.meaning.Fitting.{same_motion}
-use Rattle.ps_model.specs.session.Frames.{objects_in}
-use Rattle.ps_laws.proofs.common.SameThings.{is_number-true}
 use Rattle.ps_board.specs.ColumnSets.{column_at}
 use Rattle.ps_board.specs.Histories.{BoardShown}
 use Rattle.ps_board.specs.Rows.{DifferOnlyOn}
@@ -20,31 +16,13 @@ use Rattle.ps_rows.specs.Planes.{AreSameFrom, has_cell}
 use Rattle.ps_rows.specs.Showing.{AreMotionsShown, AreObjectsShown, cell_shown, cells_shown, grid_shown, motion_shown}
 use Rattle.ps_rows.specs.Showing.{motions_from, object_shown, slot_shown}
 use Rattle.ps_rows.specs.RowHistories.{IsBoard, kept, shown}
-use Rattle.ps_rows.proofs.Alike.{back, other_motions, other_objects, slot_object}
-use Rattle.ps_rows.proofs.CellObjects.{AreOwn, same_layers}
+use Rattle.ps_rows.proofs.Alike.{other_motions, other_objects}
 use Rattle.ps_rows.proofs.Listed.{find_same}
 use Rattle.ps_rows.proofs.MixedPlanes.{mixed_off, mixed_on}
 use Rattle.ps_rows.proofs.Moves.{first_motion-same}
-use Rattle.ps_rows.proofs.PlaneCopies.{behind_plane}
-use Rattle.ps_rows.proofs.Rests.{object_room}
 use Rattle.ps_rows.proofs.RowHistories.{alike_shown}
-use Rattle.ps_rows.proofs.Tables.{tabled_at, tabled_same}
-
--- a slot by its object and its motion
-slot_by : (table : List ℕ) (height : ℕ) (words others : List (List Bool)) (c l : ℕ) →
-    object_shown table height words c l ≡ object_shown table height others c l →
-    motion_shown table height words c l ≡ motion_shown table height others c l →
-    slot_shown table height words c l ≡ slot_shown table height others c l
-unfolding slot_shown
-slot_by table height words others c l object motion = rw (object, motion) refl
-
--- an object that is shown on a layer is one of the layer
-own_layers : (table : List ℕ) (height : ℕ) (words : List (List Bool)) (c : ℕ) →
-    AreOwn (λ object. slice_get table object.0) (slot_shown table height words c)
-unfolding back
-own_layers table height words c = λ l object is.
-    is_number-true (slice_get table object.0) l
-    (object_room table height words c l object.0 (sym (slot_object table height words c l) ∙ ap back is))
+use Rattle.ps_rows.proofs.RowsApart.{slot_apart, slot_by}
+use Rattle.ps_rows.proofs.Tables.{tabled_same}
 
 module _ (table : List ℕ) (height : ℕ) (rows : List Bool) (first second : List (List Bool)) (some : 0 < height)
     (long : length second ≡ length first) where
@@ -115,42 +93,12 @@ module _ (table : List ℕ) (height : ℕ) (rows : List Bool) (first second : Li
   module _ (width layers : ℕ) (rest : AreSameFrom (length table * height) first second)
       (apart : DifferOnlyOn rows (grid_shown table width height layers first)
       (grid_shown table width height layers second)) where
-    objects_same : (c : ℕ) → c < width * height → column_at rows (c % height) ≡ false →
-        objects_in (map (slot_shown table height first c) (range_with_len 0 layers)) ≡ objects_in
-        (map (slot_shown table height second c) (range_with_len 0 layers))
-    unfolding cells_shown cell_shown
-    objects_same c inside off =
-        let e : c / height * height + c % height ≡ c = div-add-mod' c height in
-        let P : ℕ → Type 0 = λ cell. objects_in (cell_at (grid_shown table width height layers first) cell) ≡ objects_in
-        (cell_at (grid_shown table width height layers second) cell) in
-        sym (ap objects_in (tabled_at (cell_shown table layers height first) (width * height) c [] inside))
-        ∙ subst P e (apart (c % height) (mod_below c height some) off (c / height)
-        (div_below c height width some inside))
-        ∙ ap objects_in (tabled_at (cell_shown table layers height second) (width * height) c [] inside)
-
-    slot_same : (c l : ℕ) → c < width * height → l < layers → column_at rows (c % height) ≡ false →
-        slot_shown table height first c l ≡ slot_shown table height second c l
-    unfolding motion_shown has_cell
-    slot_same c l inside below off =
-        slot_by table height first second c l
-        (sym (slot_object table height first c l)
-        ∙ ap back
-        (same_layers (λ object. slice_get table object.0) (slot_shown table height first c)
-        (slot_shown table height second c) (own_layers table height first c) (own_layers table height second c) layers
-        (objects_same c inside off) l below)
-        ∙ slot_object table height second c l)
-        (first_motion-same (has_cell height first c) (has_cell height second c) (motions_from table l)
-        (λ q low high.
-        let past : length table ≤ q = omega (arith, low) in
-        let more : length table * height ≤ q * height = behind_plane height (length table) q past in
-        ap (λ (word : List Bool). column_at word (c / height))
-        (rest (q * height + c % height) (omega (arith, more)))))
-
     slot_mixed : (c l : ℕ) → c < width * height → l < layers →
         slot_shown table height mixed c l ≡ slot_shown table height second c l
     slot_mixed c l inside below = elim (cases_Bool (column_at rows (c % height))) [
       | inl on ↦ slot_on c l on
-      | inr off ↦ slot_off c l off ∙ slot_same c l inside below off
+      | inr off ↦ slot_off c l off
+          ∙ slot_apart table width height layers rows first second some rest apart c l inside below off
     ]
 
     pub mixed_shown : grid_shown table width height layers mixed ≡ grid_shown table width height layers second

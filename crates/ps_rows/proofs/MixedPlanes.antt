@@ -1,6 +1,6 @@
 -- Planes of two boards, mixed: row by row, and what leads to them.
-use Rattle.std.proofs.Common.{◌≡◌, ◌∙◌, ℕ, ◌+◌, ◌*◌, ◌%◌, ◌<◌, ◌≤◌, ◌&&◌, inl, inr, Bool, true, false, List, length}
-use Rattle.std.proofs.Common.{refl, sym, ap, arith, subst}
+use Rattle.std.proofs.Common.{◌≡◌, ◌∙◌, ℕ, ◌+◌, ◌*◌, ◌/◌, ◌%◌, ◌<◌, ◌≤◌, ◌&&◌, inl, inr, Bool, true, false, List}
+use Rattle.std.proofs.Common.{length, refl, sym, ap, arith, subst}
 use Rattle.std.specs.Prelude.{if◌then◌else◌}
 use Rattle.std.proofs.Math.Bool.{and-true}
 use Rattle.std.proofs.lemmas.Bool.{cases_Bool, cases_lt, lt-ltb}
@@ -12,9 +12,11 @@ use Rattle.ps_board.specs.ColumnSets.{both_columns, column_at, columns_below, no
 use Rattle.ps_board.proofs.ColumnLaws.{below_at}
 use Rattle.ps_board.proofs.Taken.{in_both}
 use Rattle.ps_rows.specs.MixedPlanes.{mixed_planes, mixed_row}
-use Rattle.ps_rows.specs.Planes.{AreSets, IsSet, row_of}
+use Rattle.ps_rows.specs.PlaneCopies.{AreRowsOf}
+use Rattle.ps_rows.specs.Planes.{AreSameFrom, AreSets, IsSet, row_of}
 use Rattle.ps_rows.specs.RowDifferences.{Difference, LeadBothWays}
 use Rattle.ps_rows.specs.Sameness.{DifferOnlyOnRows}
+use Rattle.ps_rows.proofs.PlaneCopies.{at_place, behind_plane}
 use Rattle.ps_rows.proofs.RowCopies.{not_wanted}
 use Rattle.ps_rows.proofs.RowsAdded.{AreAdded}
 use Rattle.ps_rows.proofs.Sets.{both_at}
@@ -101,6 +103,29 @@ module _ (height : ℕ) (rows : List Bool) (first second : List (List Bool)) whe
         subst P (sym (mixed_at place))
         (either_set (column_at rows (place % height)) (row_of second place) (row_of first place) (seconds place)
         (firsts place))
+
+    -- where the rows of the first planes were copied, and the others are the same
+    pub mixed_copied : (end : ℕ) (after : List (List Bool)) → 0 < height → AreSameFrom (end * height) second first →
+        length after ≡ length first → AreRowsOf height 0 end rows second first after → after ≡ mixed
+    mixed_copied end after some rest same are =
+        let each : (plane row : ℕ) → row < height →
+        row_of after (plane * height + row) ≡ row_of mixed (plane * height + row) =
+        λ plane row under. elim (cases_Bool (column_at rows row)) [
+          | inl on ↦ elim (cases_lt plane end) [
+            | inl early ↦ are.copied plane row under (omega arith) early on ∙ sym (mixed_on plane row under on)
+            | inr late ↦
+                let more : end * height ≤ plane * height = behind_plane height end plane late in
+                are.behind plane row under late
+                ∙ sym (mixed_on plane row under on ∙ rest (plane * height + row) (omega (arith, more)))
+          ]
+          | inr off ↦ are.left plane row under off ∙ sym (mixed_off plane row under off)
+        ] in
+        same_lists after mixed (same ∙ sym length-mixed)
+        (λ place d inside.
+        let here : place < length mixed = omega (arith, inside, same, length-mixed) in
+        get_or_default after place d no_columns inside ∙ at_place height place after
+        ∙ each (place / height) (place % height) (mod_below place height some) ∙ sym (at_place height place mixed)
+        ∙ sym (get_or_default mixed place d no_columns here))
 
     -- where the set has all rows
     pub mixed_all : 0 < height → ((row : ℕ) → row < height → column_at rows row ≡ true) → mixed ≡ second

@@ -11,7 +11,7 @@ use Rattle.ps_rows.specs.Showing.{motions_from}
 use Rattle.std.proofs.lemmas.Option.{slice_get_within}
 use Rattle.ps_model.specs.board.Movement.{is_number}
 use Rattle.ps_laws.proofs.common.SameThings.{is_number-true}
-use Rattle.ps_rows.specs.PlaneCopies.{ArePlanesOf, AreRowsOf}
+use Rattle.ps_rows.specs.PlaneCopies.{ArePlanesOf}
 use Rattle.ps_rows.proofs.Marks.{listed_at}
 use Rattle.ps_rows.proofs.PlaneCopies.{behind_plane, planes_within}
 
@@ -114,34 +114,6 @@ planes_more height first end source before between after order was next =
       ];
     }
 
--- so of some rows of the planes
-pub no_rows_copied : (height first : ℕ) (rows : List Bool) (source before : List (List Bool)) →
-    AreRowsOf height first first rows source before before
-no_rows_copied height first rows source before =
-    record {
-      below = λ plane row under less. refl;
-      behind = λ plane row under more. refl;
-      copied = λ plane row under low high has. absurd (omega arith);
-      left = λ plane row under clear. refl;
-    }
-
-pub rows_more : (height first end : ℕ) (rows : List Bool) (source before between after : List (List Bool)) →
-    first ≤ end → AreRowsOf height first end rows source before between →
-    AreRowsOf height end (end + 1) rows source between after →
-    AreRowsOf height first (end + 1) rows source before after
-rows_more height first end rows source before between after order was next =
-    record {
-      below = λ plane row under less.
-          let low : plane < end = omega arith in next.below plane row under low ∙ was.below plane row under less;
-      behind = λ plane row under more.
-          let high : end ≤ plane = omega arith in next.behind plane row under more ∙ was.behind plane row under high;
-      copied = λ plane row under from below has. elim (cases_lt plane end) [
-        | inl early ↦ next.below plane row under early ∙ was.copied plane row under from early has
-        | inr late ↦ next.copied plane row under late below has
-      ];
-      left = λ plane row under clear. next.left plane row under clear ∙ was.left plane row under clear;
-    }
-
 -- layers that are passed by from the last one on
 pub layers_more : (P : ℕ → Type 0) (layers step : ℕ) →
     ((layer : ℕ) → layer < layers → layers - step ≤ layer → P layer) → P (layers - 1 - step) → (layer : ℕ) →
@@ -153,9 +125,6 @@ layers_more P layers step before here layer low from = elim (cases_eq layer (lay
 
 pub layer_below : (layers step : ℕ) → step < layers → layers - 1 - step < layers
 layer_below layers step inside = omega arith
-
-pub zero_below : (n : ℕ) → 0 ≤ n
-zero_below n = omega arith
 
 -- the five planes of a layer's motions
 pub motion_below : (table : List ℕ) (layers layer first motion : ℕ) → first ≡ motions_from table layer →

@@ -1,16 +1,16 @@
 -- Columns in which a row is the same in the planes of all objects show the same objects.
-use Rattle.std.proofs.Common.{◌≡◌, ℕ, zero, suc, ◌+◌, ◌*◌, ◌<◌, ◌≤◌, true, false, List, [], ◌∷◌, length, map, refl, sym}
+use Rattle.std.proofs.Common.{◌≡◌, ℕ, ◌+◌, ◌*◌, ◌<◌, ◌≤◌, true, false, List, [], length, map, sym}
 use Rattle.std.proofs.Common.{ap, ◌∙◌, arith, Bool, not, ap₂, ◌&&◌}
 use Rattle.std.specs.Prelude.{option_map}
 use Rattle.std.specs.List.{range_with_len}
 use Rattle.std.proofs.lemmas.Bool.{and_parts, not-true}
 use Rattle.std.proofs.lemmas.Nat.{mul-add-lt}
 use Rattle.std.proofs.lemmas.Option.{slice_get_within}
-use Rattle.ps_model.specs.declared.pieces.Slot.{Slot}
+use Rattle.std.proofs.lemmas.Simd.{map-map}
 use Rattle.ps_model.specs.board.Grid.{cell_at, object_in}
-use Rattle.ps_model.specs.session.Frames.{objects_in}
 use Rattle.ps_board.specs.ColumnSets.{column_at, columns_below, columns_without}
 use Rattle.ps_board.specs.Rows.{AreAlike, DifferOnlyIn}
+use Rattle.ps_board.proofs.LayerObjects.{objects_by_layer}
 use Rattle.ps_rows.specs.Planes.{has_cell, row_of}
 use Rattle.ps_rows.specs.Members.{on_layer}
 use Rattle.ps_rows.specs.Showing.{numbered, object_shown, motion_shown, slot_shown, cell_shown, cells_shown, grid_shown}
@@ -20,7 +20,7 @@ use Rattle.ps_rows.proofs.Listed.{find_same}
 use Rattle.ps_rows.proofs.Rests.{object_of_slot}
 use Rattle.ps_rows.proofs.Sets.{wide_on, without_at}
 use Rattle.ps_rows.proofs.MemberRanges.{listed_member}
-use Rattle.ps_rows.proofs.Tables.{tabled_at}
+use Rattle.ps_rows.proofs.Tables.{tabled_at, tabled_same}
 use Rattle.ps_model.specs.declared.limits.TheConstants.{SIDE_LIMIT}
 
 -- two cells of a row, each of a board, have the same objects where each object's plane has both or neither
@@ -43,29 +43,25 @@ unfolding slot_shown
 object_of_shown table height words cell layer =
     object_of_slot (object_shown table height words cell layer) (motion_shown table height words cell layer)
 
-one_more : (x y : Slot) (xs ys : List Slot) → object_in x ≡ object_in y → objects_in xs ≡ objects_in ys →
-    objects_in (x ∷ xs) ≡ objects_in (y ∷ ys)
-one_more x y xs ys e f = rw (e, f) refl
-
 same_objects : (table : List ℕ) (height : ℕ) (first second : List (List Bool)) (cell other : ℕ) →
     ((layer : ℕ) → object_shown table height first cell layer ≡ object_shown table height second other layer) →
-    (a n : ℕ) →
-    objects_in (map (slot_shown table height first cell) (range_with_len a n)) ≡ objects_in
-    (map (slot_shown table height second other) (range_with_len a n))
-same_objects table height first second cell other same a zero = refl
-same_objects table height first second cell other same a (suc n) =
-    one_more (slot_shown table height first cell a) (slot_shown table height second other a)
-    (map (slot_shown table height first cell) (range_with_len (a + 1) n))
-    (map (slot_shown table height second other) (range_with_len (a + 1) n))
-    (object_of_shown table height first cell a ∙ ap (option_map numbered) (same a)
-    ∙ sym (object_of_shown table height second other a))
-    (same_objects table height first second cell other same (a + 1) n)
+    (n : ℕ) →
+    map object_in (map (slot_shown table height first cell) (range_with_len 0 n)) ≡ map object_in
+    (map (slot_shown table height second other) (range_with_len 0 n))
+same_objects table height first second cell other same n =
+    map-map object_in (slot_shown table height first cell) (range_with_len 0 n)
+    ∙ tabled_same (λ layer. object_in (slot_shown table height first cell layer)) (λ layer.
+    object_in (slot_shown table height second other layer)) n
+    (λ layer below.
+    object_of_shown table height first cell layer ∙ ap (option_map numbered) (same layer)
+    ∙ sym (object_of_shown table height second other layer))
+    ∙ sym (map-map object_in (slot_shown table height second other) (range_with_len 0 n))
 
 cells_same : (table : List ℕ) (width height layers : ℕ) (first second : List (List Bool)) (row x y : ℕ) →
     row < height → x < width → y < width →
     ((o : ℕ) → o < length table → column_at (row_of first (o * height + row)) x ≡ column_at
     (row_of second (o * height + row)) y) →
-    objects_in (cell_at (grid_shown table width height layers first) (x * height + row)) ≡ objects_in
+    map object_in (cell_at (grid_shown table width height layers first) (x * height + row)) ≡ map object_in
     (cell_at (grid_shown table width height layers second) (y * height + row))
 unfolding cells_shown cell_shown
 cells_same table width height layers first second row x y under across over same =
@@ -73,10 +69,10 @@ cells_same table width height layers first second row x y under across over same
     let there : y * height + row < height * width = mul-add-lt y height row width over under in
     let inside : x * height + row < width * height = omega arith in
     let within : y * height + row < width * height = omega arith in
-    ap objects_in (tabled_at (cell_shown table layers height first) (width * height) (x * height + row) [] inside)
+    ap (map object_in) (tabled_at (cell_shown table layers height first) (width * height) (x * height + row) [] inside)
     ∙ same_objects table height first second (x * height + row) (y * height + row)
-    (same_shown table height first second row x y under same) 0 layers
-    ∙ sym (ap objects_in (tabled_at (cell_shown table layers height second) (width * height) (y * height + row) []
+    (same_shown table height first second row x y under same) layers
+    ∙ sym (ap (map object_in) (tabled_at (cell_shown table layers height second) (width * height) (y * height + row) []
     within))
 
 pub others_same : (table : List ℕ) (width height layers : ℕ) (first second : List (List Bool)) (row : ℕ)
@@ -107,5 +103,7 @@ pub columns_alike : (table : List ℕ) (width height layers : ℕ) (words : List
     AreAlike (columns_without all unlike) (grid_shown table width height layers words) row column
 columns_alike table width height layers words row column all unlike under over narrow is told = λ x across has.
     let low : x < SIDE_LIMIT = omega (arith, across, narrow) in
-    cells_same table width height layers words words row x column under across over
-    (λ o below. told.1 o x below low (wide_on all width narrow is x across) (like_column all unlike x low has))
+    objects_by_layer (cell_at (grid_shown table width height layers words) (x * height + row))
+    (cell_at (grid_shown table width height layers words) (column * height + row))
+    (cells_same table width height layers words words row x column under across over
+    (λ o below. told.1 o x below low (wide_on all width narrow is x across) (like_column all unlike x low has)))

@@ -13,7 +13,7 @@ use Rattle.ps_model.specs.declared.pieces.Slot.{Slot}
 use Rattle.ps_model.specs.declared.pieces.Slot.TheVariants.{Bare}
 use Rattle.ps_model.specs.declared.compiled.LayeredObject.{LayeredObject}
 use Rattle.ps_model.specs.declared.compiled.MotionTest.{MotionTest}
-use Rattle.ps_model.specs.board.Grid.{cell_at, motion_in}
+use Rattle.ps_model.specs.board.Grid.{cell_at, motion_in, slot_at}
 use Rattle.ps_model.specs.board.Movement.{is_number}
 use Rattle.ps_model.specs.meaning.Compiled.{slot_holds}
 use Rattle.ps_model.specs.meaning.Fitting.{same_motion}
@@ -116,7 +116,33 @@ module _ (table : List ℕ) (width height layers : ℕ) (words : List (List Bool
       plane_high (motions_from table (test.layer).0) test.motion plane asked in
       sym (moved_nowhere test plane shown on asked (marked plane row (omega arith) under clear) x across) ∙ none_at x
 
-  -- a row that isn't marked for any motion
+  -- a row that isn't marked for any motion of a layer
+  unmoved_on : (layer : ℕ) (motion : Motion) → AreMotionsShown table layers height words (width * height) →
+      layer < layers →
+      ((plane : ℕ) → motions_from table layer ≤ plane → plane < motions_from table layer + 5 →
+      row_of words (plane * height + row) ≡ no_columns) → same_motion motion Still ≡ false →
+      IsRowOf (grid_shown table width height layers words) row no_columns
+      (moved (record { layer = record { 0 = layer }; motion = motion }))
+  unmoved_on layer motion shown on blank going =
+      let first : ℕ = motions_from table layer in
+      let there : (m : Motion) (plane : ℕ) → motion_plane first m ≡ Some plane →
+      IsRowOf (grid_shown table width height layers words) row no_columns
+      (moved (record { layer = record { 0 = layer }; motion = m })) =
+      λ m plane asked.
+      moved_nowhere (record { layer = record { 0 = layer }; motion = m }) plane shown on asked
+      (blank plane (plane_low first m plane asked) (plane_high first m plane asked)) in
+      by_motion first motion (λ m. IsRowOf (grid_shown table width height layers words) row no_columns
+      (moved (record { layer = record { 0 = layer }; motion = m }))) going there
+
+  pub none_moving_on : (layer : ℕ) → AreMotionsShown table layers height words (width * height) → layer < layers →
+      ((plane : ℕ) → motions_from table layer ≤ plane → plane < motions_from table layer + 5 →
+      row_of words (plane * height + row) ≡ no_columns) → (x : ℕ) → x < width →
+      is_moving (slot_at (grid_shown table width height layers words) (x * height + row) layer) ≡ false
+  none_moving_on layer shown on blank x across =
+      at_rest_by (motion_in (slot_at (grid_shown table width height layers words) (x * height + row) layer))
+      (λ other going. sym (unmoved_on layer other shown on blank going x across) ∙ none_at x)
+
+  -- and for any motion at all
   unmoved : (layer : ℕ) (motion : Motion) → AreMotionsShown table layers height words (width * height) →
       ((plane : ℕ) → length table ≤ plane → plane < motions_from table layers →
       row_of words (plane * height + row) ≡ no_columns) → same_motion motion Still ≡ false →
@@ -124,17 +150,8 @@ module _ (table : List ℕ) (width height layers : ℕ) (words : List (List Bool
       (moved (record { layer = record { 0 = layer }; motion = motion }))
   unmoved layer motion shown blank going = elim (cases_lt layer layers) [
     | inl on ↦
-        let first : ℕ = motions_from table layer in
-        let there : (m : Motion) (plane : ℕ) → motion_plane first m ≡ Some plane →
-        IsRowOf (grid_shown table width height layers words) row no_columns
-        (moved (record { layer = record { 0 = layer }; motion = m })) =
-        λ m plane asked.
-        let low : first ≤ plane = plane_low first m plane asked in
-        let high : plane < first + 5 = plane_high first m plane asked in
-        moved_nowhere (record { layer = record { 0 = layer }; motion = m }) plane shown on asked
-        (blank plane (omega arith) (omega arith)) in
-        by_motion first motion (λ m. IsRowOf (grid_shown table width height layers words) row no_columns
-        (moved (record { layer = record { 0 = layer }; motion = m }))) going there
+        unmoved_on layer motion shown on (λ plane low high. blank plane (omega (arith, low)) (omega (arith, on, high)))
+        going
     | inr off ↦
         beyond_row table width height layers words row some narrow under
         (record { layer = record { 0 = layer }; motion = motion }) no_columns off

@@ -20,6 +20,16 @@ abbrev pub AreSamePlanes : ℕ → ℕ → List (List Bool) → List (List Bool)
 AreSamePlanes width height first second planes = (plane : ℕ) → list_any (nat_eq plane) planes ≡ true →
     IsSamePlane width height first second plane
 
+-- a plane has the same cells in those rows of both that are in a set
+abbrev pub IsSamePlaneOn : ℕ → ℕ → List Bool → List (List Bool) → List (List Bool) → ℕ → Type 0
+IsSamePlaneOn width height rows first second plane = (row : ℕ) → row < height → column_at rows row ≡ true →
+    AreSameRows width (row_of first (plane * height + row)) (row_of second (plane * height + row))
+
+-- each of these planes has
+abbrev pub AreSamePlanesOn : ℕ → ℕ → List Bool → List (List Bool) → List (List Bool) → List ℕ → Type 0
+AreSamePlanesOn width height rows first second planes = (plane : ℕ) → list_any (nat_eq plane) planes ≡ true →
+    IsSamePlaneOn width height rows first second plane
+
 -- a layer shows the same in each cell
 abbrev pub IsSameLayer : List ℕ → ℕ → ℕ → List (List Bool) → List (List Bool) → ℕ → Type 0
 IsSameLayer table width height first second layer = (cell : ℕ) → cell < width * height →

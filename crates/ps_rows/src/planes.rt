@@ -8,7 +8,7 @@ ghost use Rattle.ps_model.specs.declared.limits.TheConstants.{SIDE_LIMIT};
 ghost use Rattle.ps_board.specs.ColumnSets.{column_at, no_columns, unlike_columns, with_column};
 ghost use Rattle.ps_rows.specs.Planes.{AreEmptyFrom, AreSameFrom, AreSets, HavePlanes, IsSet, has_cell, row_of};
 ghost use Rattle.ps_rows.specs.Planes.{with_cell, with_cell_in};
-ghost use Rattle.ps_rows.specs.PlaneCopies.{AreCopied, ArePlanesOf, AreRowsOf};
+ghost use Rattle.ps_rows.specs.PlaneCopies.{AreCopied, AreMarksTaken, ArePlanesOf, AreRowsOf, IsRowCopied};
 ghost use Rattle.ps_rows.specs.RowIndex.{AreRowsMarked};
 ghost use Rattle.ps_rows.specs.Sameness.{DifferOnlyOnRows};
 ghost use Rattle.ps_rows.specs.Showing.{cleared_from, motion_planes};
@@ -105,26 +105,61 @@ fn most_sets<W: ColumnWords>() -> u32 {
     MOST_SETS
 }
 
-/// Makes rows of a plane of others the same, those in a set.
+/// Makes a row of so many planes of others the same, the first ones.
+fn copy_row<W: ColumnWords>(
+    words: &[Columns<W>],
+    others: &mut [Columns<W>],
+    height: u32,
+    planes: u32,
+    row: u32,
+)
+    requires row { row < height }
+    requires here { planes * height ≤ length words.now }
+    requires there { planes * height ≤ length others.old }
+    ensures row { IsRowCopied height planes row words.now others.old others.new }
+    ensures long { length others.new ≡ length others.old }
+{
+    for plane in 0..planes {
+        let place = plane as usize * height as usize + row as usize;
+        others[place] = words[place];
+    }
+}
+
+/// Makes rows of so many planes of others the same, the first ones, those in a set.
 fn copy_row_sets<W: ColumnWords>(
     words: &[Columns<W>],
     others: &mut [Columns<W>],
     height: u32,
-    plane: u32,
+    planes: u32,
     rows: Columns<W>,
 )
     requires short { height ≤ SIDE_LIMIT }
     requires rows { (row : ℕ) → row < SIDE_LIMIT → height ≤ row → column_at rows row ≡ false }
-    requires here { (plane + 1) * height ≤ length words.now }
-    requires there { (plane + 1) * height ≤ length others.old }
-    ensures words { AreRowsOf height plane (plane + 1) rows words.now others.old others.new }
+    requires here { planes * height ≤ length words.now }
+    requires there { planes * height ≤ length others.old }
+    ensures words { AreRowsOf height 0 planes rows words.now others.old others.new }
     ensures long { length others.new ≡ length others.old }
 {
-    let start = plane as usize * height as usize;
     let mut left = rows;
     while let Some(row) = left.take_first() {
-        let place = start + row as usize;
-        others[place] = words[place];
+        copy_row(words, others, height, planes, row);
+    }
+}
+
+/// Marks these rows in so many planes of others, the first ones, where they are marked here, and no others of them.
+fn take_marks<W: ColumnWords>(
+    index: &[Columns<W>],
+    others: &mut [Columns<W>],
+    planes: u32,
+    rows: Columns<W>,
+)
+    requires here { planes ≤ length index.now }
+    requires there { planes ≤ length others.old }
+    ensures marks { AreMarksTaken planes rows index.now others.old others.new }
+    ensures long { length others.new ≡ length others.old }
+{
+    for plane in 0..planes as usize {
+        others[plane] = others[plane].without(rows).either(index[plane].both(rows));
     }
 }
 
@@ -440,30 +475,7 @@ impl<W: ColumnWords> Planes<W> {
         self.copy_pieces(other, marked, most);
     }
 
-    /// Makes rows of a plane of others the same, those in a set that are marked on either side.
-    fn copy_rows_of(&self, other: &mut Planes<W>, plane: u32, rows: Columns<W>)
-        requires height { other.old.height ≡ self.now.height }
-        requires rows { (row : ℕ) → row < SIDE_LIMIT → self.now.height ≤ row → column_at rows row ≡ false }
-        requires here { (plane + 1) * self.now.height ≤ vec_len self.now.words }
-        requires there { (plane + 1) * self.now.height ≤ vec_len other.old.words }
-        ensures words { let p = self.now in
-            AreRowsOf p.height plane (plane + 1) rows p.words.items other.old.words.items other.new.words.items }
-        ensures height { other.new.height ≡ self.now.height }
-        ensures count { vec_len other.new.words ≡ vec_len other.old.words }
-    {
-        let here = self.rows_of(plane);
-        let there = other.rows_of(plane);
-        let wanted = rows.both(here.either(there));
-        if wanted.is_empty() {
-            return;
-        }
-        let words = other.words.as_mut_slice();
-        copy_row_sets(self.words.as_slice(), words, self.height, plane, wanted);
-        other.index[plane as usize] = there.without(wanted).either(here.both(wanted));
-    }
-
-    /// Makes rows of so many planes of others, the first ones, the same, those in a set. What neither side has marked
-    /// is passed over.
+    /// Makes rows of so many planes of others the same, the first ones, those in a set.
     pub fn copy_rows(&self, other: &mut Planes<W>, planes: u32, rows: Columns<W>)
         requires height { other.old.height ≡ self.now.height }
         requires here { planes * self.now.height ≤ vec_len self.now.words }
@@ -474,9 +486,10 @@ impl<W: ColumnWords> Planes<W> {
         ensures count { vec_len other.new.words ≡ vec_len other.old.words }
     {
         let within = rows.both(Columns::below(self.height));
-        for plane in 0..planes {
-            self.copy_rows_of(other, plane, within);
-        }
+        let words = other.words.as_mut_slice();
+        copy_row_sets(self.words.as_slice(), words, self.height, planes, within);
+        let index = other.index.as_mut_slice();
+        take_marks(self.index.as_slice(), index, planes, within);
     }
 
     /// Whether a plane has the same rows on others, of the same height. All of them are looked at in one go, without a

@@ -6,12 +6,14 @@ ghost use Rattle.std.specs.Prelude.{option_map, slice_get, slice_index_or, vec_l
 ghost use Rattle.ps_model.specs.board.Movement.{is_number};
 ghost use Rattle.ps_model.specs.declared.limits.TheConstants.{LAYER_LIMIT, SIDE_LIMIT};
 ghost use Rattle.ps_board.specs.ColumnSets.{columns_below, no_columns, with_column};
+ghost use Rattle.ps_rows.specs.Members.{on_layer};
 ghost use Rattle.ps_rows.specs.MixedPlanes.{mixed_planes};
 ghost use Rattle.ps_rows.specs.Planes.{AreEmptyFrom, AreSameFrom, HavePlanes, row_of};
 ghost use Rattle.ps_program.specs.ProgramShown.{write_shown};
 ghost use Rattle.ps_rows.specs.RowDifferences.{rows_changed};
 ghost use Rattle.ps_rows.specs.RowTests.{IsRowOf, IsWithin};
-ghost use Rattle.ps_rows.specs.Sameness.{DifferOnlyOnRows, IsSameLayer, PlanesDifferOnlyOn};
+ghost use Rattle.ps_rows.specs.Sameness.{AreSamePlanes, AreSamePlanesOn, DifferOnlyOnRows, IsSameLayer};
+ghost use Rattle.ps_rows.specs.Sameness.{PlanesDifferOnlyOn};
 ghost use Rattle.ps_rows.specs.Showing.{AreMotionsShown, AreObjectsShown, cleared_from, grid_shown};
 ghost use Rattle.ps_rows.specs.Showing.{motions_from, numbered, object_shown, with_slot_in};
 ghost use Rattle.ps_rows.specs.SlotsWritten.{AreSlotsLeft, AreSlotsWritten, in_columns};
@@ -22,7 +24,7 @@ use crate::members::Members;
 use crate::motions::{choose_motion, first_motion};
 use crate::planes::Planes;
 use crate::row_differences::{RowDifference, change_rows, differences, reach};
-use crate::sameness::{differing_row, same_planes, unlike_row};
+use crate::sameness::{differing_row, same_planes, same_planes_on, unlike_row};
 use ps_board::{Board, ColumnWords, Columns};
 use ps_model::{LayerId, LayeredObject, Memory, Motion, MotionTest, ObjectId};
 use ps_program::CellWrite;
@@ -416,6 +418,24 @@ impl<W: ColumnWords> RowBoard<W> {
         let motions = [first, first + 1, first + 2, first + 3, first + 4];
         same_planes(&self.planes, &other.planes, self.width, &motions)
     }
+
+    /// Whether the objects of a layer stand in the same cells of some rows on another board of the same size for the
+    /// same game.
+    fn same_layer_on(&self, other: &RowBoard<W>, layer: u32, rows: Columns<W>) -> bool
+        requires layer { layer < self.now.layers }
+        requires height { other.now.planes.height ≡ self.now.planes.height }
+        requires layers { other.now.layers ≡ self.now.layers }
+        requires table { other.now.members.table.items ≡ self.now.members.table.items }
+        ensures same { let b = self.now in let p = b.planes in let objects = on_layer b.members.table.items layer in
+            let there = other.now.planes.words.items in
+            result ≡ true → AreSamePlanesOn b.width p.height rows p.words.items there objects }
+        ensures other { let b = self.now in let p = b.planes in let objects = on_layer b.members.table.items layer in
+            let there = other.now.planes.words.items in
+            AreSamePlanes b.width p.height p.words.items there objects → result ≡ true }
+    {
+        let objects = self.members.of(layer);
+        same_planes_on(&self.planes, &other.planes, self.width, objects, rows)
+    }
 }
 
 impl<W: ColumnWords> Board for RowBoard<W> {
@@ -540,6 +560,14 @@ impl<W: ColumnWords> Board for RowBoard<W> {
         self.planes.rows_from(self.members.count())
     }
 
+    /// The rows of the layer's planes of motions, by the index.
+    fn rows_moving_on(&self, layer: LayerId) -> Columns<W> {
+        if !self.may_move {
+            return Columns::none();
+        }
+        self.planes.five_rows_of(self.motions_from(layer.0))
+    }
+
     /// The rows of the object's plane, by the index; none, where no object has that number.
     fn rows_holding(&self, object: ObjectId) -> Columns<W> {
         if self.members.count() <= object.0 {
@@ -581,12 +609,28 @@ impl<W: ColumnWords> Board for RowBoard<W> {
         self.touched
     }
 
-    /// These rows are copied in the planes of all objects, and what moved on the other board is brought to rest.
+    /// Where nothing moves on either board, these rows alone are compared, in the planes of objects, layer by layer as
+    /// all rows else are.
+    fn same_on(&self, other: &RowBoard<W>, rows: &Columns<W>) -> bool {
+        if !self.stand_still(other) {
+            return self.same(other);
+        }
+        for step in 0..self.layers {
+            if !self.same_layer_on(other, self.layers - 1 - step, *rows) {
+                return false;
+            }
+        }
+        true
+    }
+
+    /// Where nothing moves on either board, these rows alone are copied, in the planes of all objects.
     fn copy_rows(&self, other: &mut RowBoard<W>, rows: &Columns<W>) {
+        if !self.stand_still(other) {
+            self.copy_into(other);
+            return;
+        }
         let objects = self.members.count();
         self.planes.copy_rows(&mut other.planes, objects, *rows);
-        other.planes.clear_moved(objects, other.may_move);
-        other.may_move = false;
         start_anew(&other.planes, &mut other.origin, &mut other.touched);
     }
 }

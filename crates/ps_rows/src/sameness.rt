@@ -3,8 +3,8 @@
 ghost use Rattle.std.specs.Prelude.{◌≡◌, ◌+◌, ◌*◌, ◌<◌, ◌≤◌, false, length, true, vec_len};
 ghost use Rattle.ps_model.specs.declared.limits.TheConstants.{SIDE_LIMIT};
 ghost use Rattle.ps_rows.specs.Planes.{HavePlanes, row_of};
-ghost use Rattle.ps_rows.specs.Sameness.{AreSamePlanes, AreSameRows, HasDifferences, IsSamePlane};
-ghost use Rattle.ps_rows.specs.Sameness.{HasUnlike, HasUnlikeOf};
+ghost use Rattle.ps_rows.specs.Sameness.{AreSamePlanes, AreSamePlanesOn, AreSameRows, HasDifferences, IsSamePlane};
+ghost use Rattle.ps_rows.specs.Sameness.{HasUnlike, HasUnlikeOf, IsSamePlaneOn};
 
 use crate::planes::{Planes, plane_row};
 use ps_board::{ColumnWords, Columns};
@@ -113,6 +113,62 @@ pub fn same_planes<W: ColumnWords>(
     }
     for plane in planes {
         if !same_plane(first, second, width, *plane) {
+            return false;
+        }
+    }
+    true
+}
+
+/// Whether a plane has the same cells in some rows on two boards of this width. Rows that neither has marked aren't
+/// read.
+fn same_plane_on<W: ColumnWords>(
+    first: &Planes<W>,
+    second: &Planes<W>,
+    width: u32,
+    plane: u32,
+    rows: Columns<W>,
+) -> bool
+    requires width { width ≤ SIDE_LIMIT }
+    requires narrow { width ≤ W.limit }
+    requires height { second.now.height ≡ first.now.height }
+    requires first { (plane + 1) * first.now.height ≤ vec_len first.now.words }
+    requires second { (plane + 1) * first.now.height ≤ vec_len second.now.words }
+    ensures same { let here = first.now.words.items in
+        result ≡ true → IsSamePlaneOn width first.now.height rows here second.now.words.items plane }
+    ensures other { let here = first.now.words.items in
+        IsSamePlane width first.now.height here second.now.words.items plane → result ≡ true }
+{
+    let marks = first.rows_of(plane).either(second.rows_of(plane));
+    let wanted = rows.both(marks);
+    let mut left = wanted.both(Columns::below(first.height));
+    while let Some(row) = left.take_first() {
+        if !same_row(first.row(plane, row), second.row(plane, row), width) {
+            return false;
+        }
+    }
+    true
+}
+
+/// Whether these planes have the same cells in some rows on two boards of this width.
+pub fn same_planes_on<W: ColumnWords>(
+    first: &Planes<W>,
+    second: &Planes<W>,
+    width: u32,
+    planes: &[u32],
+    rows: Columns<W>,
+) -> bool
+    requires width { width ≤ SIDE_LIMIT }
+    requires narrow { width ≤ W.limit }
+    requires height { second.now.height ≡ first.now.height }
+    requires first { HavePlanes first.now.height first.now.words.items planes.now }
+    requires second { HavePlanes first.now.height second.now.words.items planes.now }
+    ensures same { let here = first.now.words.items in
+        result ≡ true → AreSamePlanesOn width first.now.height rows here second.now.words.items planes.now }
+    ensures other { let here = first.now.words.items in
+        AreSamePlanes width first.now.height here second.now.words.items planes.now → result ≡ true }
+{
+    for plane in planes {
+        if !same_plane_on(first, second, width, *plane, rows) {
             return false;
         }
     }

@@ -6,7 +6,7 @@ use Rattle.std.specs.List.{flat_map, range_with_len}
 use Rattle.std.proofs.lemmas.List.{same_lists, get_or_default}
 use Rattle.std.proofs.lemmas.List.FromFn.{length-map-range_with_len, get_or-map-range_with_len}
 use Rattle.ps_model.specs.declared.pieces.ObjectId.{ObjectId}
-use Rattle.ps_model.specs.board.Grid.{Grid, cell_at}
+use Rattle.ps_model.specs.board.Grid.{Grid, cell_at, object_in}
 use Rattle.ps_model.specs.names.Names.{Names}
 use Rattle.ps_model.specs.session.Frames.{objects_in, character_of, glyph_of_objects, frame, frame_row, shown_character}
 use Rattle.ps_model.specs.declared.limits.TheConstants.{SIDE_LIMIT}
@@ -14,6 +14,7 @@ use Rattle.ps_laws.proofs.common.Lists.{range_lists-agree}
 use Rattle.ps_board.specs.ColumnSets.{set_columns}
 use Rattle.ps_board.specs.Rows.{DifferOnlyIn, HaveSameRow}
 use Rattle.ps_board.proofs.ColumnLaws.{none_in}
+use Rattle.ps_board.proofs.LayerObjects.{objects_by_layer}
 use Rattle.ps_screen.specs.KeptRows.{AreRowsOf}
 
 -- what a cell with the same objects is written as
@@ -21,6 +22,12 @@ pub same_character : (names : Names) (g h : Grid) (a b : ℕ) → objects_in (ce
     encode_utf8 (shown_character names (cell_at g a)) ≡ encode_utf8 (shown_character names (cell_at h b))
 same_character names g h a b e = ap (λ (objects : List ObjectId).
     encode_utf8 (character_of (glyph_of_objects names objects))) e
+
+-- so is one that has the same object on each layer
+pub same_by_layer : (names : Names) (g h : Grid) (a b : ℕ) →
+    map object_in (cell_at g a) ≡ map object_in (cell_at h b) →
+    encode_utf8 (shown_character names (cell_at g a)) ≡ encode_utf8 (shown_character names (cell_at h b))
+same_by_layer names g h a b e = same_character names g h a b (objects_by_layer (cell_at g a) (cell_at h b) e)
 
 -- rows with the same objects are written the same
 pub same_frame_row : (names : Names) (g h : Grid) (row : ℕ) → h.width ≡ g.width → h.height ≡ g.height →
@@ -34,7 +41,7 @@ same_frame_row names g h row wide high same =
     (λ column least inside.
     let below : column < g.width = omega arith in
     ap (λ (n : ℕ). encode_utf8 (shown_character names (cell_at h (column * n + row)))) high
-    ∙ sym (same_character names g h (column * g.height + row) (column * g.height + row) (same column below))))
+    ∙ sym (same_by_layer names g h (column * g.height + row) (column * g.height + row) (same column below))))
 
 -- a row has the same objects in two grids, whichever is the first
 pub same_back : (g h : Grid) (row : ℕ) → h.width ≡ g.width → h.height ≡ g.height → HaveSameRow g h row →

@@ -18,7 +18,7 @@ use Rattle.ps_board.specs.Rows.{DifferOnlyIn, HaveSameRow}
 use Rattle.ps_board.proofs.AllRows.{none_outside}
 use Rattle.ps_board.proofs.ColumnLaws.{column_at-where, none_in}
 use Rattle.ps_screen.specs.PlainRows.{AreDrawn, IsPlainRow, column_bytes}
-use Rattle.ps_screen.proofs.KeptRows.{same_character}
+use Rattle.ps_screen.proofs.KeptRows.{same_by_layer}
 
 -- a character has a byte
 some_byte : (c : ℕ) → 0 < length (encode_utf8 c)
@@ -164,7 +164,7 @@ drawn_but names g h row columns start text wide high only plain =
     record {
       long = omega (arith, plain.long, wide);
       each = λ x under none.
-          same_character names g h (x * g.height + row) (x * g.height + row) (only x under none)
+          same_by_layer names g h (x * g.height + row) (x * g.height + row) (only x under none)
           ∙ ap (λ (n : ℕ). encode_utf8 (shown_character names (cell_at h (x * n + row)))) (sym high)
           ∙ plain.each x (rw wide under);
       end = ap (λ (n : ℕ). get_or text (start + n) 0) (sym wide) ∙ plain.end;

@@ -1,9 +1,9 @@
 //! What comes next is put in the place of what was. Nothing here takes memory.
 
-ghost use Rattle.std.specs.Prelude.{◌≡◌, ◌++◌, [], ◌∷◌, Bool, List, Some};
+ghost use Rattle.std.specs.Prelude.{◌≡◌, ◌++◌, [], ◌∷◌, Bool, IfSome, List, Some};
 ghost use Rattle.ps_model.specs.board.Grid.{Grid};
 ghost use Rattle.ps_stage.specs.Locations.{location_shown, IsOnBasis};
-ghost use Rattle.ps_stage.specs.Standings.{Basis, play_of};
+ghost use Rattle.ps_stage.specs.Standings.{Basis, basis_of, play_of};
 ghost use Rattle.ps_stage.specs.StepsShown.{stands};
 ghost use Rattle.ps_model.specs.session.Sessions.{kept};
 ghost use Rattle.ps_stage.specs.Touched.{AreTouched, IsTouchedAt};
@@ -11,6 +11,7 @@ ghost use Rattle.ps_session.specs.Behind.{ComesFromThere, IsBehind, behind_next}
 ghost use Rattle.ps_session.specs.Histories.{AreOnTable, grids_of};
 ghost use Rattle.ps_session.specs.Nexts.{IsReadyFor, IsReadyTo, next_shown, history_behind_location, stood};
 ghost use Rattle.ps_session.specs.Bases.{ComesOnBasis};
+ghost use Rattle.ps_session.specs.declared.nexts.Next.TheVariants.{Goes};
 
 use crate::nexts::{Next, NextLevel};
 use ps_board::{Board, ColumnWords, Columns, History};
@@ -61,6 +62,31 @@ fn give_back<B: Board>(stage: &mut Stage<'_, B>, location: Location<PlayedLevel<
     }
 }
 
+/// The board of a level that is left is handed on to the one that comes next, for its turns, where some rows are known
+/// outside of which the two show the same objects. Else the boards of the one that is left are there to be used again.
+fn hand_on<B: Board>(
+    stage: &mut Stage<'_, B>,
+    level: PlayedLevel<B>,
+    location: &mut Location<PlayedLevel<B>>,
+    rows: &Option<Columns<B::Words>>,
+)
+    requires touched { IfSome rows.now (λ rows. IsTouchedAt rows level.board location.old) }
+    requires basis { level.basis ≡ basis_of B.table_for stage.old.game.names }
+    requires comes { IsOnBasis (basis_of B.table_for stage.old.game.names) location.old }
+    ensures stage { stage.new ≡ stage.old }
+    ensures location { location.new ≡ location.old }
+{
+    let Some(rows) = rows else {
+        return stage.keep_level(level);
+    };
+    match location {
+        Location::Playing(next) => stage.hand_on(level, next, rows),
+        Location::Waiting(next, _) => stage.hand_on(level, next, rows),
+        Location::AtMessage(_) => stage.keep_level(level),
+        Location::Ended(_) => stage.keep_level(level),
+    }
+}
+
 /// The boards of what was to come next and doesn't, as memory was wanting, are there to be used again; but for those of
 /// another level, in the place of which boards of this one may be kept.
 pub fn give_up<B: Board>(stage: &mut Stage<'_, B>, next: NextLevel<B>)
@@ -74,46 +100,64 @@ pub fn give_up<B: Board>(stage: &mut Stage<'_, B>, next: NextLevel<B>)
     }
 }
 
-/// The board of a level that is left, which is ready, enters the history. The level's own boards are there to be used
-/// again.
+/// The board of a level that is left, which is ready, enters the history. The level's own board is handed on to the one
+/// that comes next, or there to be used again.
 fn add_to_history<B: Board, H: History<B>>(
     stage: &mut Stage<'_, B>,
     history: &mut H,
     level: PlayedLevel<B>,
+    next: &mut Location<PlayedLevel<B>>,
+    rows: &Option<Columns<B::Words>>,
 )
+    requires touched { IfSome rows.now (λ rows. IsTouchedAt rows level.board next.old) }
+    requires basis { level.basis ≡ basis_of B.table_for stage.old.game.names }
+    requires comes { IsOnBasis (basis_of B.table_for stage.old.game.names) next.old }
     requires ready { H.ready history.old ≡ Some (record { table = level.basis.table; grid = level.board }) }
     ensures stage { stage.new ≡ stage.old }
     ensures shown { grids_of (H.boards history.new) ≡ kept (grids_of (H.boards history.old) ++ level.board ∷ []) }
+    ensures next { next.new ≡ next.old }
     ensures boards { (basis : Basis) → AreOnTable basis.table (H.boards history.old) → level.basis ≡ basis
         → AreOnTable basis.table (H.boards history.new) }
 {
     history.enter();
-    stage.keep_level(level);
+    hand_on(stage, level, next, rows);
 }
 
-/// The history behind a location that is left. The boards of its level are there to be used again.
+/// The history behind a location that is left. The board of its level is handed on to the one that comes next, where
+/// some rows are known outside of which the two show the same objects; else its boards are there to be used again.
 fn leave<B: Board, H: History<B>>(
     stage: &mut Stage<'_, B>,
     history: &mut H,
     location: Location<PlayedLevel<B>>,
     history_change: HistoryChange,
+    next: &mut Location<PlayedLevel<B>>,
+    rows: &Option<Columns<B::Words>>,
 )
     requires ready { IsReadyTo (H.ready history.old) location history_change }
+    requires touched { ComesFromThere location (Goes next.old history_change rows.now) }
+    requires basis { IsOnBasis (basis_of B.table_for stage.old.game.names) location }
+    requires comes { IsOnBasis (basis_of B.table_for stage.old.game.names) next.old }
     ensures stage { stage.new ≡ stage.old }
+    ensures next { next.new ≡ next.old }
     ensures shown { grids_of (H.boards history.new)
         ≡ history_behind_location history_change (grids_of (H.boards history.old)) location }
     ensures boards { (basis : Basis) → AreOnTable basis.table (H.boards history.old) → IsOnBasis basis location
         → AreOnTable basis.table (H.boards history.new) }
 {
     match history_change {
-        HistoryChange::Keeps => give_back(stage, location),
+        HistoryChange::Keeps => match location {
+            Location::Playing(level) => hand_on(stage, level, next, rows),
+            Location::Waiting(level, _) => hand_on(stage, level, next, rows),
+            Location::AtMessage(_) => {}
+            Location::Ended(_) => {}
+        },
         HistoryChange::Clears => {
             history.clear();
             give_back(stage, location);
         }
         HistoryChange::Adds => match location {
-            Location::Playing(level) => add_to_history(stage, history, level),
-            Location::Waiting(level, _) => add_to_history(stage, history, level),
+            Location::Playing(level) => add_to_history(stage, history, level, next, rows),
+            Location::Waiting(level, _) => add_to_history(stage, history, level, next, rows),
             Location::AtMessage(_) => {}
             Location::Ended(_) => {}
         },
@@ -141,7 +185,8 @@ fn behind_next<W: ColumnWords>(
     }
 }
 
-/// What comes next becomes the location and the history. The boards of a level that is left are there to be used again.
+/// What comes next becomes the location and the history. The board of a level that is left is handed on to the next
+/// one, or there to be used again.
 pub fn commit<B: Board, H: History<B>>(
     stage: &mut Stage<'_, B>,
     location: &mut Location<PlayedLevel<B>>,
@@ -152,6 +197,8 @@ pub fn commit<B: Board, H: History<B>>(
     requires behind { IsBehind (grids_of (H.boards history.old)) location.old behind.old }
     requires touched { ComesFromThere location.old next }
     requires ready { IsReadyFor (H.ready history.old) location.old next }
+    requires basis { IsOnBasis (basis_of B.table_for stage.old.game.names) location.old }
+    requires comes { ComesOnBasis (basis_of B.table_for stage.old.game.names) next }
     ensures stage { stage.new ≡ stage.old }
     ensures shown { location_shown (grids_of (H.boards history.new)) location.new
         ≡ next_shown (grids_of (H.boards history.old)) location.old next }
@@ -175,7 +222,7 @@ pub fn commit<B: Board, H: History<B>>(
         Next::Goes(next, history_change, rows) => {
             *behind = behind_next(*behind, history_change, rows);
             let before = mem::replace(location, next);
-            leave(stage, history, before, history_change);
+            leave(stage, history, before, history_change, location, &rows);
         }
     }
 }

@@ -10,7 +10,7 @@ ghost use Rattle.ps_screen.specs.FrameTexts.{IsFrameOf};
 ghost use Rattle.ps_turn.specs.States.{HaveSameSides, outcome_shown, is_done};
 ghost use Rattle.ps_stage.specs.KeysShown.{IsNext, tried_outcome};
 ghost use Rattle.ps_stage.specs.Playable.{IsPlayable, LevelFits};
-ghost use Rattle.ps_stage.specs.Touched.{IsTouchedBy};
+ghost use Rattle.ps_stage.specs.Touched.{AreTouched, IsTouchedBy};
 ghost use Rattle.ps_stage.specs.Standings.{basis_of, script_for, seen_level, with_done};
 ghost use Rattle.ps_stage.specs.StepsShown.{board_taken, counts, taken};
 
@@ -200,7 +200,7 @@ fn counted_turn<B: Board, R: Rules<B>>(
     mem::swap(board, spare);
     let rows = board.rows_touched();
     let drawn = picture.redraw(frame, &**spare, &**board, rows);
-    board.copy_into(&mut **spare);
+    board.copy_rows(&mut **spare, &rows);
     drawn?;
     Ok(turned)
 }
@@ -350,32 +350,6 @@ fn frame_on<B: Board>(
     let mut frame = frame;
     picture.redraw(&mut frame, board, other, board.rows_differing(other))?;
     Ok(frame)
-}
-
-/// What the level behind a done turn needs beside the board that the turn came to: a board that shows the same, for the
-/// next turn, and the one that a restart goes back to.
-///
-/// # Errors
-///
-/// `Memory`.
-fn boards_behind<B: Board>(
-    alloc: Global,
-    spares: &mut SpareBoards<B>,
-    board: &B,
-    restart_board: &Rc<Box<B>, Global>,
-    done: &DoneTurn,
-) -> Result<(Box<B>, Rc<Box<B>, Global>), Memory>
-    requires { B.table restart_board.now.value.value ≡ B.table board.now }
-    ensures spare { IfOk result (λ both. B.grid both.0.value ≡ B.grid board.now) }
-    ensures spare_origin { IfOk result (λ both. B.origin both.0.value ≡ B.grid board.now) }
-    ensures spare_table { IfOk result (λ both. B.table both.0.value ≡ B.table board.now) }
-    ensures grid { IfOk result (λ both. B.grid both.1.value.value
-        ≡ (if done.now.checkpoint then B.grid board.now else B.grid restart_board.now.value.value)) }
-    ensures table { IfOk result (λ both. B.table both.1.value.value ≡ B.table board.now) }
-{
-    let restart_board = restart_board_behind(alloc, spares, board, restart_board, done)?;
-    let spare = spares.copy_of(alloc, board)?;
-    Ok((spare, restart_board))
 }
 
 impl<B: Board> PlayedLevel<B> {
@@ -588,6 +562,36 @@ impl<B: Board> PlayedLevel<B> {
         spares.keep(board);
     }
 
+    /// Its board becomes the one for turns of the next level, if that has none, and else is there to be used again. The
+    /// two show the same objects outside of these rows.
+    pub(crate) fn hand_on(
+        self,
+        spares: &mut SpareBoards<B>,
+        next: &mut PlayedLevel<B>,
+        rows: &Columns<B::Words>,
+    )
+        requires touched { AreTouched rows.now self.board next.old.board }
+        requires basis { self.basis ≡ next.old.basis }
+        ensures { next.new ≡ next.old }
+    {
+        let PlayedLevel {
+            entry: _entry,
+            mut board,
+            spare,
+            restart_board: _restart_board,
+            room: _,
+            frame: _frame,
+            names: _names,
+        } = self;
+        spares.keep_any(spare);
+        if next.spare.is_some() {
+            spares.keep(board);
+            return;
+        }
+        next.board.copy_rows(&mut *board, rows);
+        next.spare = Some(board);
+    }
+
     /// Takes a turn. Where it is done and counts, the level has its board, and goes back to it at a restart where the
     /// turn set a checkpoint.
     ///
@@ -662,8 +666,8 @@ impl<B: Board> PlayedLevel<B> {
     }
 
     /// What the level behind a done turn needs beside the board that the turn came to: the text of that board's frame
-    /// in place of that of its own; a board that shows the same, for the next turn; and the one that a restart goes
-    /// back to. The board tells in which rows the turn has touched it.
+    /// in place of that of its own, and the board that a restart goes back to. The board tells in which rows the turn
+    /// has touched it.
     ///
     /// # Errors
     ///
@@ -676,28 +680,25 @@ impl<B: Board> PlayedLevel<B> {
         board: &B,
         frame: &mut Option<FrameText>,
         done: &DoneTurn,
-    ) -> Result<(Box<B>, Rc<Box<B>, Global>), Memory>
+    ) -> Result<Rc<Box<B>, Global>, Memory>
         requires sides { HaveSameSides (B.grid board.now) self.now.board }
         requires origin { B.origin board.now ≡ self.now.board }
         requires table { B.table board.now ≡ self.now.basis.table }
         requires frame { IsFrameOf picture.old self.now.board frame.old }
         ensures picture { picture.new ≡ picture.old }
         ensures frame { IsFrameOf picture.old (B.grid board.now) frame.new }
-        ensures spare { IfOk result (λ both. B.grid both.0.value ≡ B.grid board.now) }
-        ensures spare_origin { IfOk result (λ both. B.origin both.0.value ≡ B.grid board.now) }
-        ensures spare_table { IfOk result (λ both. B.table both.0.value ≡ B.table board.now) }
-        ensures grid { IfOk result (λ both. B.grid both.1.value.value
+        ensures grid { IfOk result (λ next. B.grid next.value.value
             ≡ (if done.now.checkpoint then B.grid board.now else self.now.restart_board)) }
-        ensures table { IfOk result (λ both. B.table both.1.value.value ≡ B.table board.now) }
+        ensures table { IfOk result (λ next. B.table next.value.value ≡ B.table board.now) }
     {
         picture.redraw(frame, &*self.board, board, board.rows_touched())?;
-        boards_behind(alloc, spares, board, &self.restart_board, done)
+        restart_board_behind(alloc, spares, board, &self.restart_board, done)
     }
 
     /// Tries a turn with an input. The level stays as it is; where the turn is done, the level behind it has the board
-    /// that the turn came to, of which one copy is made, and the text of its frame, if it was drawn. A turn that isn't
-    /// done takes no memory for boards, unless the level behind an earlier one was given away and none of the spare
-    /// boards is alike, or its rules keep one.
+    /// that the turn came to, and the text of its frame, if it was drawn, but no board for turns: it may get this
+    /// level's, once this one is left. No memory is taken for boards, unless the level behind an earlier turn was given
+    /// away and none of the spare boards is alike, or the turn sets a checkpoint, or its rules keep one.
     ///
     /// # Errors
     ///
@@ -743,11 +744,11 @@ impl<B: Board> PlayedLevel<B> {
         let rows = spare.rows_touched();
         let mut frame = self.frame.take();
         match self.behind(alloc, spares, picture, &*spare, &mut frame, &done) {
-            Ok((copy, restart_board)) => {
+            Ok(restart_board) => {
                 let next = PlayedLevel {
                     entry: self.entry.copied(),
                     board: spare,
-                    spare: Some(copy),
+                    spare: None,
                     restart_board,
                     room: self.room,
                     frame,

@@ -6,12 +6,13 @@ ghost use Rattle.ps_model.specs.session.Frames.{written_line};
 ghost use Rattle.ps_model.specs.session.Rooms.{frame_in, room_after};
 ghost use Rattle.ps_levels.specs.EntriesShown.{entries_shown};
 ghost use Rattle.ps_stage.specs.Playable.{ArePlayable};
+ghost use Rattle.ps_stage.specs.Touched.{AreTouched};
 
 use crate::game::SessionGame;
 use crate::levels::PlayedLevel;
 use crate::sides::BoardSides;
 use crate::spares::SpareBoards;
-use ps_board::Board;
+use ps_board::{Board, Columns};
 use ps_levels::Entry;
 use ps_model::{Memory, Room};
 use ps_screen::{OutputText, Picture};
@@ -170,6 +171,22 @@ impl<'g, B: Board> Stage<'g, B> {
         ensures { self.new ≡ self.old }
     {
         level.give_back(&mut self.spares);
+    }
+
+    /// Hands the board of a level that is left on to the next one, for its turns, or else keeps it to be used again.
+    /// The two levels show the same objects outside of these rows. No memory is taken.
+    pub fn hand_on(
+        &mut self,
+        level: PlayedLevel<B>,
+        next: &mut PlayedLevel<B>,
+        rows: &Columns<B::Words>,
+    )
+        requires touched { AreTouched rows.now level.board next.old.board }
+        requires basis { level.basis ≡ next.old.basis }
+        ensures stage { self.new ≡ self.old }
+        ensures next { next.new ≡ next.old }
+    {
+        level.hand_on(&mut self.spares, next, rows);
     }
 
     /// A level with a board that the history had, of which the last frame showed that room.

@@ -135,15 +135,17 @@ fn message_of(queue: Queue) -> Option<Text>
     queue.message
 }
 
-/// A done turn, by the boards before and after it.
+/// A done turn, by the boards before and after it. Whether it changed something is told by the rows that it touched:
+/// what the board before shows is the origin of the one after.
 fn done<B: Board>(game: &TurnGame<'_>, before: &B, after: &B, queue: Queue) -> DoneTurn
     requires sides { HaveSameSides (B.grid after.now) (B.grid before.now) }
     requires table { B.table after.now ≡ B.table before.now }
+    requires origin { B.origin after.now ≡ B.grid before.now }
     ensures { done_shown result (B.grid after.now)
         ≡ done_with (script_with game.now [] []) (state_of (B.grid after.now) (queue_shown queue)) (not (same_cells
         (B.grid before.now).cells (B.grid after.now).cells)) }
 {
-    let changed = !before.same(after);
+    let changed = !before.same_on(after, &after.rows_touched());
     DoneTurn {
         changed,
         checkpoint: queue.checkpoint,
@@ -155,8 +157,8 @@ fn done<B: Board>(game: &TurnGame<'_>, before: &B, after: &B, queue: Queue) -> D
 
 /// What comes of a turn, by the boards before and after its changes: blocked, where the game asks for a move of the
 /// Player and each cell that had one still has one; blocked by `cancel`; restarted by `restart`; or done. Where it
-/// isn't done the second board is made equal to the first. Where what the first shows is the origin of the second, it
-/// stays so.
+/// isn't done the second board is made equal to the first. What the first shows is the origin of the second, and stays
+/// so.
 fn outcome<B: Board>(
     game: &TurnGame<'_>,
     input: Option<Input>,
@@ -166,13 +168,14 @@ fn outcome<B: Board>(
 ) -> Turned
     requires sides { HaveSameSides (B.grid after.old) (B.grid before.now) }
     requires table { B.table after.old ≡ B.table before.now }
+    requires origin { B.origin after.old ≡ B.grid before.now }
     ensures outcome { outcome_shown result (B.grid after.new)
         ≡ outcome_of (script_with game.now [] []) input (B.grid before.now) (state_of (B.grid after.old)
         (queue_shown queue)) }
     ensures undone { is_done result ≡ false → B.grid after.new ≡ B.grid before.now }
     ensures sides { HaveSameSides (B.grid after.new) (B.grid before.now) }
     ensures table { B.table after.new ≡ B.table before.now }
-    ensures origin { B.origin after.old ≡ B.grid before.now → B.origin after.new ≡ B.grid before.now }
+    ensures origin { B.origin after.new ≡ B.grid before.now }
 {
     if is_held(game, input, before, after) {
         before.copy_into(after);
@@ -190,8 +193,8 @@ fn outcome<B: Board>(
 }
 
 /// Takes a turn with an input, or without one. It works on a second board, equal to the first, which shows the new
-/// board behind a done turn, and is equal to the first again behind any other. Where what the first shows is the origin
-/// of the second, it stays so.
+/// board behind a done turn, and is equal to the first again behind any other. What the first shows is the origin of
+/// the second, and stays so.
 ///
 /// # Errors
 ///
@@ -205,6 +208,7 @@ pub fn turn<B: Board, R: Rules<B>>(
 ) -> Result<Turned, Memory>
     requires equal { B.grid after.old ≡ B.grid before.now }
     requires table { B.table after.old ≡ B.table before.now }
+    requires origin { B.origin after.old ≡ B.grid before.now }
     ensures outcome { IfOk result (λ turned. outcome_shown turned (B.grid after.new)
         ≡ turn (script_with game.now (R.meant rules.old.plain (B.table before.now)) (R.meant rules.old.late
         (B.table before.now))) input (B.grid before.now)) }
@@ -212,7 +216,7 @@ pub fn turn<B: Board, R: Rules<B>>(
     ensures stands { OnErr result (B.grid after.new ≡ B.grid before.now) }
     ensures sides { HaveSameSides (B.grid after.new) (B.grid before.now) }
     ensures table { B.table after.new ≡ B.table before.now }
-    ensures origin { B.origin after.old ≡ B.grid before.now → B.origin after.new ≡ B.grid before.now }
+    ensures origin { B.origin after.new ≡ B.grid before.now }
     ensures plain { R.meant rules.new.plain ≡ R.meant rules.old.plain }
     ensures late { R.meant rules.new.late ≡ R.meant rules.old.late }
 {

@@ -14,7 +14,7 @@ loop-row-init g c = record {
   narrow = λ x low far. ap (λ (columns : List Bool). column_at columns x) c.none-moving.ensures ∙ column_at-none x low;
   passed = record {
     at = λ row down out column across none.
-        c.requires.outside column row (c.args.layer).0 across down out;
+        c.requires.outside row down out column across;
   };
 }
 

@@ -57,7 +57,7 @@ visit_column-went-requires-clause-still g c =
     c.in-Some.ensures.some was.below) in
     visited_still now (c.args.layer).0 c.in-Some.column c.args.rows c.rows_to_visit-visited.result c.args.few
     c.args.moving.now (was.part.shape c.requires.shape) across
-    (outside_then old now c.args.rows was.part.width was.part.height was.part.still c.requires.outside)
+    (outside_then old now (c.args.layer).0 c.args.rows was.part.width was.part.height was.part.still c.requires.outside)
     (λ many. beside_then old now c.args.moving.now was.part.width was.part.height was.part.still
     (c.requires.beside many))
     c.rows_to_visit-visited.ensures.others

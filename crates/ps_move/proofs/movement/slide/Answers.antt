@@ -10,7 +10,7 @@ use Rattle.ps_move.specs.Parts.{IsBelow}
 use Rattle.ps_move.proofs.Parts.{going_count-bound, order_none, rest_slides}
 use Rattle.ps_move.proofs.Passes.{passes_none, passes_then}
 use Rattle.ps_move.proofs.Ends.{rest_exact}
-use Rattle.ps_move.proofs.Movers.{outside_both}
+use Rattle.ps_move.proofs.Movers.{moves_in_all, moves_in_both}
 use Rattle.ps_move.proofs.StillCells.{beside_then, outside_then, rows_still}
 use Rattle.ps_move.proofs.movement.slide.Goals as goal
 
@@ -50,9 +50,11 @@ slide_layer-moved-requires-clause-outside g c =
     let was = c.loop-layer.invariant.1.passes in
     let below : c.below.result ≡ columns_below old.height =
     c.below.ensures ∙ ap columns_below c.size-height.ensures.height in
-    outside_then old (g.B.Board.grid c.loop-layer.board) c.both-rows.result was.width was.height was.still
-    (outside_both old c.rows_moving_any.result c.below.result c.both-rows.result c.size-height.ensures.shape below
-    c.both-rows.ensures (rows_still old c.rows_moving_any.result c.rows_moving_any.ensures))
+    let layer : ℕ = c.loop-layer.layer in
+    outside_then old (g.B.Board.grid c.loop-layer.board) layer c.both-rows.result was.width was.height was.still
+    (moves_in_both old layer c.rows_moving_any.result c.below.result c.both-rows.result c.size-height.ensures.shape
+    c.both-rows.ensures (rows_still old layer c.rows_moving_any.result c.rows_moving_any.ensures)
+    (moves_in_all old layer c.below.result c.size-height.ensures.shape below))
 
 pub slide_layer-moved-requires-clause-beside : goal.slide_layer-moved-requires-clause-beside
 slide_layer-moved-requires-clause-beside g c = λ many.

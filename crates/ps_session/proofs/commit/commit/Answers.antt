@@ -39,6 +39,7 @@ returns-in-Goes-clause-behind g c =
     (subst (ComesFromThere c.args.location.now) c.in-Goes.is c.requires.touched) in
     rw (
       c.leave.ensures.shown,
+      c.leave.ensures.next,
       c.replace-before-in-Goes.ensures.value,
       c.replace-before-in-Goes.ensures.after,
       c.behind_next.ensures,

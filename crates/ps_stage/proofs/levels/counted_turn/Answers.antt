@@ -53,7 +53,7 @@ returns-then-not-counts-clause-equal g c =
     c.copy_into.ensures.grid ∙ ap g.B.Board.grid c.deref-then-not-counts.ensures
 
 pub returns-clause-equal : goal.returns-clause-equal
-returns-clause-equal g c = c.copy_into-2.ensures.grid ∙ ap g.B.Board.grid c.deref-5.ensures
+returns-clause-equal g c = c.copy_rows.ensures.grid ∙ ap g.B.Board.grid c.deref-5.ensures
 
 pub returns-in_err-drawn-clause-equal : goal.returns-in_err-drawn-clause-equal
-returns-in_err-drawn-clause-equal g c = c.copy_into-2.ensures.grid ∙ ap g.B.Board.grid c.deref-5.ensures
+returns-in_err-drawn-clause-equal g c = c.copy_rows.ensures.grid ∙ ap g.B.Board.grid c.deref-5.ensures

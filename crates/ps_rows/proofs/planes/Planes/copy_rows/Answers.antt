@@ -1,56 +1,102 @@
-use Rattle.std.proofs.Common.{◌∙◌, ℕ, Bool, List, ap, refl, subst}
+use Rattle.std.proofs.Common.{◌≡◌, ◌∙◌, ◌*◌, ◌≤◌, ℕ, Bool, List, length, ap, sym, subst}
+use Rattle.std.specs.Vec.{with_items}
+use Rattle.std.proofs.lemmas.List.{with_items_is}
 use Rattle.ps_board.specs.ColumnSets.{both_columns}
 use Rattle.ps_board.proofs.Taken.{below-init}
-use Rattle.ps_rows.specs.PlaneCopies.{AreRowsOf}
-use Rattle.ps_rows.proofs.Passed.{next_enough, no_rows_copied, own_order, rows_more, same_order}
-use Rattle.ps_rows.proofs.Passed.{zero_below}
-use Rattle.ps_rows.proofs.RowsOfPlanes.{rows_within}
+use Rattle.ps_rows.specs.PlaneCopies.{AreMarksTaken, AreRowsOf}
+use Rattle.ps_rows.specs.RowIndex.{AreRowsMarked}
+use Rattle.ps_rows.proofs.Passed.{planes_counted}
+use Rattle.ps_rows.proofs.RowsOfPlanes.{marked_rows, rows_within, sets_of_rows}
 use Rattle.ps_rows.proofs.planes.Planes.copy_rows.Goals as goal
 
-pub loop-plane-init : goal.loop-plane-init
-loop-plane-init g c = (
-  no_rows_copied c.args.self.now.height 0 c.both-within.result c.args.self.now.words.items c.args.other.now.words.items,
-  c.requires.height,
-  refl,
-)
-
-pub copy_rows_of-requires : goal.copy_rows_of-requires
-copy_rows_of-requires g c =
+pub copy_row_sets-requires : goal.copy_row_sets-requires
+copy_row_sets-requires g c =
     let p = c.args.self.now in
     record {
-      height = c.loop-plane.invariant.1;
+      short = p.rows;
       rows = (below-init c.args.rows c.below.result c.both-within.result p.height c.below.ensures
           c.both-within.ensures).at;
-      here = next_enough p.height c.loop-plane.plane c.args.planes c.args.planes p.words.len p.words.len
-          c.loop-plane-test.true (own_order c.args.planes) c.requires.here refl;
-      there = next_enough p.height c.loop-plane.plane c.args.planes c.args.planes c.args.other.now.words.len
-          c.loop-plane.other.words.len c.loop-plane-test.true (own_order c.args.planes) c.requires.there
-          c.loop-plane.invariant.2;
+      here = rw c.as_slice.ensures.len c.requires.here;
+      there = rw c.as_mut_slice-words.ensures.len c.requires.there;
     }
 
-pub loop-plane-preserved : goal.loop-plane-preserved
-loop-plane-preserved g c = (
-  rows_more c.args.self.now.height 0 c.loop-plane.plane c.both-within.result c.args.self.now.words.items
-      c.args.other.now.words.items c.loop-plane.other.words.items c.copy_rows_of.new.other.words.items
-      (zero_below c.loop-plane.plane) c.loop-plane.invariant.0 c.copy_rows_of.ensures.words,
-  c.copy_rows_of.ensures.height,
-  c.copy_rows_of.ensures.count ∙ c.loop-plane.invariant.2,
-)
+pub take_marks-requires-clause-here : goal.take_marks-requires-clause-here
+take_marks-requires-clause-here g c =
+    let p = c.args.self.now in
+    rw c.as_slice-2.ensures.len
+    (planes_counted p.height c.args.planes p.index.len p.words.len p.some_row p.whole c.requires.here)
+
+pub take_marks-requires-clause-there : goal.take_marks-requires-clause-there
+take_marks-requires-clause-there g c =
+    let o = c.args.other.now in
+    let E : ℕ → Type 0 = λ h. c.args.planes * h ≤ o.words.len in
+    rw c.as_mut_slice-index.ensures.len
+    (planes_counted o.height c.args.planes o.index.len o.words.len o.some_row o.whole
+    (subst E (sym c.requires.height) c.requires.there))
+
+pub invariant_of-other-clause-sets : goal.invariant_of-other-clause-sets
+invariant_of-other-clause-sets g c =
+    let p = c.args.self.now in
+    let o = c.args.other.now in
+    let end : ℕ = c.args.planes in
+    let within : List Bool = c.both-within.result in
+    let left : List (List Bool) = c.copy_row_sets.new.others in
+    let long : length left ≡ o.words.len = c.copy_row_sets.ensures.long ∙ c.as_mut_slice-words.ensures.len in
+    let A : List (List Bool) → Type 0 = λ ws. AreRowsOf p.height 0 end within ws c.as_mut_slice-words.result.now left in
+    let B : List (List Bool) → Type 0 = λ ws. AreRowsOf p.height 0 end within p.words.items ws left in
+    let D : List (List Bool) → Type 0 = λ ws. AreRowsOf p.height 0 end within p.words.items o.words.items ws in
+    sets_of_rows p.height end within p.words.items o.words.items (with_items o.words left).items p.some_row
+    (subst D (sym (with_items_is o.words left long))
+    (subst B c.as_mut_slice-words.ensures.value (subst A c.as_slice.ensures.value c.copy_row_sets.ensures.words)))
+    p.sets o.sets
+
+pub invariant_of-other-clause-marked : goal.invariant_of-other-clause-marked
+invariant_of-other-clause-marked g c =
+    let p = c.args.self.now in
+    let o = c.args.other.now in
+    let end : ℕ = c.args.planes in
+    let within : List Bool = c.both-within.result in
+    let left : List (List Bool) = c.copy_row_sets.new.others in
+    let mine : List (List Bool) = c.take_marks.new.others in
+    let long : length left ≡ o.words.len = c.copy_row_sets.ensures.long ∙ c.as_mut_slice-words.ensures.len in
+    let high : length mine ≡ o.index.len = c.take_marks.ensures.long ∙ c.as_mut_slice-index.ensures.len in
+    let A : List (List Bool) → Type 0 = λ ws. AreRowsOf p.height 0 end within ws c.as_mut_slice-words.result.now left in
+    let B : List (List Bool) → Type 0 = λ ws. AreRowsOf p.height 0 end within p.words.items ws left in
+    let D : List (List Bool) → Type 0 = λ ws. AreRowsOf p.height 0 end within p.words.items o.words.items ws in
+    let copied : AreRowsOf p.height 0 end within p.words.items o.words.items (with_items o.words left).items =
+    subst D (sym (with_items_is o.words left long))
+    (subst B c.as_mut_slice-words.ensures.value (subst A c.as_slice.ensures.value c.copy_row_sets.ensures.words)) in
+    let I : List (List Bool) → Type 0 = λ ws. AreMarksTaken end within ws c.as_mut_slice-index.result.now mine in
+    let J : List (List Bool) → Type 0 = λ ws. AreMarksTaken end within p.index.items ws mine in
+    let K : List (List Bool) → Type 0 = λ ws. AreMarksTaken end within p.index.items o.index.items ws in
+    let taken : AreMarksTaken end within p.index.items o.index.items (with_items o.index mine).items =
+    subst K (sym (with_items_is o.index mine high))
+    (subst J c.as_mut_slice-index.ensures.value (subst I c.as_slice-2.ensures.value c.take_marks.ensures.marks)) in
+    let counted : end ≤ p.index.len =
+    planes_counted p.height end p.index.len p.words.len p.some_row p.whole c.requires.here in
+    let M : ℕ → Type 0 = λ h. AreRowsMarked o.index.len h o.words.items o.index.items in
+    let Q : ℕ → Type 0 = λ h. AreRowsMarked o.index.len h (with_items o.words left).items
+    (with_items o.index mine).items in
+    subst Q (sym c.requires.height)
+    (marked_rows p.index.len o.index.len p.height end within p.words.items o.words.items (with_items o.words left).items
+    p.index.items o.index.items (with_items o.index mine).items p.rows counted copied taken p.marked
+    (subst M c.requires.height o.marked))
 
 pub returns-clause-words : goal.returns-clause-words
 returns-clause-words g c =
     let p = c.args.self.now in
+    let o = c.args.other.now in
+    let end : ℕ = c.args.planes in
     let within : List Bool = c.both-within.result in
-    let P : ℕ → Type 0 = λ end. AreRowsOf p.height 0 end within p.words.items c.args.other.now.words.items
-    c.loop-plane.other.words.items in
-    rows_within p.height 0 c.args.planes c.args.rows within p.words.items c.args.other.now.words.items
-    c.loop-plane.other.words.items p.rows
+    let left : List (List Bool) = c.copy_row_sets.new.others in
+    let long : length left ≡ o.words.len = c.copy_row_sets.ensures.long ∙ c.as_mut_slice-words.ensures.len in
+    let A : List (List Bool) → Type 0 = λ ws. AreRowsOf p.height 0 end within ws c.as_mut_slice-words.result.now left in
+    let B : List (List Bool) → Type 0 = λ ws. AreRowsOf p.height 0 end within p.words.items ws left in
+    let D : List (List Bool) → Type 0 = λ ws. AreRowsOf p.height 0 end within p.words.items o.words.items ws in
+    rows_within p.height 0 end c.args.rows within p.words.items o.words.items (with_items o.words left).items p.rows
     (c.both-within.ensures ∙ ap (both_columns c.args.rows) c.below.ensures)
-    (subst P (same_order c.loop-plane.plane c.args.planes c.loop-plane.auto.plane-end c.loop-plane-test.false)
-    c.loop-plane.invariant.0)
+    (subst D (sym (with_items_is o.words left long))
+    (subst B c.as_mut_slice-words.ensures.value (subst A c.as_slice.ensures.value c.copy_row_sets.ensures.words)))
 
 pub returns-clause-height : goal.returns-clause-height
-returns-clause-height g c = c.loop-plane.invariant.1
-
-pub returns-clause-count : goal.returns-clause-count
-returns-clause-count g c = c.loop-plane.invariant.2
+returns-clause-height g c = c.requires.height

@@ -25,6 +25,15 @@ commit-requires g c = record {
   touched = rw c.in-Ok-Some.ensures.same
       (subst (AnswersFrom c.self.inside.location) c.in-Ok-Some.field-0-is c.in-Ok-Some.ensures.touched);
   ready = c.in_default.ensures.ready;
+  basis = rw (
+    c.prepare-done.ensures.game,
+    c.in-Ok-Some.ensures.game,
+    c.forget_text.ensures.game,
+    c.in-Ok-Some.ensures.same,
+  ) c.self.invariant.0;
+  comes = rw (c.prepare-done.ensures.game, c.in-Ok-Some.ensures.game)
+      (subst (AnswersOnBasis (basis_of g.B.Board.table_for c.forget_text.new.self.game.names))
+      c.in-Ok-Some.field-0-is c.in-Ok-Some.ensures.basis);
 }
 
 pub returns-in-Ok-None : goal.returns-in-Ok-None
