@@ -24,15 +24,12 @@ use Rattle.ps_program.specs.declared.cells.CellMask.{CellMask}
 use Rattle.ps_program.specs.declared.cells.CompiledCell.{CompiledCell}
 use Rattle.ps_program.specs.Needs.{asked_by_part, asked_by_row, asked_by_rows, cell_moves, cell_needs, rows_move}
 use Rattle.ps_program.specs.Needs.{rows_need}
-use Rattle.ps_board.specs.ColumnSets.{set_columns}
-use Rattle.ps_board.proofs.ColumnLaws.{none_in}
-use Rattle.ps_match.specs.Nowhere.{HasMovesIn, IsNowhere}
+use Rattle.ps_match.specs.Nowhere.{IsNowhere, MovesNowhere}
 use Rattle.ps_program.specs.declared.rows.CompiledRow.{CompiledRow}
 use Rattle.ps_places.specs.Lines.{cell_meaning}
 use Rattle.ps_places.specs.RowPlaces.{cells_meaning, parts_meaning, row_meaning}
 use Rattle.ps_places.proofs.OnlyOn.{last_off}
 use Rattle.ps_places.proofs.Ranges.{flat_map-none}
-use Rattle.ps_engine.specs.Lacking.{MovesNowhere}
 use Rattle.ps_engine.proofs.Choosing.{cells_in-meant}
 use Rattle.ps_engine.proofs.Combinations.{get-shown_twice, no_combination}
 
@@ -212,9 +209,3 @@ rule_still g table direction rows tests k d grid is low nowhere =
     rule_without g table cell_moves (get_or tests k d) (λ cell asks number.
     cell_still g table (get_or tests k d) grid nowhere cell asks number (slice_get g.cells number) refl)
     direction rows tests k d is low refl
-
--- where no row may have it
-pub moves_nowhere : (g : Grid) (test : MotionTest) (rows : List Bool) → IsGrid g → HasMovesIn g test rows →
-    set_columns rows ≡ [] → MovesNowhere g test
-moves_nowhere g test rows grid has none = λ row under.
-    has row under (none_in rows row none (omega (arith, under, grid.rows)))

@@ -74,6 +74,12 @@ attempt_kept rule state off =
     let found : List (List (List ℕ)) = combinations_on state.grid rule in
     applied_kept rule.rewrites (fold (applied rule.rows) start found) start (all_kept rule.rows found start) off
 
+pub made_kept : (rule : RuleMeaning) (state : State) (made : Result) → made ≡ attempt rule state →
+    made.changed ≡ false → (made.state).grid ≡ state.grid
+made_kept rule state made is off =
+    ap (λ (r : Result). (r.state).grid) is
+    ∙ attempt_kept rule state (sym (ap (λ (r : Result). r.changed) is) ∙ off)
+
 round_kept : (rules : List RuleMeaning) (state : State) → (round rules state).changed ≡ false →
     ((round rules state).state).grid ≡ state.grid
 round_kept [] state off = refl

@@ -1,69 +1,43 @@
-//! Rules that ask for a motion which nothing on the board has. The readings of a rule in one direction stand one behind
-//! the other and ask for the same motion first: where nothing has it, they are passed over together.
+//! Rules that ask for a motion which nothing on the board has.
 
-ghost use Rattle.std.specs.Prelude.{◌≡◌, ◌<◌, ◌≤◌, IfSome, [], length, true};
+ghost use Rattle.std.specs.Prelude.{◌≡◌, ◌<◌, ◌≤◌, [], length, true};
 ghost use Rattle.ps_model.specs.board.Attempts.{combinations_on};
-ghost use Rattle.ps_engine.specs.Lacking.{AreIdleBetween, AskFor, AsksFor, MovesNowhere};
+ghost use Rattle.ps_match.specs.Nowhere.{HasMotionsIn};
+ghost use Rattle.ps_engine.specs.Lacking.{AreIdleBetween};
 ghost use Rattle.ps_engine.specs.RulesInRoom.{rule_meaning};
 
 use ps_match::{Scan, recall_shape};
-use ps_model::MotionTest;
-use ps_program::CompiledRule;
+use ps_program::{CompiledRule, MotionSet};
 
-/// A motion that a rule asks for and the board knows nothing to have, if there is one. No memory is taken.
-fn lacking_motion<B: Scan>(board: &B, rule: &CompiledRule) -> Option<MotionTest>
-    ensures nowhere { IfSome result (λ test. MovesNowhere (B.grid board.now) test) }
-    ensures asked { IfSome result (λ test. AsksFor test rule.now) }
+/// Whether a rule asks for a motion that has a place and isn't in a set. Such a rule has no combination where the set
+/// has all motions of the board. No memory is taken.
+fn asks_for_others<B: Scan>(board: &B, motions: MotionSet, rule: &CompiledRule) -> bool
+    requires { HasMotionsIn (B.grid board.now) motions }
+    ensures { result ≡ true →
+        combinations_on (B.grid board.now) (rule_meaning (B.table board.now) rule.now) ≡ [] }
 {
     recall_shape(board);
-    for test in rule.moving.as_slice() {
-        if board.rows_moving(test).is_empty() {
-            return Some(*test);
-        }
-    }
-    None
+    !rule.asked.without(motions).is_empty()
 }
 
-/// Whether a rule asks for that motion first.
-fn asks_first(rule: &CompiledRule, test: MotionTest) -> bool
-    ensures { result ≡ true → AsksFor test rule.now }
-{
-    match rule.moving.as_slice().first() {
-        Some(own) => own.motion == test.motion && own.layer == test.layer,
-        None => false,
-    }
-}
-
-/// The number of the next rule, from one on, that doesn't ask for that motion first.
-fn behind_asking(rules: &[CompiledRule], number: usize, test: MotionTest) -> usize
-    requires { number ≤ length rules.now }
-    ensures from { number ≤ result }
-    ensures within { result ≤ length rules.now }
-    ensures asks { AskFor test rules.now number result }
-{
-    let mut next = number;
-    while next < rules.len() && asks_first(&rules[next], test) {
-        next += 1;
-    }
-    next
-}
-
-/// The number of the next rule, from one on, that asks for no motion which nothing on the board has. What is passed
-/// over has no combination. No memory is taken.
+/// The number of the next rule, from one on, that asks for no motion which isn't in a set. What is passed over has no
+/// combination where the set has all motions of the board. No memory is taken.
 #[inline(always)]
-pub fn behind_lacking<B: Scan>(board: &B, rules: &[CompiledRule], number: usize) -> usize
-    requires { number < length rules.now }
+pub fn behind_lacking<B: Scan>(
+    board: &B,
+    motions: MotionSet,
+    rules: &[CompiledRule],
+    number: usize,
+) -> usize
+    requires motions { HasMotionsIn (B.grid board.now) motions }
+    requires number { number < length rules.now }
     ensures from { number ≤ result }
     ensures within { result ≤ length rules.now }
     ensures idle { AreIdleBetween (B.grid board.now) (B.table board.now) rules.now number result }
 {
-    recall_shape(board);
     let mut next = number;
-    while next < rules.len() {
-        let Some(test) = lacking_motion(board, &rules[next]) else {
-            return next;
-        };
-        next = behind_asking(rules, next + 1, test);
+    while next < rules.len() && asks_for_others(board, motions, &rules[next]) {
+        next += 1;
     }
     next
 }

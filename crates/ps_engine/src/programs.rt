@@ -9,6 +9,7 @@ ghost use Rattle.ps_engine.specs.RulesInRoom.{groups_meaning, section_meaning, s
 ghost use Rattle.ps_engine.specs.Rooms.{GroupsHaveRooms, SectionHasRooms, SectionsHaveRooms};
 ghost use Rattle.ps_board.specs.Runnable.{IsRunnable};
 ghost use Rattle.ps_match.specs.InRoom.{sides_of};
+ghost use Rattle.ps_match.specs.Nowhere.{HasMotionsIn};
 ghost use Rattle.ps_model.specs.board.Grid.{Grid};
 ghost use Rattle.ps_engine.specs.Waking.{IsSameBut};
 ghost use Rattle.ps_program.specs.declared.program.CompiledSection.{CompiledSection};
@@ -20,7 +21,7 @@ use crate::watched::WatchedProgram;
 use ps_match::{Columns, Scan, Topics, recall_shape};
 use ps_model::{Memory, REPEAT_LIMIT};
 use ps_places::RoomFor;
-use ps_program::{CompiledRule, CompiledSection};
+use ps_program::{CompiledRule, CompiledSection, MotionSet};
 use ps_text::List;
 
 /// How far a run has come: the repeats that are left for its loops, whether one more was due than there were, and
@@ -45,9 +46,11 @@ fn play_loop<'r, B: Scan>(
     board: &mut B,
     queue: &mut LentQueue<'r>,
     rooms: &mut [RoomFor<B>],
+    motions: &mut MotionSet,
     kept: &mut KeptBoards<B>,
 ) -> Result<Left, Memory>
-    requires { GroupsHaveRooms (length rooms.old) groups.now }
+    requires rooms { GroupsHaveRooms (length rooms.old) groups.now }
+    requires motions { HasMotionsIn (B.grid board.old) motions.old }
     ensures looped { let before : State = record { grid = B.grid board.old; queue = queue.old } in
         let after : State = record { grid = B.grid board.new; queue = queue.new } in
         let all = looped (groups_meaning (B.table board.old) groups.now) repeats before in
@@ -57,11 +60,12 @@ fn play_loop<'r, B: Scan>(
     ensures origin { B.origin board.new ≡ B.origin board.old }
     ensures sides { sides_of (B.grid board.new) ≡ sides_of (B.grid board.old) }
     ensures rooms { length rooms.new ≡ length rooms.old }
+    ensures motions { HasMotionsIn (B.grid board.new) motions.new }
 {
     let mut watch = Watch::new();
     let mut left = repeats;
     loop {
-        let again = pass(groups, board, queue, rooms, &mut kept.of_rounds)?;
+        let again = pass(groups, board, queue, rooms, motions, &mut kept.of_rounds)?;
         if !again {
             return Ok(Left {
                 repeats: left,
@@ -93,9 +97,11 @@ fn play_section<'r, B: Scan>(
     board: &mut B,
     queue: &mut LentQueue<'r>,
     rooms: &mut [RoomFor<B>],
+    motions: &mut MotionSet,
     kept: &mut KeptBoards<B>,
 ) -> Result<Left, Memory>
-    requires { SectionHasRooms (length rooms.old) section.now }
+    requires rooms { SectionHasRooms (length rooms.old) section.now }
+    requires motions { HasMotionsIn (B.grid board.old) motions.old }
     ensures section { let before : State = record { grid = B.grid board.old; queue = queue.old } in
         let after : State = record { grid = B.grid board.new; queue = queue.new } in
         let all = section_run (section_meaning (B.table board.old) section.now) repeats before in
@@ -105,10 +111,18 @@ fn play_section<'r, B: Scan>(
     ensures origin { B.origin board.new ≡ B.origin board.old }
     ensures sides { sides_of (B.grid board.new) ≡ sides_of (B.grid board.old) }
     ensures rooms { length rooms.new ≡ length rooms.old }
+    ensures motions { HasMotionsIn (B.grid board.new) motions.new }
 {
     match section {
         CompiledSection::Group(rules) => {
-            let changed = play_group(rules.as_slice(), board, queue, rooms, &mut kept.of_rounds)?;
+            let changed = play_group(
+                rules.as_slice(),
+                board,
+                queue,
+                rooms,
+                motions,
+                &mut kept.of_rounds,
+            )?;
             Ok(Left {
                 repeats,
                 stopped: false,
@@ -116,7 +130,15 @@ fn play_section<'r, B: Scan>(
             })
         }
         CompiledSection::Loop(groups) => {
-            play_loop(groups.as_slice(), repeats, board, queue, rooms, kept)
+            play_loop(
+                groups.as_slice(),
+                repeats,
+                board,
+                queue,
+                rooms,
+                motions,
+                kept,
+            )
         }
     }
 }
@@ -132,9 +154,11 @@ fn play_sections<'r, B: Scan>(
     board: &mut B,
     queue: &mut LentQueue<'r>,
     rooms: &mut [RoomFor<B>],
+    motions: &mut MotionSet,
     kept: &mut KeptBoards<B>,
 ) -> Result<(), Memory>
-    requires { SectionsHaveRooms (length rooms.old) sections.now }
+    requires rooms { SectionsHaveRooms (length rooms.old) sections.now }
+    requires motions { HasMotionsIn (B.grid board.old) motions.old }
     ensures run { let before : State = record { grid = B.grid board.old; queue = queue.old } in
         let after : State = record { grid = B.grid board.new; queue = queue.new } in
         OnOk result (after ≡ program_run (sections_meaning (B.table board.old) sections.now) before) }
@@ -142,15 +166,31 @@ fn play_sections<'r, B: Scan>(
     ensures origin { B.origin board.new ≡ B.origin board.old }
     ensures sides { sides_of (B.grid board.new) ≡ sides_of (B.grid board.old) }
     ensures rooms { length rooms.new ≡ length rooms.old }
+    ensures motions { HasMotionsIn (B.grid board.new) motions.new }
 {
     let mut repeats = REPEAT_LIMIT;
     for section in sections {
         match section {
             CompiledSection::Group(rules) => {
-                play_group(rules.as_slice(), board, queue, rooms, &mut kept.of_rounds)?;
+                play_group(
+                    rules.as_slice(),
+                    board,
+                    queue,
+                    rooms,
+                    motions,
+                    &mut kept.of_rounds,
+                )?;
             }
             CompiledSection::Loop(groups) => {
-                let left = play_loop(groups.as_slice(), repeats, board, queue, rooms, kept)?;
+                let left = play_loop(
+                    groups.as_slice(),
+                    repeats,
+                    board,
+                    queue,
+                    rooms,
+                    motions,
+                    kept,
+                )?;
                 if left.stopped {
                     return Ok(());
                 }
@@ -175,10 +215,12 @@ fn play_next<'r, 's: 'r, B: Scan>(
     board: &mut B,
     queue: &mut LentQueue<'r>,
     rooms: &mut [RoomFor<B>],
+    motions: &mut MotionSet,
     kept: &mut KeptBoards<B>,
 ) -> Result<Left, Memory>
     requires number { number < length program.old.sections }
     requires rooms { SectionsHaveRooms (length rooms.old) program.old.sections }
+    requires motions { HasMotionsIn (B.grid board.old) motions.old }
     requires same { (g : Grid) (table : Option (List ℕ)) → program.old.kept ≡ Some (g, table) →
         IsSameBut stirred (B.grid board.old) (B.table board.old) g table }
     ensures section { (section : CompiledSection) → slice_get program.old.sections number ≡ Some section →
@@ -191,9 +233,10 @@ fn play_next<'r, 's: 'r, B: Scan>(
     ensures origin { B.origin board.new ≡ B.origin board.old }
     ensures sides { sides_of (B.grid board.new) ≡ sides_of (B.grid board.old) }
     ensures rooms { length rooms.new ≡ length rooms.old }
+    ensures motions { HasMotionsIn (B.grid board.new) motions.new }
     ensures program { program.new ≡ program.old }
 {
-    if program.passes(number, stirred, board, rooms) {
+    if program.passes(number, stirred, *motions, board, rooms) {
         return Ok(Left {
             repeats,
             stopped: false,
@@ -201,7 +244,15 @@ fn play_next<'r, 's: 'r, B: Scan>(
         });
     }
     let sections: &[CompiledSection<'r>] = program.sections();
-    play_section(&sections[number], repeats, board, queue, rooms, kept)
+    play_section(
+        &sections[number],
+        repeats,
+        board,
+        queue,
+        rooms,
+        motions,
+        kept,
+    )
 }
 
 /// The sections of a program in order, as `play_sections`, but for groups that are known to have no place. What the
@@ -215,9 +266,11 @@ fn play_watched<'r, 's: 'r, B: Scan>(
     board: &mut B,
     queue: &mut LentQueue<'r>,
     rooms: &mut [RoomFor<B>],
+    motions: &mut MotionSet,
     kept: &mut KeptBoards<B>,
 ) -> Result<(), Memory>
     requires rooms { SectionsHaveRooms (length rooms.old) program.old.sections }
+    requires motions { HasMotionsIn (B.grid board.old) motions.old }
     requires kept { program.old.kept ≡ Some (B.grid board.old, B.table board.old) }
     ensures run { let before : State = record { grid = B.grid board.old; queue = queue.old } in
         let after : State = record { grid = B.grid board.new; queue = queue.new } in
@@ -227,13 +280,16 @@ fn play_watched<'r, 's: 'r, B: Scan>(
     ensures origin { B.origin board.new ≡ B.origin board.old }
     ensures sides { sides_of (B.grid board.new) ≡ sides_of (B.grid board.old) }
     ensures rooms { length rooms.new ≡ length rooms.old }
+    ensures motions { HasMotionsIn (B.grid board.new) motions.new }
     ensures program { program.new ≡ program.old }
 {
     recall_shape(board);
     let mut repeats = REPEAT_LIMIT;
     let mut stirred: Topics = Columns::none();
     for number in 0..program.sections().len() {
-        let left = play_next(program, number, stirred, repeats, board, queue, rooms, kept)?;
+        let left = play_next(
+            program, number, stirred, repeats, board, queue, rooms, motions, kept,
+        )?;
         if left.stopped {
             return Ok(());
         }
@@ -269,11 +325,12 @@ fn play_program<'r, 's: 'r, B: Scan>(
     ensures sections { program.new.sections ≡ program.old.sections }
 {
     let watches = program.begin(board)?;
+    let mut motions = board.motions_there();
     if watches {
-        return play_watched(program, board, queue, rooms, kept);
+        return play_watched(program, board, queue, rooms, &mut motions, kept);
     }
     let sections: &[CompiledSection<'r>] = program.sections();
-    play_sections(sections, board, queue, rooms, kept)
+    play_sections(sections, board, queue, rooms, &mut motions, kept)
 }
 
 /// A run of a program: its sections in order, until a loop would need one more repeat than are allowed for all loops

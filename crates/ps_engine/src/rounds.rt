@@ -6,6 +6,7 @@ ghost use Rattle.ps_model.specs.board.Programs.{group, pass, round, settled};
 ghost use Rattle.ps_engine.specs.RulesInRoom.{groups_meaning, rules_meaning};
 ghost use Rattle.ps_engine.specs.Rooms.{GroupsHaveRooms, HaveRooms};
 ghost use Rattle.ps_match.specs.InRoom.{sides_of};
+ghost use Rattle.ps_match.specs.Nowhere.{HasMotionsIn};
 
 use crate::attempts::attempt;
 use crate::kept_board::KeptBoard;
@@ -15,19 +16,21 @@ use crate::watch::Watch;
 use ps_match::Scan;
 use ps_model::{Memory, ROUND_LIMIT};
 use ps_places::RoomFor;
-use ps_program::CompiledRule;
+use ps_program::{CompiledRule, MotionSet};
 use ps_text::List;
 
 /// A round: the attempts of a group's rules in order, but for those that ask for a motion which nothing has. Answers
-/// whether one changed something.
+/// whether one changed something. The set has all motions of the board, before and behind.
 #[inline(always)]
 fn round<'r, B: Scan>(
     rules: &[CompiledRule<'r>],
     board: &mut B,
     queue: &mut LentQueue<'r>,
     rooms: &mut [RoomFor<B>],
+    motions: &mut MotionSet,
 ) -> bool
-    requires { HaveRooms (length rooms.old) rules.now }
+    requires rooms { HaveRooms (length rooms.old) rules.now }
+    requires motions { HasMotionsIn (B.grid board.old) motions.old }
     ensures round { let before : State = record { grid = B.grid board.old; queue = queue.old } in
         let after : State = record { grid = B.grid board.new; queue = queue.new } in
         record { state = after; changed = result }
@@ -36,15 +39,19 @@ fn round<'r, B: Scan>(
     ensures origin { B.origin board.new ≡ B.origin board.old }
     ensures sides { sides_of (B.grid board.new) ≡ sides_of (B.grid board.old) }
     ensures rooms { length rooms.new ≡ length rooms.old }
+    ensures motions { HasMotionsIn (B.grid board.new) motions.new }
 {
     let mut changed = false;
     let mut number = 0;
     while number < rules.len() {
-        let next = behind_lacking(board, rules, number);
+        let next = behind_lacking(board, *motions, rules, number);
         if next == rules.len() {
             return changed;
         }
-        changed |= attempt(&rules[next], board, queue, rooms);
+        if attempt(&rules[next], board, queue, rooms) {
+            changed = true;
+            *motions = board.motions_there();
+        }
         number = next + 1;
     }
     changed
@@ -63,9 +70,11 @@ fn play_rounds<'r, B: Scan>(
     board: &mut B,
     queue: &mut LentQueue<'r>,
     rooms: &mut [RoomFor<B>],
+    motions: &mut MotionSet,
     kept: &mut KeptBoard<B>,
 ) -> Result<(), Memory>
-    requires { HaveRooms (length rooms.old) rules.now }
+    requires rooms { HaveRooms (length rooms.old) rules.now }
+    requires motions { HasMotionsIn (B.grid board.old) motions.old }
     ensures settled { let before : State = record { grid = B.grid board.old; queue = queue.old } in
         let after : State = record { grid = B.grid board.new; queue = queue.new } in
         let all : Meant = record { state = after; changed = true } in
@@ -74,11 +83,12 @@ fn play_rounds<'r, B: Scan>(
     ensures origin { B.origin board.new ≡ B.origin board.old }
     ensures sides { sides_of (B.grid board.new) ≡ sides_of (B.grid board.old) }
     ensures rooms { length rooms.new ≡ length rooms.old }
+    ensures motions { HasMotionsIn (B.grid board.new) motions.new }
 {
     let mut watch = Watch::new();
     let mut left = watch.step(most, board, queue, kept)?;
     while 0 < left {
-        if !round(rules, board, queue, rooms) {
+        if !round(rules, board, queue, rooms, motions) {
             return Ok(());
         }
         left = watch.step(left - 1, board, queue, kept)?;
@@ -99,9 +109,11 @@ pub fn play_group<'r, B: Scan>(
     board: &mut B,
     queue: &mut LentQueue<'r>,
     rooms: &mut [RoomFor<B>],
+    motions: &mut MotionSet,
     kept: &mut KeptBoard<B>,
 ) -> Result<bool, Memory>
-    requires { HaveRooms (length rooms.old) rules.now }
+    requires rooms { HaveRooms (length rooms.old) rules.now }
+    requires motions { HasMotionsIn (B.grid board.old) motions.old }
     ensures group { let before : State = record { grid = B.grid board.old; queue = queue.old } in
         let after : State = record { grid = B.grid board.new; queue = queue.new } in
         IfOk result (λ changed. record { state = after; changed = changed }
@@ -110,11 +122,12 @@ pub fn play_group<'r, B: Scan>(
     ensures origin { B.origin board.new ≡ B.origin board.old }
     ensures sides { sides_of (B.grid board.new) ≡ sides_of (B.grid board.old) }
     ensures rooms { length rooms.new ≡ length rooms.old }
+    ensures motions { HasMotionsIn (B.grid board.new) motions.new }
 {
-    if !round(rules, board, queue, rooms) {
+    if !round(rules, board, queue, rooms, motions) {
         return Ok(false);
     }
-    play_rounds(rules, ROUND_LIMIT - 1, board, queue, rooms, kept)?;
+    play_rounds(rules, ROUND_LIMIT - 1, board, queue, rooms, motions, kept)?;
     Ok(true)
 }
 
@@ -128,9 +141,11 @@ pub fn pass<'r, B: Scan>(
     board: &mut B,
     queue: &mut LentQueue<'r>,
     rooms: &mut [RoomFor<B>],
+    motions: &mut MotionSet,
     kept: &mut KeptBoard<B>,
 ) -> Result<bool, Memory>
-    requires { GroupsHaveRooms (length rooms.old) groups.now }
+    requires rooms { GroupsHaveRooms (length rooms.old) groups.now }
+    requires motions { HasMotionsIn (B.grid board.old) motions.old }
     ensures pass { let before : State = record { grid = B.grid board.old; queue = queue.old } in
         let after : State = record { grid = B.grid board.new; queue = queue.new } in
         IfOk result (λ changed. record { state = after; changed = changed }
@@ -139,10 +154,11 @@ pub fn pass<'r, B: Scan>(
     ensures origin { B.origin board.new ≡ B.origin board.old }
     ensures sides { sides_of (B.grid board.new) ≡ sides_of (B.grid board.old) }
     ensures rooms { length rooms.new ≡ length rooms.old }
+    ensures motions { HasMotionsIn (B.grid board.new) motions.new }
 {
     let mut changed = false;
     for rules in groups {
-        let more = play_group(rules.as_slice(), board, queue, rooms, kept)?;
+        let more = play_group(rules.as_slice(), board, queue, rooms, motions, kept)?;
         changed |= more;
     }
     Ok(changed)

@@ -7,6 +7,7 @@ ghost use Rattle.std.specs.Prelude.{◌≡◌, ◌<◌, ℕ, [], IfOk, List, OnO
 ghost use Rattle.std.specs.Prelude.{true};
 ghost use Rattle.ps_board.specs.ColumnSets.{both_columns, set_columns};
 ghost use Rattle.ps_match.specs.InRoom.{sides_of};
+ghost use Rattle.ps_match.specs.Nowhere.{HasMotionsIn};
 ghost use Rattle.ps_match.specs.Topics.{DifferOnlyAbout};
 ghost use Rattle.ps_program.specs.declared.program.CompiledSection.{CompiledSection};
 ghost use Rattle.ps_engine.specs.Rooms.{HaveRooms, SectionHasRooms, SectionsHaveRooms};
@@ -21,7 +22,7 @@ use crate::topics_asked::topics_of_section;
 use ps_match::{Columns, Scan, Topics, recall_shape};
 use ps_model::Memory;
 use ps_places::RoomFor;
-use ps_program::{CompiledRule, CompiledSection};
+use ps_program::{CompiledRule, CompiledSection, MotionSet};
 use std::alloc::Global;
 use std::marker::Model;
 
@@ -112,14 +113,20 @@ fn next_pace(pace: Pace, little: bool) -> Pace {
 }
 
 /// Whether no rule has a combination, as far as a look tells. No memory is taken.
-fn are_idle<B: Scan>(rules: &[CompiledRule], board: &B, rooms: &mut [RoomFor<B>]) -> bool
-    requires { HaveRooms (length rooms.old) rules.now }
+fn are_idle<B: Scan>(
+    rules: &[CompiledRule],
+    motions: MotionSet,
+    board: &B,
+    rooms: &mut [RoomFor<B>],
+) -> bool
+    requires rooms { HaveRooms (length rooms.old) rules.now }
+    requires motions { HasMotionsIn (B.grid board.now) motions }
     ensures idle { result ≡ true → AreIdleOn (B.grid board.now) (B.table board.now) rules.now }
     ensures rooms { length rooms.new ≡ length rooms.old }
 {
     let mut number = 0;
     while number < rules.len() {
-        let next = behind_lacking(board, rules, number);
+        let next = behind_lacking(board, motions, rules, number);
         if next == rules.len() {
             return true;
         }
@@ -132,13 +139,19 @@ fn are_idle<B: Scan>(rules: &[CompiledRule], board: &B, rooms: &mut [RoomFor<B>]
 }
 
 /// Whether a section is a group of which no rule has a combination, as far as a look tells. No memory is taken.
-fn is_idle_section<B: Scan>(section: &CompiledSection, board: &B, rooms: &mut [RoomFor<B>]) -> bool
-    requires { SectionHasRooms (length rooms.old) section.now }
+fn is_idle_section<B: Scan>(
+    section: &CompiledSection,
+    motions: MotionSet,
+    board: &B,
+    rooms: &mut [RoomFor<B>],
+) -> bool
+    requires rooms { SectionHasRooms (length rooms.old) section.now }
+    requires motions { HasMotionsIn (B.grid board.now) motions }
     ensures idle { result ≡ true → IsIdleOn (B.grid board.now) (B.table board.now) section.now }
     ensures rooms { length rooms.new ≡ length rooms.old }
 {
     match section {
-        CompiledSection::Group(rules) => are_idle(rules.as_slice(), board, rooms),
+        CompiledSection::Group(rules) => are_idle(rules.as_slice(), motions, board, rooms),
         CompiledSection::Loop(_) => false,
     }
 }
@@ -325,11 +338,13 @@ impl<'p, 'r, B: Scan> WatchedProgram<'p, 'r, B> {
         &mut self,
         number: usize,
         stirred: Topics,
+        motions: MotionSet,
         board: &B,
         rooms: &mut [RoomFor<B>],
     ) -> bool
         requires number { number < length self.old.sections }
         requires rooms { SectionsHaveRooms (length rooms.old) self.old.sections }
+        requires motions { HasMotionsIn (B.grid board.now) motions }
         requires same { (g : Grid) (table : Option (List ℕ)) → self.old.kept ≡ Some (g, table) →
             IsSameBut stirred (B.grid board.now) (B.table board.now) g table }
         ensures idle { (section : CompiledSection) → slice_get self.old.sections number ≡ Some section →
@@ -346,7 +361,7 @@ impl<'p, 'r, B: Scan> WatchedProgram<'p, 'r, B> {
             return true;
         }
         let sections = self.sections;
-        let idle = is_idle_section(&sections[number], board, rooms);
+        let idle = is_idle_section(&sections[number], motions, board, rooms);
         note(&mut self.watches, number, idle);
         idle
     }

@@ -7,3 +7,4 @@ pub mod LeftAlone
 pub mod AllRows
 pub mod RowsAhead
 pub mod TopicSets
+pub mod AllMotions

@@ -8,7 +8,7 @@ use crate::topics::Topics;
 use crate::writing::write_cell;
 use ps_board::{Board, Columns, ListBoard, ManyWords, WORDS_LIMIT};
 use ps_model::{LayeredObject, MotionTest};
-use ps_program::{CellMask, CellWrite};
+use ps_program::{CellMask, CellWrite, MotionSet};
 
 impl Scan for ListBoard {
     fn fits(&self, mask: &CellMask, cell: u32) -> bool {
@@ -47,6 +47,11 @@ impl Scan for ListBoard {
     fn rows_moving(&self, _test: &MotionTest) -> Columns<ManyWords<WORDS_LIMIT>> {
         let (_width, height) = self.size();
         Columns::below(height)
+    }
+
+    /// All motions: to know which, this board would have to look at each cell.
+    fn motions_there(&self) -> MotionSet {
+        Columns::all()
     }
 
     /// All topics: to know which, this board would have to look at each cell.

@@ -8,14 +8,14 @@ ghost use Rattle.ps_board.specs.ColumnSets.{row_fits};
 ghost use Rattle.ps_model.specs.meaning.Compiled.{cell_written};
 ghost use Rattle.ps_match.specs.InRoom.{meaning_of_mask, meaning_of_write, sides_of, write_in_room};
 ghost use Rattle.ps_match.specs.Together.{is_on_row, rewritten_where};
-ghost use Rattle.ps_match.specs.Nowhere.{HasMovesIn, HasRowsIn, IsNowhere};
+ghost use Rattle.ps_match.specs.Nowhere.{HasMotionsIn, HasMovesIn, HasRowsIn, IsNowhere};
 ghost use Rattle.ps_match.specs.ScannedRows.{AreRowsScanned};
 ghost use Rattle.ps_match.specs.Topics.{DifferOnlyAbout};
 
 use crate::topics::Topics;
 use ps_board::{Board, Columns};
 use ps_model::{LayeredObject, MotionTest};
-use ps_program::{CellMask, CellWrite};
+use ps_program::{CellMask, CellWrite, MotionSet};
 
 /// A board whose cells are matched against masks and rewritten by writes. What runs rules touches a board through
 /// this alone.
@@ -51,6 +51,11 @@ pub trait Scan: Board {
     /// be more of them than have it, and all of them, as a board needn't look for it.
     fn rows_moving(&self, test: &MotionTest) -> Columns<Self::Words>
         ensures { HasMovesIn (Self.grid self.now) test.now result };
+
+    /// Motions of layers, as a set of their places: nothing on the board has one that has a place and isn't in the set.
+    /// There may be more of them than there are, and all of them, as a board needn't look for it.
+    fn motions_there(&self) -> MotionSet
+        ensures { HasMotionsIn (Self.grid self.now) result };
 
     /// Topics, as a set of their numbers, outside of which another board of the same size, with as many layers and the
     /// same room, has the same objects and motions in each cell. There may be more of them, and all of them, as a board

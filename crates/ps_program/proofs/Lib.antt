@@ -1,4 +1,5 @@
 pub mod FittingMasks
 pub mod KeepingCells
 pub mod LeavingCells
+pub mod MotionSets
 pub mod SettlingCells

@@ -4,6 +4,7 @@ pub mod Keeping
 pub mod KeepingCells
 pub mod Leaving
 pub mod LeavingCells
+pub mod MotionSets
 pub mod Needs
 pub mod Axes
 pub mod Sleeping

@@ -3,10 +3,12 @@
 ghost use Rattle.std.specs.Prelude.{◌≡◌, All, IfOk, true};
 ghost use Rattle.ps_program.specs.Needs.{rows_move, rows_need};
 ghost use Rattle.ps_program.specs.Axes.{LiesAlong};
+ghost use Rattle.ps_program.specs.MotionSets.{places_asked};
 ghost use Rattle.ps_program.specs.Sleeping.{rows_sleep};
 ghost use Rattle.ps_program.specs.Writers.{rows_writer};
 
 use crate::commands::Commands;
+use crate::motion_sets::{MotionSet, motions_asked};
 use crate::needs::asked_by;
 use crate::rows::{Axis, CompiledRow};
 use crate::sleeping::told_to_sleep;
@@ -30,6 +32,8 @@ pub struct CompiledRule<'r> {
     pub needed: List<LayeredObject>,
     /// The motions that its cells ask for, likewise.
     pub moving: List<MotionTest>,
+    /// Those of these motions that have a place in a set of motions.
+    pub asked: MotionSet,
     /// No write of its cells may wake a mask of its cells: where a row doesn't fit, it doesn't in the rest of an
     /// attempt. Where this isn't set, it may be so or not.
     pub sleeps: bool,
@@ -39,6 +43,7 @@ pub struct CompiledRule<'r> {
     ghost along: { All (LiesAlong axis) rows },
     ghost needs: { needed ≡ rows_need rows },
     ghost moves: { moving ≡ rows_move rows },
+    ghost places: { asked ≡ places_asked moving },
     ghost asleep: { sleeps ≡ true → rows_sleep rows ≡ true },
     ghost alone: { rows_writer rows writer ≡ true },
 }
@@ -59,6 +64,7 @@ impl<'r> CompiledRule<'r> {
         ensures commands { IfOk result (λ rule. rule.commands.now ≡ commands.entry.now) }
     {
         let asked = asked_by(alloc, rows.as_slice())?;
+        let motions = motions_asked(asked.motions.as_slice());
         let sleeps = told_to_sleep(rows.as_slice());
         let writer = writer_of(rows.as_slice());
         Ok(CompiledRule {
@@ -68,6 +74,7 @@ impl<'r> CompiledRule<'r> {
             commands,
             needed: asked.objects,
             moving: asked.motions,
+            asked: motions,
             sleeps,
             writer,
         })

@@ -43,4 +43,5 @@ pub mod LayersTouched
 pub mod Untouched
 pub mod Touched
 mod Passed
+mod LayerMotions
 mod Joined

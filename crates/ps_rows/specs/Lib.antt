@@ -13,3 +13,4 @@ pub mod MixedPlanes
 pub mod RowHistories
 pub mod PlaneTopics
 pub mod LayersTouched
+pub mod LayerMotions

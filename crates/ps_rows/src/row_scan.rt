@@ -1,11 +1,32 @@
 //! The board of rows, matched and written in many columns at once.
 
+ghost use Rattle.std.specs.Prelude.{◌<◌};
+ghost use Rattle.ps_rows.specs.LayerMotions.{AreMotionsTold};
+
 use crate::motions::motion_plane;
 use crate::row_board::RowBoard;
 use ps_board::{Board, ColumnWords};
 use ps_match::{Columns, Rooms, Scan, Topics};
 use ps_model::{LayerId, LayeredObject, MotionTest, ObjectId};
-use ps_program::{CellMask, CellWrite};
+use ps_program::{CellMask, CellWrite, MOTIONS, MotionSet, PLACED_LAYERS};
+
+impl<W: ColumnWords> RowBoard<W> {
+    /// The set with those motions of a layer whose planes have a marked row.
+    fn with_motions_of(&self, motions: MotionSet, layer: u32) -> MotionSet
+        requires layer { layer < self.now.layers }
+        requires placed { layer < PLACED_LAYERS }
+        ensures { AreMotionsTold self.now.members.table.items self.now.planes.index.items layer motions result }
+    {
+        let first = self.motions_from(layer);
+        let place = MOTIONS * layer;
+        motions
+            .with(place, !self.rows_of(first).is_empty())
+            .with(place + 1, !self.rows_of(first + 1).is_empty())
+            .with(place + 2, !self.rows_of(first + 2).is_empty())
+            .with(place + 3, !self.rows_of(first + 3).is_empty())
+            .with(place + 4, !self.rows_of(first + 4).is_empty())
+    }
+}
 
 impl<W: ColumnWords> Rooms for RowBoard<W> {
     fn has_room(&self, object: ObjectId, layer: LayerId) -> bool {
@@ -58,6 +79,17 @@ impl<W: ColumnWords> Scan for RowBoard<W> {
             Some(plane) => self.rows_of(plane),
             None => Columns::below(height),
         }
+    }
+
+    /// Those of the layers that have places, by the index: most layers have none.
+    fn motions_there(&self) -> MotionSet {
+        let mut motions = Columns::none();
+        for layer in 0..self.layers().min(PLACED_LAYERS) {
+            if !self.rows_moving_on(LayerId(layer)).is_empty() {
+                motions = self.with_motions_of(motions, layer);
+            }
+        }
+        motions
     }
 
     /// Those of the planes that aren't the same, looked at by the index first.

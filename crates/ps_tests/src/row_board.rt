@@ -13,17 +13,19 @@ const PUSHED: Motion = Motion::Going(Direction::Left);
 const OWN_LAYERS: [LayerId; 3] = [LayerId(1), LayerId(0), LayerId(1)];
 
 #[test]
-fn copies_rows_alone_and_rests(rt: HostRuntime) -> Result<(), Fail> {
+fn brings_a_board_up_to_date_by_rows(rt: HostRuntime) -> Result<(), Fail> {
     let mut board = RowBoard::<OneWord>::try_empty(rt.alloc(), 2, 3, 2, &OWN_LAYERS)?;
     board.put(0, LayerId(0), Some(ObjectId(1)), PUSHED);
     board.put(4, LayerId(1), Some(ObjectId(2)), PUSHED);
+    board.clear_moves();
     let mut other = board.try_copy(rt.alloc())?;
-    board.put(1, LayerId(1), Some(ObjectId(0)), Motion::Acting);
+    board.put(1, LayerId(1), Some(ObjectId(0)), Motion::Still);
     board.put(4, LayerId(1), None, Motion::Still);
+    board.clear_moves();
     let rows = board.rows_differing(&other);
     expect_set(&rt, &rows, &[false, true]);
+    assert!(rt; !board.same_on(&other, &rows));
     board.copy_rows(&mut other, &rows);
-    assert!(rt; other.rows_moving_any().is_empty());
     assert_eq!(rt;
         slot_of(&other, 0, 0),
         Some((Some(ObjectId(1)), Motion::Still))
@@ -34,9 +36,24 @@ fn copies_rows_alone_and_rests(rt: HostRuntime) -> Result<(), Fail> {
     );
     assert_eq!(rt; slot_of(&other, 4, 1), Some(BARE));
     assert!(rt; other.rows_holding(ObjectId(2)).is_empty());
+    expect_set(&rt, &other.rows_touched(), &[]);
     assert!(rt; board.rows_differing(&other).is_empty());
-    assert!(rt; !board.same(&other));
-    board.clear_moves();
+    assert!(rt; board.same(&other));
+    Ok(())
+}
+
+#[test]
+fn copies_motions_where_rows_are_the_same(rt: HostRuntime) -> Result<(), Fail> {
+    let mut board = RowBoard::<OneWord>::try_empty(rt.alloc(), 2, 3, 2, &OWN_LAYERS)?;
+    board.put(0, LayerId(0), Some(ObjectId(1)), Motion::Still);
+    let mut other = board.try_copy(rt.alloc())?;
+    board.put(0, LayerId(0), Some(ObjectId(1)), PUSHED);
+    let rows = board.rows_differing(&other);
+    expect_set(&rt, &rows, &[]);
+    assert!(rt; !board.same_on(&other, &rows));
+    board.copy_rows(&mut other, &rows);
+    expect_set(&rt, &other.rows_moving_on(LayerId(0)), &[true]);
+    expect_set(&rt, &other.rows_moving_on(LayerId(1)), &[]);
     assert!(rt; board.same(&other));
     Ok(())
 }

@@ -1,13 +1,13 @@
-use Rattle.std.proofs.Common.{◌+◌, ℕ, Option, List, refl, arith}
+use Rattle.std.proofs.Common.{◌+◌, ℕ, Option, List, arith}
 use Rattle.ps_model.specs.board.Grid.{Grid}
-use Rattle.ps_engine.proofs.AskedFor.{idle_between, idle_further, one_asks}
+use Rattle.ps_engine.proofs.AskedFor.{idle_further, one_idle}
 use Rattle.ps_engine.proofs.lacking.behind_lacking.Goals as goal
 
 pub loop-next-init : goal.loop-next-init
 loop-next-init g c =
     record {
       low = omega arith;
-      high = omega (arith, c.requires);
+      high = omega (arith, c.requires.number);
       idle = λ k d from to. absurd (omega (arith, from, to));
     }
 
@@ -16,24 +16,22 @@ loop-next-preserved g c =
     let grid : Grid = g.B.Board.grid c.args.board.now in
     let table : Option (List ℕ) = g.B.Board.table c.args.board.now in
     let next : ℕ = c.loop-next.next in
-    let behind : ℕ = c.behind_asking-next.result in
-    let here = idle_between grid table c.in-Some.test c.args.rules.now next (next + 1) c.recall_shape.ensures.shape
-    (c.in-Some.ensures.nowhere) (one_asks c.in-Some.test c.args.rules.now next (next + 1) c.index-rules-next.result refl
-    c.loop-next-test.true c.index-rules-next.is (c.in-Some.ensures.asked)) in
-    let others = idle_between grid table c.in-Some.test c.args.rules.now (next + 1) behind c.recall_shape.ensures.shape
-    (c.in-Some.ensures.nowhere) c.behind_asking-next.ensures.asks in
     record {
-      low = omega (arith, c.loop-next.invariant.low, c.behind_asking-next.ensures.from);
-      high = c.behind_asking-next.ensures.within;
-      idle = idle_further grid table c.args.rules.now c.args.number next behind c.loop-next.invariant.idle
-          (idle_further grid table c.args.rules.now next (next + 1) behind here others);
+      low = omega (arith, c.loop-next.invariant.low);
+      high = omega (arith, c.loop-next-test.true);
+      idle = idle_further grid table c.args.rules.now c.args.number next (next + 1) c.loop-next.invariant.idle
+          (one_idle grid table c.args.rules.now next c.index-rules-next.result c.loop-next-test.true
+          c.index-rules-next.is (c.asks_for_others.ensures c.if-asks_for_others.true));
     }
 
-pub returns-in_default-clause-from : goal.returns-in_default-clause-from
-returns-in_default-clause-from g c = c.loop-next.invariant.low
+pub asks_for_others-requires : goal.asks_for_others-requires
+asks_for_others-requires g c = c.requires.motions
 
-pub returns-in_default-clause-within : goal.returns-in_default-clause-within
-returns-in_default-clause-within g c = c.loop-next.invariant.high
+pub returns-else-asks_for_others-clause-from : goal.returns-else-asks_for_others-clause-from
+returns-else-asks_for_others-clause-from g c = c.loop-next.invariant.low
 
-pub returns-in_default-clause-idle : goal.returns-in_default-clause-idle
-returns-in_default-clause-idle g c = c.loop-next.invariant.idle
+pub returns-else-asks_for_others-clause-within : goal.returns-else-asks_for_others-clause-within
+returns-else-asks_for_others-clause-within g c = c.loop-next.invariant.high
+
+pub returns-else-asks_for_others-clause-idle : goal.returns-else-asks_for_others-clause-idle
+returns-else-asks_for_others-clause-idle g c = c.loop-next.invariant.idle

@@ -17,6 +17,7 @@ loop-again-init g c =
       table = refl;
       origin = refl;
       sides = refl;
+      motions = c.requires.motions;
       keeps = λ on. absurd (false≢true (sym c.new-watch.ensures ∙ on));
     }
 
@@ -54,6 +55,7 @@ loop-again-preserved g c =
       table = c.pass.ensures.table ∙ c.loop-again.invariant.table;
       origin = c.pass.ensures.origin ∙ c.loop-again.invariant.origin;
       sides = c.pass.ensures.sides ∙ c.loop-again.invariant.sides;
+      motions = c.in_ok-again.ensures.motions;
       keeps = keeps_on run watch c.step.new.self kept c.step.new.kept now next step c.loop-again.invariant.keeps
           c.in_ok-left.ensures.goes;
     }
@@ -92,9 +94,24 @@ returns-then-left-eq0-clause-looped g c =
     ∙ ap (λ (t : Option (List ℕ)). pass (groups_meaning t c.args.groups.now) now) c.loop-again.invariant.table in
     looped_stop meant c.loop-again.left now next c.if-left-eq0.true made ∙ c.loop-again.invariant.looped
 
-pub pass-requires : goal.pass-requires
-pass-requires g c =
-    subst (λ (count : ℕ). GroupsHaveRooms count c.args.groups.now) (sym c.loop-again.auto.rooms) c.requires
+pub pass-requires-clause-rooms : goal.pass-requires-clause-rooms
+pass-requires-clause-rooms g c =
+    subst (λ (count : ℕ). GroupsHaveRooms count c.args.groups.now) (sym c.loop-again.auto.rooms) c.requires.rooms
+
+pub pass-requires-clause-motions : goal.pass-requires-clause-motions
+pass-requires-clause-motions g c = c.loop-again.invariant.motions
+
+pub returns-in_err-again-clause-motions : goal.returns-in_err-again-clause-motions
+returns-in_err-again-clause-motions g c = c.in_err-again.ensures.motions
+
+pub returns-in_err-left-clause-motions : goal.returns-in_err-left-clause-motions
+returns-in_err-left-clause-motions g c = c.in_ok-again.ensures.motions
+
+pub returns-then-left-eq0-clause-motions : goal.returns-then-left-eq0-clause-motions
+returns-then-left-eq0-clause-motions g c = c.in_ok-again.ensures.motions
+
+pub returns-then-not-again-clause-motions : goal.returns-then-not-again-clause-motions
+returns-then-not-again-clause-motions g c = c.in_ok-again.ensures.motions
 
 pub returns-then-not-again-clause-rooms : goal.returns-then-not-again-clause-rooms
 returns-then-not-again-clause-rooms g c = c.in_ok-again.ensures.rooms ∙ c.loop-again.auto.rooms

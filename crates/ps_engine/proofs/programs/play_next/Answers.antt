@@ -41,6 +41,18 @@ passes-requires-clause-number g c = c.requires.number
 pub passes-requires-clause-rooms : goal.passes-requires-clause-rooms
 passes-requires-clause-rooms g c = c.requires.rooms
 
+pub passes-requires-clause-motions : goal.passes-requires-clause-motions
+passes-requires-clause-motions g c = c.requires.motions
+
+pub play_section-requires-clause-motions : goal.play_section-requires-clause-motions
+play_section-requires-clause-motions g c = c.requires.motions
+
+pub returns-then-passes-clause-motions : goal.returns-then-passes-clause-motions
+returns-then-passes-clause-motions g c = c.requires.motions
+
+pub returns-clause-motions : goal.returns-clause-motions
+returns-clause-motions g c = c.play_section.ensures.motions
+
 pub passes-requires-clause-same : goal.passes-requires-clause-same
 passes-requires-clause-same g c = c.requires.same
 
@@ -62,8 +74,8 @@ returns-then-passes-clause-rooms g c = c.passes.ensures.rooms
 pub returns-then-passes-clause-program : goal.returns-then-passes-clause-program
 returns-then-passes-clause-program g c = c.passes.ensures.program
 
-pub play_section-requires : goal.play_section-requires
-play_section-requires g c =
+pub play_section-requires-clause-rooms : goal.play_section-requires-clause-rooms
+play_section-requires-clause-rooms g c =
     subst (λ (count : ℕ). SectionHasRooms count c.index-sections-number.result) (sym c.passes.ensures.rooms)
     (each_there (SectionHasRooms (length c.args.rooms.now)) c.sections-sections.result.now
     c.args.program.now.sections c.args.number c.index-sections-number.result

@@ -60,8 +60,14 @@ pub returns-then-watches-clause-sections : goal.returns-then-watches-clause-sect
 returns-then-watches-clause-sections g c =
     ap (λ (w : Watching). w.sections) c.play_watched.ensures.program ∙ c.in_ok-watches.ensures.sections
 
-pub play_sections-requires : goal.play_sections-requires
-play_sections-requires g c =
+pub play_watched-requires-clause-motions : goal.play_watched-requires-clause-motions
+play_watched-requires-clause-motions g c = c.motions_there-motions.ensures
+
+pub play_sections-requires-clause-motions : goal.play_sections-requires-clause-motions
+play_sections-requires-clause-motions g c = c.motions_there-motions.ensures
+
+pub play_sections-requires-clause-rooms : goal.play_sections-requires-clause-rooms
+play_sections-requires-clause-rooms g c =
     subst (SectionsHaveRooms (length c.args.rooms.now))
     (sym (c.sections-sections.ensures ∙ c.in_ok-watches.ensures.sections)) c.requires
 

@@ -24,15 +24,30 @@ returns-in_ok-changed-in-Group-clause-unchanged g c = λ off.
     ∙ group_kept (rules_meaning (g.B.Board.table c.args.board.now) c.as_slice.result.now) before
     (ap (λ (r : Result). r.changed) (sym made) ∙ off)
 
-pub play_group-requires : goal.play_group-requires
-play_group-requires g c =
+pub play_group-requires-clause-rooms : goal.play_group-requires-clause-rooms
+play_group-requires-clause-rooms g c =
     subst (HaveRooms (length c.args.rooms.now)) (sym c.as_slice.ensures)
-    (c.requires.group c.in-Group.rules c.in-Group.is)
+    (c.requires.rooms.group c.in-Group.rules c.in-Group.is)
 
-pub play_loop-requires : goal.play_loop-requires
-play_loop-requires g c =
+pub play_loop-requires-clause-rooms : goal.play_loop-requires-clause-rooms
+play_loop-requires-clause-rooms g c =
     subst (GroupsHaveRooms (length c.args.rooms.now)) (sym c.as_slice-in-Loop.ensures)
-    (c.requires.groups c.in-Loop.groups c.in-Loop.is)
+    (c.requires.rooms.groups c.in-Loop.groups c.in-Loop.is)
+
+pub play_group-requires-clause-motions : goal.play_group-requires-clause-motions
+play_group-requires-clause-motions g c = c.requires.motions
+
+pub play_loop-requires-clause-motions : goal.play_loop-requires-clause-motions
+play_loop-requires-clause-motions g c = c.requires.motions
+
+pub returns-in_err-changed-in-Group-clause-motions : goal.returns-in_err-changed-in-Group-clause-motions
+returns-in_err-changed-in-Group-clause-motions g c = c.in_err-changed-in-Group.ensures.motions
+
+pub returns-in_ok-changed-in-Group-clause-motions : goal.returns-in_ok-changed-in-Group-clause-motions
+returns-in_ok-changed-in-Group-clause-motions g c = c.in_ok-changed-in-Group.ensures.motions
+
+pub returns-in-Loop-clause-motions : goal.returns-in-Loop-clause-motions
+returns-in-Loop-clause-motions g c = c.play_loop.ensures.motions
 
 pub returns-in_err-changed-in-Group-clause-section : goal.returns-in_err-changed-in-Group-clause-section
 returns-in_err-changed-in-Group-clause-section g c = IfOk-from_err c.from_residual.result _ c.from_residual.ensures.0

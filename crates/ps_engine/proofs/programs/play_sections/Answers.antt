@@ -1,8 +1,17 @@
-use Rattle.std.proofs.Common.{◌∙◌, refl}
+use Rattle.std.proofs.Common.{◌≡◌, ◌∙◌, ℕ, Bool, false, List, Option, ap, sym, subst, refl}
 use Rattle.ps_model.specs.declared.limits.TheConstants.{REPEAT_LIMIT}
+use Rattle.ps_model.specs.board.Grid.{Grid}
+use Rattle.ps_model.specs.board.Attempts.{Result, State}
+use Rattle.ps_model.specs.board.Programs.{Progress, section_run}
+use Rattle.ps_program.specs.declared.program.CompiledSection.{CompiledSection}
+use Rattle.ps_program.specs.declared.program.CompiledSection.TheVariants.{Group, Loop}
+use Rattle.ps_match.specs.InRoom.{sides_of}
+use Rattle.ps_match.specs.Nowhere.{HasMotionsIn}
 use Rattle.ps_engine.specs.RulesInRoom.{section_meaning, sections_meaning}
-use Rattle.ps_engine.proofs.Sequences.{program_is, sections_end}
+use Rattle.ps_engine.proofs.Sequences.{program_is, sections_end, sections_on}
 use Rattle.ps_engine.proofs.programs.play_sections.Goals as goal
+use Rattle.ps_engine.proofs.programs.play_sections.Goals.{in-Group+in_ok-play_group-in-Group}
+use Rattle.ps_engine.proofs.programs.play_sections.Goals.{in-Loop+in_ok-left-in-Loop+else-left}
 
 pub loop-section-init : goal.loop-section-init
 loop-section-init g c =
@@ -12,7 +21,61 @@ loop-section-init g c =
       table = refl;
       origin = refl;
       sides = refl;
+      motions = c.requires.motions;
     }
+
+pub loop-section-preserved : goal.loop-section-preserved
+loop-section-preserved g c =
+    let table : Option (List ℕ) = g.B.Board.table c.args.board.now in
+    let here : Option (List ℕ) = g.B.Board.table c.loop-section.board in
+    let was = c.loop-section.invariant in
+    let section : CompiledSection = c.section-item.result in
+    let repeats : ℕ = c.loop-section.repeats in
+    let now : State = record { grid = g.B.Board.grid c.loop-section.board; queue = c.loop-section.queue } in
+    elim c.match-section.branch [
+      | in-Group+in_ok-play_group-in-Group w ↦
+          let next : State = record { grid = g.B.Board.grid w.play_group.new.board; queue = w.play_group.new.queue } in
+          let made : (let p : Progress = record { state = next; repeats = repeats; stopped = false } in p)
+          ≡ section_run (section_meaning table section) repeats now =
+          ap (λ (r : Result). let p : Progress = record { state = r.state; repeats = repeats; stopped = false } in p)
+          w.in_ok-play_group-in-Group.ensures.group
+          ∙ ap (λ (s : CompiledSection). section_run (section_meaning here s) repeats now)
+          (ap Group w.as_slice.ensures ∙ sym w.in-Group.is)
+          ∙ ap (λ (t : Option (List ℕ)). section_run (section_meaning t section) repeats now) was.table in
+          record {
+            run = rw (w.repeats-is, w.board-is, w.queue-is) (sections_on (section_meaning table) c.args.sections.now
+                c.loop-section.section-index section repeats repeats now next c.loop-section-test.true
+                c.section-item.is made ∙ was.run);
+            table = ap g.B.Board.table w.board-is ∙ w.play_group.ensures.table ∙ was.table;
+            origin = ap g.B.Board.origin w.board-is ∙ w.play_group.ensures.origin ∙ was.origin;
+            sides = ap (λ board. sides_of (g.B.Board.grid board)) w.board-is ∙ w.play_group.ensures.sides ∙ was.sides;
+            motions = subst (HasMotionsIn (g.B.Board.grid c.match-section.board)) (sym w.motions-is)
+                (subst (λ (grid : Grid). HasMotionsIn grid w.play_group.new.motions)
+                (sym (ap g.B.Board.grid w.board-is)) w.play_group.ensures.motions);
+          }
+      | in-Loop+in_ok-left-in-Loop+else-left w ↦
+          let left = w.in_ok-left-in-Loop.left in
+          let next : State = record { grid = g.B.Board.grid w.play_loop.new.board; queue = w.play_loop.new.queue } in
+          let made : (let p : Progress = record { state = next; repeats = left.repeats; stopped = false } in p)
+          ≡ section_run (section_meaning table section) repeats now =
+          ap (λ (b : Bool). let p : Progress = record { state = next; repeats = left.repeats; stopped = b } in p)
+          (sym w.if-left.false)
+          ∙ w.in_ok-left-in-Loop.ensures.looped
+          ∙ ap (λ (s : CompiledSection). section_run (section_meaning here s) repeats now)
+          (ap Loop w.as_slice-in-Loop.ensures ∙ sym w.in-Loop.is)
+          ∙ ap (λ (t : Option (List ℕ)). section_run (section_meaning t section) repeats now) was.table in
+          record {
+            run = rw (w.repeats-is, w.board-is, w.queue-is) (sections_on (section_meaning table) c.args.sections.now
+                c.loop-section.section-index section repeats left.repeats now next c.loop-section-test.true
+                c.section-item.is made ∙ was.run);
+            table = ap g.B.Board.table w.board-is ∙ w.play_loop.ensures.table ∙ was.table;
+            origin = ap g.B.Board.origin w.board-is ∙ w.play_loop.ensures.origin ∙ was.origin;
+            sides = ap (λ board. sides_of (g.B.Board.grid board)) w.board-is ∙ w.play_loop.ensures.sides ∙ was.sides;
+            motions = subst (HasMotionsIn (g.B.Board.grid c.match-section.board)) (sym w.motions-is)
+                (subst (λ (grid : Grid). HasMotionsIn grid w.play_loop.new.motions)
+                (sym (ap g.B.Board.grid w.board-is)) w.play_loop.ensures.motions);
+          }
+    ]
 
 pub returns-clause-run : goal.returns-clause-run
 returns-clause-run g c =

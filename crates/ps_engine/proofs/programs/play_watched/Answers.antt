@@ -27,6 +27,7 @@ loop-number-init g c =
       table = refl;
       origin = refl;
       sides = refl;
+      motions = c.requires.motions;
       differ = differ_none c.none-stirred.result (g.B.Board.grid c.args.board.now) (g.B.Board.grid c.args.board.now)
           refl;
       program = refl;
@@ -83,6 +84,7 @@ loop-number-preserved g c =
       table = tables;
       origin = c.in_ok-left.ensures.origin ∙ c.loop-number.invariant.origin;
       sides = sides;
+      motions = c.in_ok-left.ensures.motions;
       differ = elim c.if-left-2.branch [
         | then-left-2 w ↦
             subst (λ (stirred : List Bool). DifferOnlyAbout stirred (g.B.Board.grid c.play_next.new.board) start)
@@ -134,6 +136,18 @@ returns-in_err-left-clause-origin g c = c.in_err-left.ensures.origin ∙ c.loop-
 
 pub returns-in_err-left-clause-sides : goal.returns-in_err-left-clause-sides
 returns-in_err-left-clause-sides g c = c.in_err-left.ensures.sides ∙ c.loop-number.invariant.sides
+
+pub play_next-requires-clause-motions : goal.play_next-requires-clause-motions
+play_next-requires-clause-motions g c = c.loop-number.invariant.motions
+
+pub returns-in_err-left-clause-motions : goal.returns-in_err-left-clause-motions
+returns-in_err-left-clause-motions g c = c.in_err-left.ensures.motions
+
+pub returns-then-left-clause-motions : goal.returns-then-left-clause-motions
+returns-then-left-clause-motions g c = c.in_ok-left.ensures.motions
+
+pub returns-clause-motions : goal.returns-clause-motions
+returns-clause-motions g c = c.loop-number.invariant.motions
 
 pub returns-in_err-left-clause-program : goal.returns-in_err-left-clause-program
 returns-in_err-left-clause-program g c = c.in_err-left.ensures.program ∙ c.loop-number.invariant.program

@@ -30,17 +30,28 @@ loop-rules-preserved g c =
       table = c.play_group.ensures.table ∙ c.loop-rules.invariant.table;
       origin = c.play_group.ensures.origin ∙ c.loop-rules.invariant.origin;
       sides = c.play_group.ensures.sides ∙ c.loop-rules.invariant.sides;
+      motions = c.play_group.ensures.motions;
     }
 
 pub loop-rules-init : goal.loop-rules-init
-loop-rules-init g c = record { pass = refl; table = refl; origin = refl; sides = refl }
+loop-rules-init g c =
+    record { pass = refl; table = refl; origin = refl; sides = refl; motions = c.requires.motions }
 
-pub play_group-requires : goal.play_group-requires
-play_group-requires g c =
+pub play_group-requires-clause-rooms : goal.play_group-requires-clause-rooms
+play_group-requires-clause-rooms g c =
     let rules : List CompiledRule = c.rules-item.result in
     subst (HaveRooms (length c.loop-rules.rooms)) (sym (c.as_slice.ensures ∙ c.rules-item.is))
     (subst (λ (count : ℕ). HaveRooms count (get_or c.args.groups.now c.loop-rules.rules-index rules))
-    (sym c.loop-rules.auto.rooms) (c.requires c.loop-rules.rules-index rules c.loop-rules-test.true))
+    (sym c.loop-rules.auto.rooms) (c.requires.rooms c.loop-rules.rules-index rules c.loop-rules-test.true))
+
+pub play_group-requires-clause-motions : goal.play_group-requires-clause-motions
+play_group-requires-clause-motions g c = c.loop-rules.invariant.motions
+
+pub returns-in_err-more-clause-motions : goal.returns-in_err-more-clause-motions
+returns-in_err-more-clause-motions g c = c.in_err-more.ensures.motions
+
+pub returns-clause-motions : goal.returns-clause-motions
+returns-clause-motions g c = c.loop-rules.invariant.motions
 
 pub returns-in_err-more-clause-pass : goal.returns-in_err-more-clause-pass
 returns-in_err-more-clause-pass g c = IfOk-from_err c.from_residual.result _ c.from_residual.ensures.0

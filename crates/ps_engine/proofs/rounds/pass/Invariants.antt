@@ -1,5 +1,6 @@
 use Rattle.std.proofs.Common.{◌≡◌, drop, map}
 use Rattle.ps_match.specs.InRoom.{sides_of}
+use Rattle.ps_match.specs.Nowhere.{HasMotionsIn}
 use Rattle.ps_model.specs.board.Attempts.{State}
 use Rattle.ps_model.specs.board.Programs.{after_change, pass}
 use Rattle.ps_engine.specs.RulesInRoom.{rules_meaning, groups_meaning}
@@ -17,4 +18,5 @@ invariant-loop-rules g l =
       table : g.B.Board.table l.board ≡ table;
       origin : g.B.Board.origin l.board ≡ g.B.Board.origin l.fn.board;
       sides : sides_of (g.B.Board.grid l.board) ≡ sides_of (g.B.Board.grid l.fn.board);
+      motions : HasMotionsIn (g.B.Board.grid l.board) l.motions;
     }

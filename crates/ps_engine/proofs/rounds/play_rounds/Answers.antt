@@ -21,6 +21,7 @@ loop-left-init g c =
       table = refl;
       origin = refl;
       sides = refl;
+      motions = c.requires.motions;
       keeps = keeps_first run watch c.step.new.self c.args.kept.now c.step.new.kept now c.new-watch.ensures
           c.in_ok-left.ensures.goes;
     }
@@ -63,13 +64,23 @@ loop-left-preserved g c =
       table = c.round.ensures.table ∙ c.loop-left.invariant.table;
       origin = c.round.ensures.origin ∙ c.loop-left.invariant.origin;
       sides = c.round.ensures.sides ∙ c.loop-left.invariant.sides;
+      motions = c.round.ensures.motions;
       keeps = keeps_on run watch c.step-in-loop-left.new.self kept c.step-in-loop-left.new.kept now next step
           c.loop-left.invariant.keeps c.in_ok-left-2.ensures.goes;
     }
 
-pub round-requires : goal.round-requires
-round-requires g c =
-    subst (λ (count : ℕ). HaveRooms count c.args.rules.now) (sym c.loop-left.auto.rooms) c.requires
+pub round-requires-clause-rooms : goal.round-requires-clause-rooms
+round-requires-clause-rooms g c =
+    subst (λ (count : ℕ). HaveRooms count c.args.rules.now) (sym c.loop-left.auto.rooms) c.requires.rooms
+
+pub round-requires-clause-motions : goal.round-requires-clause-motions
+round-requires-clause-motions g c = c.loop-left.invariant.motions
+
+pub returns-then-not-round-clause-motions : goal.returns-then-not-round-clause-motions
+returns-then-not-round-clause-motions g c = c.round.ensures.motions
+
+pub returns-clause-motions : goal.returns-clause-motions
+returns-clause-motions g c = c.loop-left.invariant.motions
 
 pub returns-then-not-round-clause-table : goal.returns-then-not-round-clause-table
 returns-then-not-round-clause-table g c = c.round.ensures.table ∙ c.loop-left.invariant.table

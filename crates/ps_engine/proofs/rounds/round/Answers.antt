@@ -1,42 +1,61 @@
-use Rattle.std.proofs.Common.{◌≡◌, ◌∙◌, ℕ, List, Option, ap, subst, arith, ◌≤◌, length, refl, sym}
+use Rattle.std.proofs.Common.{◌≡◌, ◌∙◌, ℕ, ◌+◌, ◌||◌, Bool, List, Option, map, drop, ap, subst, arith, ◌≤◌, length}
+use Rattle.std.proofs.Common.{refl, sym}
+use Rattle.std.proofs.Math.Bool.{or-false, or-true}
+use Rattle.ps_model.specs.board.Grid.{Grid}
 use Rattle.ps_model.specs.board.Attempts.{State, Result, attempt}
+use Rattle.ps_model.specs.board.Programs.{after_change, round}
+use Rattle.ps_match.specs.Nowhere.{HasMotionsIn}
 use Rattle.ps_program.specs.declared.rules.CompiledRule.{CompiledRule}
 use Rattle.ps_engine.specs.Lacking.{AreIdleBetween}
 use Rattle.ps_engine.specs.RulesInRoom.{rule_meaning}
 use Rattle.ps_engine.proofs.Idle.{rules_passed, short_of}
 use Rattle.ps_engine.proofs.Sequences.{round_end, round_more}
+use Rattle.ps_engine.proofs.Unchanged.{made_kept}
 use Rattle.ps_engine.proofs.rounds.round.Goals as goal
+use Rattle.ps_engine.proofs.rounds.round.Goals.{then-attempt, else-attempt}
 
 pub loop-number-preserved : goal.loop-number-preserved
 loop-number-preserved g c =
     let table : Option (List ℕ) = g.B.Board.table c.args.board.now in
     let was = c.loop-number.invariant in
     let at : ℕ = c.behind_lacking-next.result in
+    let rule : CompiledRule = c.index-rules-next.result in
+    let more : Bool = c.attempt.result in
     let now : State = record { grid = g.B.Board.grid c.loop-number.board; queue = c.loop-number.queue } in
-    let next : State = record {
-      grid = g.B.Board.grid c.attempt-changed.new.board;
-      queue =
-          c.attempt-changed.new.queue;
-    } in
-    let after : Result = record { state = next; changed = c.attempt-changed.result } in
-    let made : after ≡ attempt (rule_meaning table c.index-rules-next.result) now =
-    c.attempt-changed.ensures.attempt
-    ∙ ap (λ (t : Option (List ℕ)). attempt (rule_meaning t c.index-rules-next.result) now) was.table in
+    let next : State = record { grid = g.B.Board.grid c.attempt.new.board; queue = c.attempt.new.queue } in
+    let after : Result = record { state = next; changed = more } in
+    let made : after ≡ attempt (rule_meaning table rule) now =
+    c.attempt.ensures.attempt
+    ∙ ap (λ (t : Option (List ℕ)). attempt (rule_meaning t rule) now) was.table in
     let idle : AreIdleBetween now.grid table c.args.rules.now c.loop-number.number at =
     subst (λ (t : Option (List ℕ)). AreIdleBetween now.grid t c.args.rules.now c.loop-number.number at) was.table
     c.behind_lacking-next.ensures.idle in
+    let changed : c.if-attempt.changed ≡ (c.loop-number.changed || more) =
+    elim c.if-attempt.branch [
+      | then-attempt w ↦ w.changed-is ∙ sym (ap (λ (b : Bool). c.loop-number.changed || b) w.if-attempt.true
+          ∙ or-true c.loop-number.changed)
+      | else-attempt w ↦ w.changed-is ∙ sym (ap (λ (b : Bool). c.loop-number.changed || b) w.if-attempt.false
+          ∙ or-false c.loop-number.changed)
+    ] in
     record {
-      round = round_more (rule_meaning table) c.args.rules.now at c.index-rules-next.result c.loop-number.changed
-          c.attempt-changed.result now next
+      round = ap (λ (b : Bool). after_change b (round (map (rule_meaning table) (drop (at + 1) c.args.rules.now)) next))
+          changed
+          ∙ round_more (rule_meaning table) c.args.rules.now at rule c.loop-number.changed more now next
           (short_of at (length c.args.rules.now) c.behind_lacking-next.ensures.within c.if-next-rules.false)
           c.index-rules-next.is made
           ∙ rules_passed table c.args.rules.now c.loop-number.number at c.loop-number.changed now
           c.behind_lacking-next.ensures.from idle
           ∙ was.round;
-      table = c.attempt-changed.ensures.table ∙ was.table;
-      origin = c.attempt-changed.ensures.origin ∙ was.origin;
-      sides = c.attempt-changed.ensures.sides ∙ was.sides;
-      rooms = c.attempt-changed.ensures.rooms ∙ was.rooms;
+      table = c.attempt.ensures.table ∙ was.table;
+      origin = c.attempt.ensures.origin ∙ was.origin;
+      sides = c.attempt.ensures.sides ∙ was.sides;
+      rooms = c.attempt.ensures.rooms ∙ was.rooms;
+      motions = elim c.if-attempt.branch [
+        | then-attempt w ↦ subst (HasMotionsIn next.grid) (sym w.motions-is) w.motions_there.ensures
+        | else-attempt w ↦ subst (HasMotionsIn next.grid) (sym w.motions-is)
+            (subst (λ (grid : Grid). HasMotionsIn grid c.loop-number.motions)
+            (sym (made_kept (rule_meaning table rule) now after made w.if-attempt.false)) was.motions)
+      ];
     }
 
 pub returns-then-next-rules-clause-round : goal.returns-then-next-rules-clause-round
@@ -83,16 +102,32 @@ pub returns-clause-sides : goal.returns-clause-sides
 returns-clause-sides g c = c.loop-number.invariant.sides
 
 pub loop-number-init : goal.loop-number-init
-loop-number-init g c = record { round = refl; table = refl; origin = refl; sides = refl; rooms = refl }
+loop-number-init g c = record {
+  round = refl;
+  table = refl;
+  origin = refl;
+  sides = refl;
+  rooms = refl;
+  motions = c.requires.motions;
+}
 
-pub attempt-changed-requires : goal.attempt-changed-requires
-attempt-changed-requires g c =
+pub attempt-requires : goal.attempt-requires
+attempt-requires g c =
     let rule : CompiledRule = c.index-rules-next.result in
     subst (λ (count : ℕ). length rule.rows ≤ count) (sym c.loop-number.invariant.rooms)
     (subst (λ (each : CompiledRule). length each.rows ≤ length c.args.rooms.now) (sym c.index-rules-next.is)
-    (c.requires c.behind_lacking-next.result rule
+    (c.requires.rooms c.behind_lacking-next.result rule
     (short_of c.behind_lacking-next.result (length c.args.rules.now) c.behind_lacking-next.ensures.within
     c.if-next-rules.false)))
 
 pub returns-clause-rooms : goal.returns-clause-rooms
 returns-clause-rooms g c = c.loop-number.invariant.rooms
+
+pub behind_lacking-next-requires-clause-motions : goal.behind_lacking-next-requires-clause-motions
+behind_lacking-next-requires-clause-motions g c = c.loop-number.invariant.motions
+
+pub returns-then-next-rules-clause-motions : goal.returns-then-next-rules-clause-motions
+returns-then-next-rules-clause-motions g c = c.loop-number.invariant.motions
+
+pub returns-clause-motions : goal.returns-clause-motions
+returns-clause-motions g c = c.loop-number.invariant.motions

@@ -1,5 +1,6 @@
 use Rattle.std.proofs.Common.{◌≡◌, ◌-◌, drop, length, map}
 use Rattle.ps_match.specs.InRoom.{sides_of}
+use Rattle.ps_match.specs.Nowhere.{HasMotionsIn}
 use Rattle.ps_model.specs.board.Attempts.{State}
 use Rattle.ps_model.specs.board.Programs.{after_change, round}
 use Rattle.ps_engine.specs.RulesInRoom.{rule_meaning, rules_meaning}
@@ -18,6 +19,7 @@ invariant-loop-number g l =
       origin : g.B.Board.origin l.board ≡ g.B.Board.origin l.fn.board;
       sides : sides_of (g.B.Board.grid l.board) ≡ sides_of (g.B.Board.grid l.fn.board);
       rooms : length l.rooms ≡ length l.fn.rooms;
+      motions : HasMotionsIn (g.B.Board.grid l.board) l.motions;
     }
 
 abbrev pub decreases-loop-number : goal.decreases-loop-number

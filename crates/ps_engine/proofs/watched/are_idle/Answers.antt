@@ -36,12 +36,15 @@ pub returns-clause-idle : goal.returns-clause-idle
 returns-clause-idle g c = λ e. λ k d low.
     c.loop-number.invariant.idle k d (omega arith) (omega (arith, low, c.loop-number-test.false))
 
+pub behind_lacking-next-requires-clause-motions : goal.behind_lacking-next-requires-clause-motions
+behind_lacking-next-requires-clause-motions g c = c.requires.motions
+
 pub is_idle-requires : goal.is_idle-requires
 is_idle-requires g c =
     let rule : CompiledRule = c.index-rules-next.result in
     subst (λ (count : ℕ). length rule.rows ≤ count) (sym c.loop-number.invariant.rooms)
     (subst (λ (each : CompiledRule). length each.rows ≤ length c.args.rooms.now) (sym c.index-rules-next.is)
-    (c.requires c.behind_lacking-next.result rule
+    (c.requires.rooms c.behind_lacking-next.result rule
     (short_of c.behind_lacking-next.result (length c.args.rules.now) c.behind_lacking-next.ensures.within
     c.if-next-rules.false)))
 

@@ -3,10 +3,13 @@ use Rattle.ps_engine.specs.Rooms.{HaveRooms}
 use Rattle.ps_engine.specs.Watched.{AreIdleOn}
 use Rattle.ps_engine.proofs.watched.is_idle_section.Goals as goal
 
-pub are_idle-requires : goal.are_idle-requires
-are_idle-requires g c =
+pub are_idle-requires-clause-motions : goal.are_idle-requires-clause-motions
+are_idle-requires-clause-motions g c = c.requires.motions
+
+pub are_idle-requires-clause-rooms : goal.are_idle-requires-clause-rooms
+are_idle-requires-clause-rooms g c =
     subst (HaveRooms (length c.args.rooms.now)) (sym c.as_slice.ensures)
-    (c.requires.group c.in-Group.rules c.in-Group.is)
+    (c.requires.rooms.group c.in-Group.rules c.in-Group.is)
 
 pub returns-in-Group-clause-idle : goal.returns-in-Group-clause-idle
 returns-in-Group-clause-idle g c = λ e. record {

@@ -89,8 +89,11 @@ returns-then-index-clause-program g c = c.self.view_is
 pub returns-clause-program : goal.returns-clause-program
 returns-clause-program g c = c.self.view_is
 
-pub is_idle_section-idle-requires : goal.is_idle_section-idle-requires
-is_idle_section-idle-requires g c =
+pub is_idle_section-idle-requires-clause-motions : goal.is_idle_section-idle-requires-clause-motions
+is_idle_section-idle-requires-clause-motions g c = c.requires.motions
+
+pub is_idle_section-idle-requires-clause-rooms : goal.is_idle_section-idle-requires-clause-rooms
+is_idle_section-idle-requires-clause-rooms g c =
     each_there (SectionHasRooms (length c.args.rooms.now)) c.self.inside.sections.now c.args.self.now.sections
     c.args.number c.index-sections-number.result (ap (λ (w : Watching). w.sections) c.self.view_is) c.requires.number
     c.index-sections-number.is c.requires.rooms
