@@ -1,11 +1,12 @@
 //! What any board can do.
 
-ghost use Rattle.std.specs.Prelude.{◌≡◌, ℕ, ◌+◌, ◌*◌, ◌<◌, ◌≤◌, IfOk, IfSome, List, None, Option, true};
+ghost use Rattle.std.specs.Prelude.{◌≡◌, ℕ, ◌+◌, ◌*◌, ◌<◌, ◌≤◌, IfOk, IfSome, IsSome, List, None, Option, true};
 ghost use Rattle.ps_model.specs.board.Grid.{Grid, IsGrid, IsPlace, at_rest, empty_grid, with_slot};
 ghost use Rattle.ps_model.specs.board.Grid.{motion_in, object_in, slot_at, slot_of};
 ghost use Rattle.ps_model.specs.board.Turns.{same_cells};
 ghost use Rattle.ps_model.specs.declared.limits.TheConstants.{LAYER_LIMIT, SIDE_LIMIT};
 ghost use Rattle.ps_model.specs.declared.pieces.Motion.TheVariants.{Still};
+ghost use Rattle.ps_model.specs.declared.pieces.Slot.TheVariants.{Bare};
 ghost use Rattle.ps_model.specs.meaning.Compiled.{slot_holds};
 ghost use Rattle.ps_board.specs.Rooms.{HasRoom, HaveRoom, layer_numbers};
 ghost use Rattle.ps_board.specs.ColumnSets.{column_at};
@@ -103,6 +104,25 @@ pub trait Board: Drop {
         ensures table { table self.new ≡ table self.old }
         ensures origin { origin self.new ≡ origin self.old };
 
+    /// Gives the object on a layer of a cell a motion.
+    fn set_motion(&mut self, cell: u32, layer: LayerId, motion: Motion)
+        requires place { IsPlace (grid self.old) cell layer.0 }
+        requires some { IsSome (object_in (slot_at (grid self.old) cell layer.0)) }
+        ensures grid { let object = object_in (slot_at (grid self.old) cell layer.0) in
+            grid self.new ≡ with_slot (grid self.old) cell layer.0 (slot_of object motion) }
+        ensures table { table self.new ≡ table self.old }
+        ensures origin { origin self.new ≡ origin self.old };
+
+    /// Moves what stands on a layer of a cell to a cell where nothing stands on the layer, and brings it to rest.
+    fn shift(&mut self, cell: u32, to: u32, layer: LayerId)
+        requires place { IsPlace (grid self.old) cell layer.0 }
+        requires there { IsPlace (grid self.old) to layer.0 }
+        requires bare { object_in (slot_at (grid self.old) to layer.0) ≡ None }
+        ensures grid { let object = object_in (slot_at (grid self.old) cell layer.0) in
+            grid self.new ≡ with_slot (with_slot (grid self.old) to layer.0 (slot_of object Still)) cell layer.0 Bare }
+        ensures table { table self.new ≡ table self.old }
+        ensures origin { origin self.new ≡ origin self.old };
+
     /// Brings every object to rest.
     fn clear_moves(&mut self)
         ensures grid { grid self.new ≡ at_rest (grid self.old) }
@@ -197,8 +217,7 @@ pub trait Board: Drop {
         ensures { DifferOnlyOn result (origin self.now) (grid self.now) };
 
     /// Whether another board of the same size, with as many layers and the same room, which shows the same objects
-    /// outside of these rows, at rest or not, shows the same. The rows that both show at rest needn't be read but for
-    /// these.
+    /// outside of these rows, at rest or not, shows the same. Where all rests on both, other rows needn't be read.
     fn same_on(&self, other: &Self, rows: &Columns<Self::Words>) -> bool
         requires width { (grid other.now).width ≡ (grid self.now).width }
         requires height { (grid other.now).height ≡ (grid self.now).height }

@@ -188,6 +188,17 @@ impl Board for ListBoard {
         self.slots[place] = slot_with(object, motion);
     }
 
+    fn set_motion(&mut self, cell: u32, layer: LayerId, motion: Motion) {
+        let object = self.object(cell, layer);
+        self.put(cell, layer, object, motion);
+    }
+
+    fn shift(&mut self, cell: u32, to: u32, layer: LayerId) {
+        let object = self.object(cell, layer);
+        self.put(to, layer, object, Motion::Still);
+        self.put(cell, layer, None, Motion::Still);
+    }
+
     fn clear_moves(&mut self) {
         for slot in self.slots.iter_mut() {
             *slot = rested(*slot);

@@ -243,9 +243,7 @@ fn visit<B: Board>(board: &mut B, cell: u32, layer: LayerId) -> bool
     let Some(to) = way(board, cell, layer) else {
         return false;
     };
-    let object = board.object(cell, layer);
-    board.put(to, layer, object, Motion::Still);
-    board.put(cell, layer, None, Motion::Still);
+    board.shift(cell, to, layer);
     true
 }
 

@@ -42,6 +42,7 @@ pub mod TopicsTold
 pub mod LayersTouched
 pub mod Untouched
 pub mod Touched
+pub mod Shifts
 mod Passed
 mod LayerMotions
 mod Joined

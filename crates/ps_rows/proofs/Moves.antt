@@ -47,7 +47,7 @@ five_true first (Going Left) q h = rw (← same_Some (first + 2) q h) (listed_at
 five_true first (Going Right) q h = rw (← same_Some (first + 3) q h) (listed_at (motion_planes first) 3 0 (omega arith))
 five_true first Acting q h = rw (← same_Some (first + 4) q h) (listed_at (motion_planes first) 4 0 (omega arith))
 
-five_none : (first q : ℕ) → q ≢ first → q ≢ first + 1 → q ≢ first + 2 → q ≢ first + 3 → q ≢ first + 4 →
+pub five_none : (first q : ℕ) → q ≢ first → q ≢ first + 1 → q ≢ first + 2 → q ≢ first + 3 → q ≢ first + 4 →
     list_any (nat_eq q) (motion_planes first) ≡ false
 five_none first q a b c d e =
     rw (

@@ -1,6 +1,7 @@
 -- Planes of rows, each a set of columns, as one flat list: row y of a plane is the set at plane * height + y, and the
 -- set says whether the plane has the cell in each column of that row.
-use Rattle.std.specs.Prelude.{ℕ, ◌+◌, ◌*◌, ◌/◌, ◌%◌, ◌≡◌, ◌≤◌, nat_eq, length, Bool, true, Option, List, [], ◌∷◌}
+use Rattle.std.specs.Prelude.{ℕ, ◌+◌, ◌*◌, ◌/◌, ◌%◌, ◌≡◌, ◌≤◌, nat_eq, length, Bool, false, true, Option, None, Some}
+use Rattle.std.specs.Prelude.{List, [], ◌∷◌}
 use Rattle.std.specs.Prelude.{slice_index_or, slice_set}
 use Rattle.std.specs.List.{list_any}
 use Rattle.ps_model.specs.board.Movement.{is_number}
@@ -41,6 +42,12 @@ unfoldable pub with_cell_in : ℕ → ℕ → Option ℕ → List (List Bool) �
 with_cell_in height cell chosen words [] = words
 with_cell_in height cell chosen words (plane ∷ planes) =
     with_cell_in height cell chosen (with_cell height words cell plane (is_number chosen plane)) planes
+
+-- the planes with a cell moved to another place in that one, if there is one
+unfoldable pub with_shift : ℕ → ℕ → ℕ → Option ℕ → List (List Bool) → List (List Bool)
+with_shift height cell to None words = words
+with_shift height cell to (Some plane) words =
+    with_cell height (with_cell height words to plane true) cell plane false
 
 -- the rows of each of these planes are all there
 abbrev pub HavePlanes : ℕ → List (List Bool) → List ℕ → Type 0

@@ -7,7 +7,7 @@ ghost use Rattle.ps_model.specs.board.Movement.{is_number};
 ghost use Rattle.ps_model.specs.declared.limits.TheConstants.{SIDE_LIMIT};
 ghost use Rattle.ps_board.specs.ColumnSets.{column_at, no_columns, unlike_columns, with_column};
 ghost use Rattle.ps_rows.specs.Planes.{AreEmptyFrom, AreSameFrom, AreSets, HavePlanes, IsSet, has_cell, row_of};
-ghost use Rattle.ps_rows.specs.Planes.{with_cell, with_cell_in};
+ghost use Rattle.ps_rows.specs.Planes.{with_cell, with_cell_in, with_shift};
 ghost use Rattle.ps_rows.specs.PlaneCopies.{AreCopied, AreMarksTaken, ArePlanesOf, AreRowsOf, IsRowCopied};
 ghost use Rattle.ps_rows.specs.RowIndex.{AreRowsMarked};
 ghost use Rattle.ps_rows.specs.Sameness.{DifferOnlyOnRows};
@@ -334,6 +334,24 @@ impl<W: ColumnWords> Planes<W> {
         let column = cell / self.height;
         for plane in planes {
             self.set_cell(row, column, *plane, is_chosen(chosen, *plane));
+        }
+    }
+
+    /// Moves a cell to another place in the first of these planes that has it.
+    pub fn shift_cell(&mut self, cell: u32, to: u32, planes: &[u32])
+        requires column { cell / self.old.height < W.limit }
+        requires there { to / self.old.height < W.limit }
+        requires planes { HavePlanes self.old.height self.old.words.items planes.now }
+        ensures words { let p = self.old in let plane = find (has_cell p.height p.words.items cell) planes.now in
+            self.new.words.items ≡ with_shift p.height cell to plane p.words.items }
+        ensures height { self.new.height ≡ self.old.height }
+        ensures count { vec_len self.new.words ≡ vec_len self.old.words }
+    {
+        let row = cell % self.height;
+        let column = cell / self.height;
+        if let Some(plane) = self.first_plane(cell, planes) {
+            self.put_cell(to, plane);
+            self.set_cell(row, column, plane, false);
         }
     }
 

@@ -515,6 +515,26 @@ impl<W: ColumnWords> Board for RowBoard<W> {
         self.touched = self.touched.with(cell % self.planes.height, true);
     }
 
+    /// The planes of objects stay.
+    fn set_motion(&mut self, cell: u32, layer: LayerId, motion: Motion) {
+        let first = self.motions_from(layer.0);
+        self.may_move = true;
+        choose_motion(&mut self.planes, cell, first, motion);
+    }
+
+    /// One plane of an object changes, and those of the motion that the object had. Both rows are noted.
+    fn shift(&mut self, cell: u32, to: u32, layer: LayerId) {
+        let first = self.motions_from(layer.0);
+        let objects = self.members.of(layer.0);
+        self.planes.shift_cell(cell, to, objects);
+        choose_motion(&mut self.planes, cell, first, Motion::Still);
+        let height = self.planes.height;
+        self.touched = self
+            .touched
+            .with(to % height, true)
+            .with(cell % height, true);
+    }
+
     fn clear_moves(&mut self) {
         let first = self.members.count();
         self.planes.clear_moved(first, self.may_move);

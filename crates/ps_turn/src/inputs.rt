@@ -83,6 +83,6 @@ fn give_slot<B: Board>(board: &mut B, cell: u32, layer: LayerId, moved: &[Object
         return;
     };
     if has_object(moved, object) {
-        board.put(cell, layer, Some(object), motion);
+        board.set_motion(cell, layer, motion);
     }
 }
