@@ -9,8 +9,8 @@ ghost use Rattle.ps_engine.specs.RulesInRoom.{rule_meaning};
 use ps_match::{Scan, recall_shape};
 use ps_program::{CompiledRule, MotionSet};
 
-/// Whether a rule asks for a motion that has a place and isn't in a set. Such a rule has no combination where the set
-/// has all motions of the board. No memory is taken.
+/// Whether a rule asks for a motion whose place isn't in a set. Such a rule has no combination where the set has all
+/// motions of the board. No memory is taken.
 fn asks_for_others<B: Scan>(board: &B, motions: MotionSet, rule: &CompiledRule) -> bool
     requires { HasMotionsIn (B.grid board.now) motions }
     ensures { result ≡ true →

@@ -52,7 +52,7 @@ pub trait Scan: Board {
     fn rows_moving(&self, test: &MotionTest) -> Columns<Self::Words>
         ensures { HasMovesIn (Self.grid self.now) test.now result };
 
-    /// Motions of layers, as a set of their places: nothing on the board has one that has a place and isn't in the set.
+    /// Motions of layers, as a set of their places: nothing on the board has one whose place isn't in the set.
     /// There may be more of them than there are, and all of them, as a board needn't look for it.
     fn motions_there(&self) -> MotionSet
         ensures { HasMotionsIn (Self.grid self.now) result };

@@ -1,13 +1,13 @@
 -- Sets of the motions that tests ask for.
 use Rattle.std.proofs.Common.{◌≡◌, ◌∙◌, ℕ, ◌<◌, suc, ◌||◌, Bool, true, false, List, [], ◌∷◌, Option, Some, None}
-use Rattle.std.proofs.Common.{length, take, get_or, refl, sym, ap, arith, ◌+◌, ◌*◌}
-use Rattle.std.specs.Prelude.{if◌then◌else◌, nat_eq, nat_lt, option_map}
+use Rattle.std.proofs.Common.{length, take, get_or, refl, sym, ap, arith, ◌+◌, ◌*◌, ◌%◌}
+use Rattle.std.specs.Prelude.{if◌then◌else◌, nat_eq, option_map}
 use Rattle.std.specs.List.{list_any, Contains}
 use Rattle.std.proofs.Math.Bool.{or-false}
 use Rattle.std.proofs.Math.Seq.{take-suc}
 use Rattle.std.proofs.lemmas.Bool.{eqb-true, false≢true}
-use Rattle.std.proofs.lemmas.Bool.Decides.{nat_tests}
 use Rattle.std.proofs.lemmas.List.Folds.{list_any-append}
+use Rattle.std.proofs.lemmas.Nat.{mod_below}
 use Rattle.std.proofs.lemmas.Option.{same_Some}
 use Rattle.ps_model.specs.declared.pieces.Direction.TheVariants.{Up, Down, Left, Right}
 use Rattle.ps_model.specs.declared.pieces.Motion.{Motion}
@@ -31,25 +31,18 @@ low_on_layer (Going Left) place e = let is : 2 ≡ place = same_Some 2 place e i
 low_on_layer (Going Right) place e = let is : 3 ≡ place = same_Some 3 place e in omega (arith, is)
 low_on_layer Acting place e = let is : 4 ≡ place = same_Some 4 place e in omega (arith, is)
 
-low_among : (layer : ℕ) (found : Option ℕ) (place : ℕ) → layer < PLACED_LAYERS →
-    ((own : ℕ) → found ≡ Some own → own < MOTIONS) → option_map (λ own. MOTIONS * layer + own) found ≡ Some place →
-    place < MOTIONS * PLACED_LAYERS
-low_among layer None place placed low e = absurd (cc)
-low_among layer (Some own) place placed low e =
-    let is : MOTIONS * layer + own ≡ place = same_Some (MOTIONS * layer + own) place e in
-    omega (arith, is, placed, low own refl)
-
-low_by : (layer : ℕ) (motion : Motion) (place : ℕ) (placed : Bool) → nat_lt layer PLACED_LAYERS ≡ placed →
-    (if placed then option_map (λ own. MOTIONS * layer + own) (place_on_layer motion) else None) ≡ Some place →
-    place < MOTIONS * PLACED_LAYERS
-low_by layer motion place true t e =
-    low_among layer (place_on_layer motion) place (grind (arith, nat_tests)) (low_on_layer motion) e
-low_by layer motion place false t e = absurd (cc)
+low_among : (layer : ℕ) (found : Option ℕ) (place : ℕ) → ((own : ℕ) → found ≡ Some own → own < MOTIONS) →
+    option_map (λ own. MOTIONS * (layer % PLACED_LAYERS) + own) found ≡ Some place → place < MOTIONS * PLACED_LAYERS
+low_among layer None place low e = absurd (cc)
+low_among layer (Some own) place low e =
+    let is : MOTIONS * (layer % PLACED_LAYERS) + own ≡ place =
+    same_Some (MOTIONS * (layer % PLACED_LAYERS) + own) place e in
+    omega (arith, is, mod_below layer PLACED_LAYERS (omega arith), low own refl)
 
 -- each place is one of those that there are
 pub place_low : (layer : ℕ) (motion : Motion) (place : ℕ) → motion_place layer motion ≡ Some place →
     place < MOTIONS * PLACED_LAYERS
-place_low layer motion place e = low_by layer motion place (nat_lt layer PLACED_LAYERS) refl e
+place_low layer motion place e = low_among layer (place_on_layer motion) place (low_on_layer motion) e
 
 -- one more test -------------------------------------------------------------------------------------------------------
 

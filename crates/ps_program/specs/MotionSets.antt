@@ -1,6 +1,5 @@
--- Sets of motions: each motion of each of the lowest layers has a place in them.
-use Rattle.std.specs.Prelude.{◌+◌, ◌*◌, ℕ, Bool, true, false, List, Option, Some, None, option_map, if◌then◌else◌}
-use Rattle.std.specs.Prelude.{nat_eq, nat_lt}
+-- Sets of motions: each motion of a layer has a place in them, which layers that are as many apart as there are places share.
+use Rattle.std.specs.Prelude.{◌+◌, ◌*◌, ◌%◌, ℕ, Bool, true, false, List, Option, Some, None, option_map, nat_eq}
 use Rattle.std.specs.List.{list_any}
 use Rattle.ps_model.specs.declared.pieces.Direction.TheVariants.{Up, Down, Left, Right}
 use Rattle.ps_model.specs.declared.pieces.Motion.{Motion}
@@ -18,10 +17,9 @@ place_on_layer (Going Left) = Some 2
 place_on_layer (Going Right) = Some 3
 place_on_layer Acting = Some 4
 
--- the place of a motion of a layer; none, of rest, nor of a layer that has no places
+-- the place of a motion of a layer; none, of rest
 abbrev pub motion_place : ℕ → Motion → Option ℕ
-motion_place layer motion =
-    if nat_lt layer PLACED_LAYERS then option_map (λ place. MOTIONS * layer + place) (place_on_layer motion) else None
+motion_place layer motion = option_map (λ place. MOTIONS * (layer % PLACED_LAYERS) + place) (place_on_layer motion)
 
 -- a set with a place in it, if there is one
 abbrev pub with_place : List Bool → Option ℕ → List Bool

@@ -17,7 +17,7 @@ pub use cells::{CellMask, CellWrite, CompiledCell};
 pub use commands::Commands;
 pub use keeping::{keeping_cells, sleeping_cells, write_keeps, write_wakes};
 pub use leaving::{all_listed, is_listed, leaving_cells};
-pub use motion_sets::{MOTIONS, MotionSet, PLACED_LAYERS, motion_place};
+pub use motion_sets::{MOTIONS, MotionSet, PLACED_LAYERS};
 pub use program::{CompiledSection, Program};
 pub use ps_model::{LayerWrite, LayeredObject, MotionTest, ObjectWrite};
 pub use rows::{Axis, CompiledRow, PART_LIMIT};

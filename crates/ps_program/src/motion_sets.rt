@@ -1,5 +1,5 @@
-//! Sets of motions: each motion of each of the lowest layers has a place in them. What a rule asks for and what a board
-//! has are compared by one look at two such sets.
+//! Sets of motions: each motion of a layer has a place in them, which layers that are twelve apart share. What a rule asks
+//! for and what a board has are compared by one look at two such sets.
 
 ghost use Rattle.std.specs.Prelude.{◌≡◌, ◌*◌, ◌<◌, IfSome};
 ghost use Rattle.ps_program.specs.MotionSets.{motion_place, place_on_layer, places_asked, with_place};
@@ -7,7 +7,7 @@ ghost use Rattle.ps_program.specs.MotionSets.{motion_place, place_on_layer, plac
 use ps_board::{Columns, OneWord};
 use ps_model::{Direction, LayerId, Motion, MotionTest};
 
-/// How many layers, the lowest ones, have places in a set of motions.
+/// How many layers have places of their own in a set of motions: layers whose numbers are as many apart have the same.
 pub const PLACED_LAYERS: u32 = 12;
 
 /// How many motions a layer has places for.
@@ -31,19 +31,16 @@ fn place_on_layer(motion: Motion) -> Option<u32>
     }
 }
 
-/// The place of a motion of a layer in a set of motions; none, of rest, nor of a layer that has no places.
-pub fn motion_place(layer: LayerId, motion: Motion) -> Option<u32>
+/// The place of a motion of a layer in a set of motions; none, of rest.
+fn motion_place(layer: LayerId, motion: Motion) -> Option<u32>
     ensures place { result ≡ motion_place layer.0 motion }
     ensures low { IfSome result (λ place. place < MOTIONS * PLACED_LAYERS) }
 {
-    if PLACED_LAYERS <= layer.0 {
-        return None;
-    }
     let place = place_on_layer(motion)?;
-    Some(MOTIONS * layer.0 + place)
+    Some(MOTIONS * (layer.0 % PLACED_LAYERS) + place)
 }
 
-/// The set with the motion that is asked for, if that has a place.
+/// The set with the motion that is asked for; with nothing more, where that is rest.
 fn with_motion(motions: MotionSet, test: &MotionTest) -> MotionSet
     ensures { result ≡ with_place motions (motion_place test.now.layer.0 test.now.motion) }
 {
@@ -53,7 +50,7 @@ fn with_motion(motions: MotionSet, test: &MotionTest) -> MotionSet
     }
 }
 
-/// The motions that are asked for and have a place.
+/// The motions that are asked for.
 pub fn motions_asked(tests: &[MotionTest]) -> MotionSet
     ensures { result ≡ places_asked tests.now }
 {

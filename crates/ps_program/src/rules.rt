@@ -32,7 +32,7 @@ pub struct CompiledRule<'r> {
     pub needed: List<LayeredObject>,
     /// The motions that its cells ask for, likewise.
     pub moving: List<MotionTest>,
-    /// Those of these motions that have a place in a set of motions.
+    /// These motions as a set, by their places.
     pub asked: MotionSet,
     /// No write of its cells may wake a mask of its cells: where a row doesn't fit, it doesn't in the rest of an
     /// attempt. Where this isn't set, it may be so or not.

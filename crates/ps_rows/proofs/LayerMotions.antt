@@ -1,9 +1,8 @@
 -- Sets of the motions that a board has, layer by layer.
-use Rattle.std.proofs.Common.{◌≡◌, ◌≢◌, ◌∙◌, ℕ, ◌+◌, ◌*◌, ◌<◌, ◌≤◌, ◌⊎◌, inl, inr, Bool, true, false, not, List, []}
+use Rattle.std.proofs.Common.{◌≡◌, ◌≢◌, ◌∙◌, ℕ, ◌+◌, ◌*◌, ◌%◌, ◌<◌, ◌≤◌, inl, inr, Bool, true, false, not, List, []}
 use Rattle.std.proofs.Common.{Option, Some, None, refl, sym, ap, subst, arith}
-use Rattle.std.specs.Prelude.{if◌then◌else◌, nat_lt, option_map}
+use Rattle.std.specs.Prelude.{option_map}
 use Rattle.std.proofs.lemmas.Bool.{cases_eq, cases_lt, false≢true}
-use Rattle.std.proofs.lemmas.Bool.Decides.{nat_tests}
 use Rattle.std.proofs.lemmas.Option.{none-some, same_Some}
 use Rattle.ps_model.specs.declared.limits.TheConstants.{SIDE_LIMIT}
 use Rattle.ps_model.specs.declared.pieces.Direction.TheVariants.{Up, Down, Left, Right}
@@ -17,6 +16,7 @@ use Rattle.ps_board.specs.RowsOfGrids.{MoveOnlyOn, is_moving}
 use Rattle.ps_board.proofs.ColumnLaws.{none_in, with_here, with_other}
 use Rattle.ps_program.specs.MotionSets.{motion_place, place_on_layer}
 use Rattle.ps_program.specs.declared.motion_sets.TheConstants.{MOTIONS, PLACED_LAYERS}
+use Rattle.ps_program.proofs.MotionSets.{place_low}
 use Rattle.ps_match.specs.Nowhere.{HasMotionsIn, MovesNowhere}
 use Rattle.ps_rows.specs.LayerMotions.{AreMotionsTold}
 use Rattle.ps_rows.specs.Planes.{row_of}
@@ -49,12 +49,6 @@ module _ (P : ℕ → Type 0) (start : ℕ) where
         (sym (ap (λ (set : List Bool). column_at set (start + k)) with
         ∙ with_other before place (start + k) on (omega (arith, few, low)) apart) ∙ off)
   ]
-
-pub place_below : (start place x : ℕ) (before after : List Bool) (on : Bool) → start ≤ place → place < SIDE_LIMIT →
-    x < start → after ≡ with_column before place on → column_at after x ≡ column_at before x
-place_below start place x before after on order low under with =
-    ap (λ (set : List Bool). column_at set x) with
-    ∙ with_other before place x on (omega (arith, under, order, low)) (omega (arith, under, order))
 
 -- a plane without a marked row
 pub unmarked : (index : List (List Bool)) (plane own : ℕ) (rows : List Bool) (empty : Bool) →
@@ -93,32 +87,22 @@ numbered Acting k e =
 -- the motion of a layer that has a place
 record Placed (layer : ℕ) (motion : Motion) (place : ℕ) : Type 0 where
   number : ℕ
-  placed : layer < PLACED_LAYERS
-  is : place ≡ MOTIONS * layer + number
+  is : place ≡ MOTIONS * (layer % PLACED_LAYERS) + number
   own : Numbered motion number
 
-placed_among : (layer : ℕ) (motion : Motion) (place : ℕ) (found : Option ℕ) → layer < PLACED_LAYERS →
-    place_on_layer motion ≡ found → option_map (λ own. MOTIONS * layer + own) found ≡ Some place →
-    Placed layer motion place
-placed_among layer motion place None low there e = absurd (none-some place e)
-placed_among layer motion place (Some k) low there e =
+placed_among : (layer : ℕ) (motion : Motion) (place : ℕ) (found : Option ℕ) → place_on_layer motion ≡ found →
+    option_map (λ own. MOTIONS * (layer % PLACED_LAYERS) + own) found ≡ Some place → Placed layer motion place
+placed_among layer motion place None there e = absurd (none-some place e)
+placed_among layer motion place (Some k) there e =
     record {
       number = k;
-      placed = low;
-      is = sym (same_Some (MOTIONS * layer + k) place e);
+      is = sym (same_Some (MOTIONS * (layer % PLACED_LAYERS) + k) place e);
       own = numbered motion k there;
     }
 
-placed_by : (layer : ℕ) (motion : Motion) (place : ℕ) (low : Bool) → nat_lt layer PLACED_LAYERS ≡ low →
-    (if low then option_map (λ own. MOTIONS * layer + own) (place_on_layer motion) else None) ≡ Some place →
-    Placed layer motion place
-placed_by layer motion place true t e =
-    placed_among layer motion place (place_on_layer motion) (grind (arith, nat_tests)) refl e
-placed_by layer motion place false t e = absurd (none-some place e)
-
 is_placed : (layer : ℕ) (motion : Motion) (place : ℕ) → motion_place layer motion ≡ Some place →
     Placed layer motion place
-is_placed layer motion place e = placed_by layer motion place (nat_lt layer PLACED_LAYERS) refl e
+is_placed layer motion place e = placed_among layer motion place (place_on_layer motion) refl e
 
 -- layers --------------------------------------------------------------------------------------------------------------
 
@@ -172,7 +156,9 @@ module _ (table : List ℕ) (width height layers : ℕ) (words : List (List Bool
       let there : Placed (test.layer).0 test.motion place = is_placed (test.layer).0 test.motion place is in
       elim (cases_eq (test.layer).0 layer) [
         | inl e ↦
-            let at : MOTIONS * layer + there.number ≡ place = omega (arith, there.is, e) in
+            let same : (test.layer).0 % PLACED_LAYERS ≡ layer % PLACED_LAYERS =
+            ap (λ (n : ℕ). n % PLACED_LAYERS) e in
+            let at : MOTIONS * (layer % PLACED_LAYERS) + there.number ≡ place = omega (arith, there.is, same) in
             let none : set_columns (row_of index (motions_from table layer + there.number)) ≡ [] =
             told.own there.number there.own.low (ap (column_at more) at ∙ off) in
             let own : motions_from table layer ≡ motions_from table (test.layer).0 =
@@ -185,23 +171,18 @@ module _ (table : List ℕ) (width height layers : ℕ) (words : List (List Bool
             ∙ none_in (row_of index (motions_from table layer + there.number)) row none (omega (arith, under, short)))
         | inr n ↦
             let below : (test.layer).0 < layer = omega (arith, low, behind, n) in
-            let under : place < MOTIONS * layer = omega (arith, there.is, there.own.low, below) in
-            before test place below is (sym (told.below place under) ∙ off)
+            before test place below is
+            (told.kept place (place_low (test.layer).0 test.motion place is) off)
       ]
 
-  -- the layers that have places, and those that the board doesn't have
-  pub all_told : (end : ℕ) (motions : List Bool) → (layers ≤ end) ⊎ (PLACED_LAYERS ≤ end) →
+  -- the layers of the board, and those that it doesn't have
+  pub all_told : (end : ℕ) (motions : List Bool) → layers ≤ end →
       HasMotionsBelow (grid_shown table width height layers words) end motions →
       HasMotionsIn (grid_shown table width height layers words) motions
   all_told end motions all before = λ test place is off.
       let there : Placed (test.layer).0 test.motion place = is_placed (test.layer).0 test.motion place is in
       elim (cases_lt (test.layer).0 layers) [
-        | inl on ↦
-            let low : (test.layer).0 < end = elim all [
-              | inl own ↦ omega (arith, on, own)
-              | inr placed ↦ omega (arith, there.placed, placed)
-            ] in
-            before test place low is off
+        | inl on ↦ before test place (omega (arith, on, all)) is off
         | inr far ↦ λ row under x across.
             sym (beyond_row table width height layers words row some narrow under test no_columns far
             (λ y low. none_at y ∙ sym there.own.going) x across) ∙ none_at x

@@ -60,7 +60,8 @@ twice false false false = refl
 
 -- rows ----------------------------------------------------------------------------------------------------------------
 
-place_in : (h plane y long : ℕ) → y < h → (plane + 1) * h ≤ long → plane * h + y < long
+-- a row of a plane that stands whole in the words stands in them
+pub place_in : (h plane y long : ℕ) → y < h → (plane + 1) * h ≤ long → plane * h + y < long
 place_in h plane y long under enough =
     let whole : (plane + 1) * h ≡ plane * h + h = omega arith in omega arith
 

@@ -61,10 +61,6 @@ row_kept height plane row word other y words more under inside apart is =
     ∙ get_or-set_other words (plane * height + row) (other * height + y) word no_columns
     (λ e. let same = same_from_place other y plane row height inside under e in apart same.0 same.1)
 
--- a row of a plane that stands whole in the words stands in them
-pub row_within : (height plane row long : ℕ) → row < height → (plane + 1) * height ≤ long → plane * height + row < long
-row_within height plane row long under enough = omega arith
-
 -- a row of no plane so far
 pub no_row_copied : (height row : ℕ) (source before : List (List Bool)) → IsRowCopied height 0 row source before before
 no_row_copied height row source before = record {

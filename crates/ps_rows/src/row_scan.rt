@@ -11,20 +11,20 @@ use ps_model::{LayerId, LayeredObject, MotionTest, ObjectId};
 use ps_program::{CellMask, CellWrite, MOTIONS, MotionSet, PLACED_LAYERS};
 
 impl<W: ColumnWords> RowBoard<W> {
-    /// The set with those motions of a layer whose planes have a marked row.
+    /// The set with those motions of a layer whose planes have a marked row: what shares their places stays in it.
     fn with_motions_of(&self, motions: MotionSet, layer: u32) -> MotionSet
         requires layer { layer < self.now.layers }
-        requires placed { layer < PLACED_LAYERS }
         ensures { AreMotionsTold self.now.members.table.items self.now.planes.index.items layer motions result }
     {
         let first = self.motions_from(layer);
-        let place = MOTIONS * layer;
-        motions
+        let place = MOTIONS * (layer % PLACED_LAYERS);
+        let own = Columns::none()
             .with(place, !self.rows_of(first).is_empty())
             .with(place + 1, !self.rows_of(first + 1).is_empty())
             .with(place + 2, !self.rows_of(first + 2).is_empty())
             .with(place + 3, !self.rows_of(first + 3).is_empty())
-            .with(place + 4, !self.rows_of(first + 4).is_empty())
+            .with(place + 4, !self.rows_of(first + 4).is_empty());
+        motions.either(own)
     }
 }
 
@@ -81,10 +81,10 @@ impl<W: ColumnWords> Scan for RowBoard<W> {
         }
     }
 
-    /// Those of the layers that have places, by the index: most layers have none.
+    /// Layer by layer, by the index: most layers have none.
     fn motions_there(&self) -> MotionSet {
         let mut motions = Columns::none();
-        for layer in 0..self.layers().min(PLACED_LAYERS) {
+        for layer in 0..self.layers() {
             if !self.rows_moving_on(LayerId(layer)).is_empty() {
                 motions = self.with_motions_of(motions, layer);
             }

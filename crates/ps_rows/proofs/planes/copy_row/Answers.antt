@@ -4,7 +4,8 @@ use Rattle.std.proofs.lemmas.List.{get_or_read, length-set}
 use Rattle.ps_board.specs.ColumnSets.{no_columns}
 use Rattle.ps_rows.specs.PlaneCopies.{IsRowCopied}
 use Rattle.ps_rows.proofs.Passed.{next_enough, own_order, same_order}
-use Rattle.ps_rows.proofs.RowCopies.{no_row_copied, row_more, row_within}
+use Rattle.ps_rows.proofs.RowChanges.{place_in}
+use Rattle.ps_rows.proofs.RowCopies.{no_row_copied, row_more}
 use Rattle.ps_rows.proofs.planes.copy_row.Goals as goal
 
 pub loop-plane-init : goal.loop-plane-init
@@ -12,28 +13,28 @@ loop-plane-init g c = (no_row_copied c.args.height c.args.row c.args.words.now c
 
 pub offset_bounds-words-place : goal.offset_bounds-words-place
 offset_bounds-words-place g c =
-    let within = row_within c.args.height c.loop-plane.plane c.args.row (length c.args.words.now) c.requires.row
+    let within = place_in c.args.height c.loop-plane.plane c.args.row (length c.args.words.now) c.requires.row
     (next_enough c.args.height c.loop-plane.plane c.args.planes c.args.planes (length c.args.words.now)
     (length c.args.words.now) c.loop-plane-test.true (own_order c.args.planes) c.requires.here refl) in
     omega (arith, within)
 
 pub bounds-words-place : goal.bounds-words-place
 bounds-words-place g c =
-    row_within c.args.height c.loop-plane.plane c.args.row (length c.args.words.now) c.requires.row
+    place_in c.args.height c.loop-plane.plane c.args.row (length c.args.words.now) c.requires.row
     (next_enough c.args.height c.loop-plane.plane c.args.planes c.args.planes (length c.args.words.now)
     (length c.args.words.now) c.loop-plane-test.true (own_order c.args.planes) c.requires.here refl)
 
 pub offset_bounds-others-place : goal.offset_bounds-others-place
 offset_bounds-others-place g c =
     let within : c.loop-plane.plane * c.args.height + c.args.row < length c.args.others.now =
-    row_within c.args.height c.loop-plane.plane c.args.row (length c.args.others.now) c.requires.row
+    place_in c.args.height c.loop-plane.plane c.args.row (length c.args.others.now) c.requires.row
     (next_enough c.args.height c.loop-plane.plane c.args.planes c.args.planes (length c.args.others.now)
     (length c.args.others.now) c.loop-plane-test.true (own_order c.args.planes) c.requires.there refl) in
     search rules
 
 pub bounds-others-place : goal.bounds-others-place
 bounds-others-place g c =
-    row_within c.args.height c.loop-plane.plane c.args.row (length c.loop-plane.others) c.requires.row
+    place_in c.args.height c.loop-plane.plane c.args.row (length c.loop-plane.others) c.requires.row
     (next_enough c.args.height c.loop-plane.plane c.args.planes c.args.planes (length c.args.others.now)
     (length c.loop-plane.others) c.loop-plane-test.true (own_order c.args.planes) c.requires.there
     c.loop-plane.invariant.1)
@@ -47,7 +48,7 @@ loop-plane-preserved g c =
     let now : List (List Bool) = c.loop-plane.others in
     let order = own_order c.args.planes in
     let here : plane * height + row < length c.args.words.now =
-    row_within height plane row (length c.args.words.now) c.requires.row
+    place_in height plane row (length c.args.words.now) c.requires.row
     (next_enough height plane c.args.planes c.args.planes (length c.args.words.now) (length c.args.words.now)
     c.loop-plane-test.true order c.requires.here refl) in
     let enough = next_enough height plane c.args.planes c.args.planes (length c.args.others.now) (length now)

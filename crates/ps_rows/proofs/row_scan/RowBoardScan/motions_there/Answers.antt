@@ -1,7 +1,5 @@
-use Rattle.std.proofs.Common.{◌<◌, ◌≤◌, ◌+◌, ◌⊎◌, inl, inr, ℕ, refl, subst, sym, arith}
-use Rattle.std.proofs.lemmas.Bool.{cases_lt}
+use Rattle.std.proofs.Common.{◌<◌, ◌+◌, ℕ, refl, subst, sym, arith}
 use Rattle.ps_model.specs.board.Grid.{Grid}
-use Rattle.ps_program.specs.declared.motion_sets.TheConstants.{PLACED_LAYERS}
 use Rattle.ps_rows.specs.Showing.{grid_shown}
 use Rattle.ps_rows.proofs.LayerMotions.{HasMotionsBelow, all_told, layer_passed, layer_told, none_below}
 use Rattle.ps_rows.proofs.Marked.{planes_indexed}
@@ -24,7 +22,7 @@ loop-layer-preserved g c =
           let counted = planes_indexed b.members.table.items b.layers b.planes.height b.planes.words.len
           b.planes.index.len b.planes.some_row b.planes.whole b.whole in
           let on : layer < b.layers =
-          omega (arith, c.loop-layer-test.true, c.min-layer-end.ensures, c.layers.ensures) in
+          omega (arith, c.loop-layer-test.true, c.layers-layer-end.ensures) in
           subst (HasMotionsBelow start (layer + 1)) (sym w.motions-is)
           (layer_told b.members.table.items b.width b.planes.height b.layers b.planes.words.items b.planes.some_row
           b.columns b.planes.rows b.motions b.planes.index.items b.planes.index.len layer (layer + 1)
@@ -40,9 +38,6 @@ pub returns : goal.returns
 returns g c =
     let b = c.args.self.now in
     let end : ℕ = c.loop-layer.layer in
-    let all : (b.layers ≤ end) ⊎ (PLACED_LAYERS ≤ end) = elim (cases_lt end b.layers) [
-      | inl below ↦ inr (omega (arith, below, c.loop-layer-test.false, c.min-layer-end.ensures, c.layers.ensures))
-      | inr far ↦ inl far
-    ] in
     all_told b.members.table.items b.width b.planes.height b.layers b.planes.words.items b.planes.some_row b.columns
-    b.planes.rows b.motions end c.loop-layer.motions all c.loop-layer.invariant
+    b.planes.rows b.motions end c.loop-layer.motions
+    (omega (arith, c.loop-layer-test.false, c.layers-layer-end.ensures)) c.loop-layer.invariant
