@@ -1,8 +1,10 @@
 -- Columns and rows in which objects of a layer are about to do something.
 use Rattle.std.proofs.Common.{◌≡◌, ◌∙◌, ℕ, ◌+◌, ◌*◌, ◌<◌, ◌≤◌, ◌&&◌, ◌||◌, inl, inr, Bool, false, List, []}
 use Rattle.std.proofs.Common.{length, refl, sym, ap, arith}
+use Rattle.std.specs.Prelude.{nat_lt}
 use Rattle.std.proofs.Math.Nat.{mul-le-mul}
 use Rattle.std.proofs.lemmas.Bool.{cases_Bool}
+use Rattle.std.proofs.lemmas.Bool.Decides.{nat_tests}
 use Rattle.std.proofs.lemmas.List.{get_or_past}
 use Rattle.ps_model.specs.declared.limits.TheConstants.{SIDE_LIMIT}
 use Rattle.ps_model.specs.declared.pieces.Slot.TheVariants.{Bare}
@@ -69,3 +71,8 @@ pub moves_in_all : (g : Grid) (layer : ℕ) (rows : List Bool) → IsGrid g → 
     MoveOnlyOn g layer rows
 moves_in_all g layer rows shape all = λ row down out x across.
     absurd (none_outside g.height rows shape.rows all row down out)
+
+pub all_below : (count : ℕ) (rows : List Bool) → rows ≡ columns_below count → IsBelow count rows
+all_below count rows all = λ x low far.
+    let out : nat_lt x count ≡ false = grind (arith, nat_tests, far) in
+    ap (λ (cs : List Bool). column_at cs x) all ∙ column_at-where (λ y. nat_lt y count) x low ∙ out

@@ -15,7 +15,7 @@ use Rattle.ps_model.specs.board.Grid.{Grid, IsGrid, cell_at, slot_at}
 use Rattle.ps_model.specs.board.Movement.{aim_of}
 use Rattle.ps_board.specs.ColumnSets.{column_at}
 use Rattle.ps_board.specs.CellSets.{IsSetOf, cell_in}
-use Rattle.ps_board.specs.RowsOfGrids.{MoveOnlyOn, PassOnlyOn, is_moving}
+use Rattle.ps_board.specs.RowsOfGrids.{MoveOnlyOn, is_moving}
 use Rattle.ps_move.specs.Visits.{way, if_bare}
 use Rattle.ps_move.specs.Parts.{IsPart, IsStillBeside, IsStillIn}
 use Rattle.ps_move.proofs.Parts.{part_none, part_then, part_stays}
@@ -159,12 +159,6 @@ pub movers_still : (g : Grid) (cells : List (List Bool)) → IsSetOf (list_any i
 movers_still g cells told = λ column row layer across down out.
     slot_still (cell_at g (column * g.height + row)) layer (is_moving (slot_at g (column * g.height + row) layer)) refl
     (sym (told column row across down) ∙ out)
-
--- outside of the rows in which something moves on any layer
-pub rows_still : (g : Grid) (layer : ℕ) (rows : List Bool) → PassOnlyOn is_moving g rows → MoveOnlyOn g layer rows
-rows_still g layer rows told = λ row down out column across.
-    slot_still (cell_at g (column * g.height + row)) layer (is_moving (slot_at g (column * g.height + row) layer)) refl
-    (told row down out column across)
 
 -- beside the rows of a column that are visited everything is still
 pub visited_still : (g : Grid) (layer column : ℕ) (rows visited : List Bool) (few : Bool) (cells : List (List Bool)) →

@@ -1,10 +1,10 @@
 //! The movement of a turn: each object whose motion is a direction goes one cell on, where that cell is free.
 //!
 //! No layer has to do with another, and one is taken after the other. The cells of a layer are visited in the order of
-//! their numbers, in passes, until a pass moves nothing. An object that has moved is at rest, so that it goes one cell
-//! at most, and an object that waits for another to leave goes in the same pass or in a later one. Of several that want
-//! to enter a cell, the visits come first to the one that may: the least, or, where an object left the cell, the next
-//! one after it, and after the last cell the first.
+//! their numbers, in passes, until a pass moves nothing or nothing is left that is about to move. An object that has
+//! moved is at rest, so that it goes one cell at most, and an object that waits for another to leave goes in the same
+//! pass or in a later one. Of several that want to enter a cell, the visits come first to the one that may: the least,
+//! or, where an object left the cell, the next one after it, and after the last cell the first.
 
 ghost use Rattle.std.specs.Prelude.{◌≡◌, ℕ, ◌+◌, ◌*◌, ◌^◌, ◌<◌, ◌≤◌, IfSome, false, is_some, true};
 ghost use Rattle.ps_model.specs.board.Grid.{IsGrid, IsPlace, at_rest, neighbour};
@@ -36,7 +36,8 @@ impl Model for Slid {
 
 impl Slid {
     /// How many passes over all cells there are, each of them over all layers, until one moves nothing; that one
-    /// counts, too. So they are those of the layer that has the most.
+    /// counts, too, also where it isn't made, as nothing is left that is about to move. So they are those of the layer
+    /// that has the most.
     pub fn passes_used(&self) -> u32
         ensures { result ≡ self.now }
     {
@@ -66,12 +67,11 @@ pub fn slide<B: Board>(board: &mut B, moving: &mut CellSet<B>) -> Slid
     ensures origin { B.origin board.new ≡ B.origin board.old }
 {
     let (_, height) = board.size();
-    let rows = board.rows_moving_any().both(Columns::below(height));
-    let few = rows.has_few();
-    note_cells(board, few, moving);
+    let rows = Columns::below(height);
+    let mut few = true;
     let mut passes = 1;
     for layer in 0..board.layers() {
-        let moved = slide_layer(board, LayerId(layer), rows, few, moving);
+        let moved = slide_layer(board, LayerId(layer), rows, &mut few, moving);
         passes = most_passes(passes, moved);
     }
     board.clear_moves();
@@ -89,43 +89,53 @@ fn most_passes(passes: u32, moved: u32) -> u32
     passes.max(moved + 1)
 }
 
-/// Notes the cells in which something moves, but for where the rows of these are few: then all their cells are sooner
-/// visited.
-fn note_cells<B: Board>(board: &B, few: bool, moving: &mut CellSet<B>)
-    ensures { few ≡ false → IsStillBeside (B.grid board.now) moving.new }
+/// Notes the cells in which something moves, if the rows of a layer are more than a few: then they are visited alone,
+/// and else all cells of the rows are sooner visited. Once noted they serve the layers above as well: in no other cell
+/// something moves later.
+fn note_cells<B: Board>(board: &B, rows: Columns<B::Words>, few: &mut bool, moving: &mut CellSet<B>)
+    requires { few.old ≡ false → IsStillBeside (B.grid board.now) moving.old }
+    ensures { few.new ≡ false → IsStillBeside (B.grid board.now) moving.new }
 {
-    if few {
+    if !*few | rows.has_few() {
         return;
     }
     moving.set_moving(board);
+    *few = false;
 }
 
-/// Lets the objects of a layer go, in passes until one moves nothing, and answers how many moved some. Something moves
-/// on it in these rows alone, and where they aren't few in these cells alone. Of the rows those are visited that the
-/// board names for the layer: as a rule there is none.
+/// Lets the objects of a layer go, in passes until nothing on it is about to do something or one moves nothing, and
+/// answers how many moved some. Something moves on it in these rows alone, and where they aren't few in these cells
+/// alone. Of the rows those are visited that the board names for the layer, before each pass anew: as a rule there is
+/// none to begin with, and none behind the first pass.
 fn slide_layer<B: Board>(
     board: &mut B,
     layer: LayerId,
     rows: Columns<B::Words>,
-    few: bool,
-    moving: &CellSet<B>,
+    few: &mut bool,
+    moving: &mut CellSet<B>,
 ) -> u32
     requires shape { IsGrid (B.grid board.old) }
     requires layer { layer.0 < (B.grid board.old).layers }
     requires below { IsBelow (B.grid board.old).height rows }
     requires outside { MoveOnlyOn (B.grid board.old) layer.0 rows }
-    requires beside { few ≡ false → IsStillBeside (B.grid board.old) moving.now }
+    requires beside { few.old ≡ false → IsStillBeside (B.grid board.old) moving.old }
     ensures passes { ArePasses result (B.grid board.old) (B.grid board.new) layer.0 (layer.0 + 1) }
+    ensures beside { few.new ≡ false → IsStillBeside (B.grid board.new) moving.new }
     ensures table { B.table board.new ≡ B.table board.old }
     ensures origin { B.origin board.new ≡ B.origin board.old }
 {
-    let own = rows.both(board.rows_moving_on(layer));
-    if own.is_empty() {
+    let mut left = rows.both(board.rows_moving_on(layer));
+    if left.is_empty() {
         return 0;
     }
+    note_cells(board, left, few, moving);
     let mut passes = 0;
-    while pass(board, layer, own, few, moving) {
+    while pass(board, layer, left, *few, moving) {
         passes += 1;
+        left = left.both(board.rows_moving_on(layer));
+        if left.is_empty() {
+            return passes;
+        }
     }
     passes
 }

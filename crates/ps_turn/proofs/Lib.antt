@@ -1,6 +1,7 @@
 mod RowsOfCells
 mod RowsHeld
 mod SlotsChanged
+mod OneObject
 mod Stayed
 mod Sweeps
 mod CellsChanged

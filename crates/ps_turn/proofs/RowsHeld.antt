@@ -67,11 +67,20 @@ each-none g rows shape is row low out x across =
     sym there ∙ sym (ap (λ (cs : List Bool). column_at cs row) is ∙ column_at-where (λ y. nat_lt y g.height) row within)
     ∙ out
 
+-- where an object doesn't stand none of a list of it alone does
+one_none : (cell : List Slot) (object : ObjectId) → list_any (slot_holds object) cell ≡ false →
+    list_any (holds_any (object ∷ [])) cell ≡ false
+one_none cell object off =
+    none_of_both (slot_holds object) (holds_any []) (holds_any (object ∷ [])) cell (λ slot. refl) off (holds_none cell)
+
+pub held-one : (g : Grid) (object : ObjectId) (rows : List Bool) → PassOnlyOn (slot_holds object) g rows →
+    NonePassOutside (list_any (holds_any (object ∷ []))) g rows
+held-one g object rows only row low out x across =
+    one_none (cell_at g (x * g.height + row)) object (only row low out x across)
+
 one_off : (b : Bool) (cell : List Slot) (object : ObjectId) → list_any (slot_holds object) cell ≡ false →
     (b && list_any (holds_any (object ∷ [])) cell) ≡ false
-one_off b cell object off = ap (λ (c : Bool). b && c)
-    (none_of_both (slot_holds object) (holds_any []) (holds_any (object ∷ [])) cell (λ slot.
-    refl) off (holds_none cell)) ∙ and-false b
+one_off b cell object off = ap (λ (c : Bool). b && c) (one_none cell object off) ∙ and-false b
 
 each_by : (g : Grid) (passed : List Slot → Bool) (object : ObjectId) (rows having : List Bool) (row x : ℕ) (a b : Bool)
     → column_at rows row ≡ a → column_at having row ≡ b → (a && b) ≡ false → row < g.height → x < g.width →

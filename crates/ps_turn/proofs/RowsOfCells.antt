@@ -22,6 +22,7 @@ use Rattle.ps_board.specs.ColumnSets.{columns_where, column_at, set_columns, col
 use Rattle.ps_board.specs.ColumnSets.{columns_without}
 use Rattle.ps_board.proofs.ColumnLaws.{column_at-where, columns-agree, set_columns-where}
 use Rattle.ps_board.proofs.PassedColumns.{cell_below}
+use Rattle.ps_board.proofs.Taken.{AreBelow}
 use Rattle.ps_turn.specs.RowsOfCells.{columns_within, row_cells, has_each}
 use Rattle.ps_turn.specs.Sweeps.{holds_any}
 use Rattle.ps_turn.proofs.WhereObjectsStand.{same_by, among_by}
@@ -38,14 +39,24 @@ pub within-agree : (width : ℕ) (f h : ℕ → Bool) → ((x : ℕ) → x < wid
 within-agree width f h e = columns-agree (λ x. nat_lt x width && f x) (λ x. nat_lt x width && h x) (λ x low.
     within_by x width (nat_lt x width) (f x) (h x) refl (e x))
 
-pub within-known : (width : ℕ) (columns : List Bool) (f : ℕ → Bool) →
-    ((x : ℕ) → x < width → column_at columns x ≡ f x) →
-    both_columns (columns_below width) columns ≡ columns_within width f
-within-known width columns f e =
-    columns-agree (λ x. column_at (columns_below width) x && column_at columns x) (λ x. nat_lt x width && f x)
-    (λ x low.
-    ap (λ (b : Bool). b && column_at columns x) (column_at-where (λ y. nat_lt y width) x low)
-    ∙ within_by x width (nat_lt x width) (column_at columns x) (f x) refl (e x))
+-- a set is that of the columns in it
+pub is_where : (columns : List Bool) (f : ℕ → Bool) → columns ≡ columns_where f →
+    columns ≡ columns_where (column_at columns)
+is_where columns f is =
+    is ∙ columns-agree f (column_at columns) (λ x low.
+    sym (ap (λ (cs : List Bool). column_at cs x) is ∙ column_at-where f x low))
+
+known_by : (x width : ℕ) (low a b : Bool) → nat_lt x width ≡ low → (x < width → a ≡ b) → (width ≤ x → a ≡ false) →
+    a ≡ (low && b)
+known_by x width true a b t e none = e (grind (arith, nat_tests))
+known_by x width false a b t e none = none (grind (arith, nat_tests))
+
+-- a set without a column beyond the width
+pub known-within : (width : ℕ) (columns : List Bool) (f : ℕ → Bool) → columns ≡ columns_where (column_at columns) →
+    AreBelow width columns → ((x : ℕ) → x < width → column_at columns x ≡ f x) → columns ≡ columns_within width f
+known-within width columns f set below e =
+    set ∙ columns-agree (column_at columns) (λ x. nat_lt x width && f x) (λ x low.
+    known_by x width (nat_lt x width) (column_at columns x) (f x) refl (e x) (below.at x low))
 
 and_true : (low : Bool) → low ≡ (low && true)
 and_true true = refl

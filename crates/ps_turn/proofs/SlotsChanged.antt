@@ -26,6 +26,20 @@ module _ (change : Slot → Slot) (before after : Grid) (are : AreChanged (map c
       ∙ get_or-map (map change) before.cells cell [] [] within)
       ∙ length-map (cell_at before cell) change
 
+  -- and whether a slot is changed or not yet, the change makes the same of it
+  pub slots_agree : (cell layer : ℕ) → cell < length before.cells → layer < length (cell_at before cell) →
+      change (slot_at after cell layer) ≡ change (slot_at before cell layer)
+  slots_agree cell layer within low =
+      let there : cell < length after.cells = rw cells_long within in
+      let deep : layer < length (cell_at after cell) = rw (slots_long cell within) low in
+      let cells : map change (cell_at after cell) ≡ map change (cell_at before cell) =
+      sym (get_or-map (map change) after.cells cell [] [] there)
+      ∙ ap (λ (cells : List (List Slot)). get_or cells cell []) are.all
+      ∙ get_or-map (map change) before.cells cell [] [] within in
+      sym (get_or-map change (cell_at after cell) layer Bare Bare deep)
+      ∙ ap (λ (slots : List Slot). get_or slots layer Bare) cells
+      ∙ get_or-map change (cell_at before cell) layer Bare Bare low
+
 -- one slot is changed
 module _ (change : Slot → Slot) (again : (slot : Slot) → change (change slot) ≡ change slot) (bare : change Bare ≡ Bare)
     (g : Grid) (cell layer : ℕ) (within : cell < length g.cells) (low : layer < length (cell_at g cell)) where

@@ -1,5 +1,5 @@
 -- How an input is given, slot by slot, to a board at rest.
-use Rattle.std.specs.Prelude.{◌≡◌, ◌<◌, ◌+◌, ◌*◌, ℕ, Bool, if◌then◌else◌, List, map}
+use Rattle.std.specs.Prelude.{◌≡◌, ◌<◌, ◌≤◌, ◌+◌, ◌*◌, ℕ, Bool, false, if◌then◌else◌, List, map}
 use Rattle.std.specs.List.{list_any}
 use Rattle.ps_model.specs.meaning.Compiled.{slot_holds}
 use Rattle.ps_model.specs.declared.pieces.Motion.{Motion}
@@ -17,6 +17,10 @@ slot_set_moving moved motion (Holds object was) = Holds object (if is_among move
 -- the grid with other cells
 abbrev pub grid_with_cells : Grid → List (List Slot) → Grid
 grid_with_cells g cells = record g { cells = cells }
+
+-- the grid in which these objects get the motion, wherever they stand, and all others keep their own
+abbrev pub grid_set_moving : List ObjectId → Motion → Grid → Grid
+grid_set_moving moved motion g = grid_with_cells g (map (map (slot_set_moving moved motion)) g.cells)
 
 -- the cell of a number is as the change leaves it
 abbrev pub IsCellChanged : (List Slot → List Slot) → Grid → ℕ → Type 0
@@ -49,3 +53,9 @@ pub record AreChanged (change : List Slot → List Slot) (before after : Grid) :
 -- the slot holds one of these objects
 abbrev pub holds_any : List ObjectId → Slot → Bool
 holds_any objects slot = list_any (λ object. slot_holds object slot) objects
+
+-- in a row an object stands on none of the layers from one up to another
+abbrev pub StandsOnNone : ObjectId → Grid → ℕ → ℕ → ℕ → Type 0
+StandsOnNone object g row first last =
+    (layer : ℕ) → first ≤ layer → layer < last → (x : ℕ) → x < g.width →
+    slot_holds object (slot_at g (x * g.height + row) layer) ≡ false

@@ -6,7 +6,6 @@
 
 mod first_player;
 mod inputs;
-mod meanings;
 mod outcomes;
 mod players;
 mod queue;

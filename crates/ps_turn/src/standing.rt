@@ -1,18 +1,16 @@
 //! Where objects stand, row by row.
 
-ghost use Rattle.std.specs.Prelude.{◌≡◌, ◌+◌, ◌*◌, ◌<◌, ℕ};
+ghost use Rattle.std.specs.Prelude.{◌≡◌, ◌<◌};
 ghost use Rattle.std.specs.List.{list_any};
-ghost use Rattle.ps_model.specs.board.Grid.{IsGrid, cell_at};
-ghost use Rattle.ps_board.specs.ColumnSets.{column_at};
 ghost use Rattle.ps_board.specs.RowsOfGrids.{row_slots};
 ghost use Rattle.ps_turn.specs.RowsOfCells.{NonePassOutside, row_cells};
 ghost use Rattle.ps_turn.specs.Sweeps.{holds_any};
 
-use ps_board::{Board, Columns};
+use ps_board::{Board, Columns, recall_shape};
 use ps_model::{LayerId, ObjectId};
 
 /// The columns of a row in which one of the objects stands on a layer.
-pub fn layer_columns<B: Board>(
+fn layer_columns<B: Board>(
     board: &B,
     objects: &[ObjectId],
     layer: LayerId,
@@ -29,27 +27,18 @@ pub fn layer_columns<B: Board>(
     holding
 }
 
-/// The columns of a row in which one of the objects stands.
-fn row_columns<B: Board>(board: &B, objects: &[ObjectId], row: u32) -> Columns<B::Words>
-    requires shape { IsGrid (B.grid board.now) }
-    requires row { row < (B.grid board.now).height }
-    ensures { let g = B.grid board.now in (x : ℕ) → x < g.width →
-        column_at result x ≡ list_any (holds_any objects.now) (cell_at g (x * g.height + row)) }
+/// The columns of a row in whose cells one of the objects stands, and no column beyond the board's last one: the board
+/// names none.
+pub fn columns_with<B: Board>(board: &B, objects: &[ObjectId], row: u32) -> Columns<B::Words>
+    requires { row < (B.grid board.now).height }
+    ensures { result ≡ row_cells (list_any (holds_any objects.now)) (B.grid board.now) row }
 {
+    recall_shape(board);
     let mut holding = Columns::none();
     for layer in 0..board.layers() {
         holding = holding.either(layer_columns(board, objects, LayerId(layer), row));
     }
     holding
-}
-
-/// The columns of a row in whose cells one of the objects stands, and no column beyond the board's last one.
-pub fn columns_with<B: Board>(board: &B, objects: &[ObjectId], row: u32) -> Columns<B::Words>
-    requires { row < (B.grid board.now).height }
-    ensures { result ≡ row_cells (list_any (holds_any objects.now)) (B.grid board.now) row }
-{
-    let (width, _) = board.size();
-    Columns::below(width).both(row_columns(board, objects, row))
 }
 
 /// Rows of the board, as a set of their numbers, outside of which none of the objects stands.

@@ -3,15 +3,13 @@ use Rattle.ps_model.specs.declared.limits.TheConstants.{SIDE_LIMIT, LAYER_LIMIT}
 use Rattle.ps_model.specs.board.Grid.{Grid, at_rest}
 use Rattle.ps_model.specs.board.WeakMovement.{IsWeaklySlid}
 use Rattle.ps_board.specs.ColumnSets.{columns_below}
-use Rattle.ps_board.proofs.Taken.{below-init}
 use Rattle.ps_move.specs.Visits.{going_count}
 use Rattle.ps_move.specs.Order.{IsInOrder}
-use Rattle.ps_move.specs.Parts.{IsBelow}
 use Rattle.ps_move.proofs.Parts.{going_count-bound, order_none, rest_slides}
 use Rattle.ps_move.proofs.Passes.{passes_none, passes_then}
 use Rattle.ps_move.proofs.Ends.{rest_exact}
-use Rattle.ps_move.proofs.Movers.{moves_in_all, moves_in_both}
-use Rattle.ps_move.proofs.StillCells.{beside_then, outside_then, rows_still}
+use Rattle.ps_move.proofs.Movers.{all_below, moves_in_all}
+use Rattle.ps_move.proofs.StillCells.{outside_then}
 use Rattle.ps_move.proofs.movement.slide.Goals as goal
 
 pub loop-layer-init : goal.loop-layer-init
@@ -22,6 +20,7 @@ loop-layer-init g c = (
     few = omega arith;
     none = λ _. refl;
     passes = passes_none (g.B.Board.grid c.args.board.now) 0;
+    beside = λ many. absurd (cc);
     table = refl;
     origin = refl;
   },
@@ -38,29 +37,22 @@ slide_layer-moved-requires-clause-layer g c =
 pub slide_layer-moved-requires-clause-below : goal.slide_layer-moved-requires-clause-below
 slide_layer-moved-requires-clause-below g c =
     let old : Grid = g.B.Board.grid c.args.board.now in
-    let below : c.below.result ≡ columns_below old.height =
-    c.below.ensures ∙ ap columns_below c.size-height.ensures.height in
-    let rows : IsBelow old.height c.both-rows.result =
-    (below-init c.rows_moving_any.result c.below.result c.both-rows.result old.height below c.both-rows.ensures).at in
-    rw c.loop-layer.invariant.1.passes.height rows
+    let below : c.below-rows.result ≡ columns_below old.height =
+    c.below-rows.ensures ∙ ap columns_below c.size-height.ensures.height in
+    rw c.loop-layer.invariant.1.passes.height (all_below old.height c.below-rows.result below)
 
 pub slide_layer-moved-requires-clause-outside : goal.slide_layer-moved-requires-clause-outside
 slide_layer-moved-requires-clause-outside g c =
     let old : Grid = g.B.Board.grid c.args.board.now in
     let was = c.loop-layer.invariant.1.passes in
-    let below : c.below.result ≡ columns_below old.height =
-    c.below.ensures ∙ ap columns_below c.size-height.ensures.height in
+    let below : c.below-rows.result ≡ columns_below old.height =
+    c.below-rows.ensures ∙ ap columns_below c.size-height.ensures.height in
     let layer : ℕ = c.loop-layer.layer in
-    outside_then old (g.B.Board.grid c.loop-layer.board) layer c.both-rows.result was.width was.height was.still
-    (moves_in_both old layer c.rows_moving_any.result c.below.result c.both-rows.result c.size-height.ensures.shape
-    c.both-rows.ensures (rows_still old layer c.rows_moving_any.result c.rows_moving_any.ensures)
-    (moves_in_all old layer c.below.result c.size-height.ensures.shape below))
+    outside_then old (g.B.Board.grid c.loop-layer.board) layer c.below-rows.result was.width was.height was.still
+    (moves_in_all old layer c.below-rows.result c.size-height.ensures.shape below)
 
 pub slide_layer-moved-requires-clause-beside : goal.slide_layer-moved-requires-clause-beside
-slide_layer-moved-requires-clause-beside g c = λ many.
-    let was = c.loop-layer.invariant.1.passes in
-    beside_then (g.B.Board.grid c.args.board.now) (g.B.Board.grid c.loop-layer.board) c.note_cells.new.moving was.width
-    was.height was.still (c.note_cells.ensures many)
+slide_layer-moved-requires-clause-beside g c = c.loop-layer.invariant.1.beside
 
 pub most_passes-passes-requires-clause-some : goal.most_passes-passes-requires-clause-some
 most_passes-passes-requires-clause-some g c = c.loop-layer.invariant.1.some
@@ -89,6 +81,7 @@ loop-layer-preserved g c =
         passes = passes_then moved c.slide_layer-moved.result (g.B.Board.grid c.args.board.now)
             (g.B.Board.grid c.loop-layer.board) (g.B.Board.grid c.slide_layer-moved.new.board) 0 c.loop-layer.layer
             (c.loop-layer.layer + 1) was.passes c.slide_layer-moved.ensures.passes;
+        beside = c.slide_layer-moved.ensures.beside;
         table = c.slide_layer-moved.ensures.table ∙ was.table;
         origin = c.slide_layer-moved.ensures.origin ∙ was.origin;
       },
