@@ -7,4 +7,5 @@ mod Painting
 mod PlainFrames
 mod PlainRows
 mod Taken
+mod TopmostObjects
 mod WindowFrames

@@ -4,7 +4,7 @@ use Rattle.std.proofs.Common.{Option, Some, None, refl, sym, ap, ap₂, length, 
 use Rattle.std.specs.Prelude.{nat_eq, nat_lt, find, slice_set}
 use Rattle.std.specs.List.{list_all}
 use Rattle.std.specs.Option.{option_or}
-use Rattle.std.proofs.lemmas.Bool.{and_from, and_parts, cases_Bool, cases_eq, false≢true, or_cases}
+use Rattle.std.proofs.lemmas.Bool.{and_from, and_parts, cases_Bool, cases_eq, eq-eqb, false≢true, or_cases}
 use Rattle.std.proofs.lemmas.Bool.Decides.{nat_tests}
 use Rattle.std.proofs.lemmas.Grind.{common_steps}
 use Rattle.std.proofs.lemmas.List.{get_or-set_other, get_or-set_same, length-set, map-append}
@@ -158,6 +158,21 @@ pub place_below : (count : ℕ) (objects : List ObjectId) (place : ℕ) → sing
 place_below count [] place at = absurd (cc)
 place_below count (first ∷ rest) place at =
     (place_told count first rest place (nat_lt first.0 count && have_number first.0 rest) refl at).0
+
+-- a place is the number of each object that is among those of the list, and of an object alone its own
+pub place_of_member : (count : ℕ) (objects : List ObjectId) (place : ℕ) (object : ObjectId) →
+    single_place count objects ≡ Some place → is_among objects object ≡ true → place ≡ object.0
+place_of_member count [] place object at among = absurd (cc)
+place_of_member count (first ∷ rest) place object at among =
+    let told = place_told count first rest place (nat_lt first.0 count && have_number first.0 rest) refl at in
+    let same : nat_eq place object.0 ≡ true = has_number place (first ∷ rest) object told.1.1 among in
+    grind (arith, nat_tests, same)
+
+pub place_of_one : (count : ℕ) (object : ObjectId) → object.0 < count →
+    single_place count (object ∷ []) ≡ Some object.0
+place_of_one count object low =
+    let own : nat_eq object.0 object.0 ≡ true = eq-eqb object.0 object.0 refl in
+    place_made count object [] object.0 low (and_from (nat_eq object.0 object.0) true own refl)
 
 -- one more glyph that shows one object alone
 pub looked_single : (glyphs : List Glyph) (glyph : Glyph) (single after : List (Option ℕ)) (mixed : List Glyph)

@@ -1,10 +1,11 @@
--- Glyphs by the objects that they show: one object alone, or several.
+-- Glyphs by the objects that they show: one object alone, or several; and objects that show each cell in which they are
+-- the topmost one.
 use Rattle.std.specs.Prelude.{◌≡◌, ◌&&◌, ℕ, nat_lt, if◌then◌else◌, find, length, option_map, slice_index_or}
-use Rattle.std.specs.Prelude.{List, [], ◌∷◌, Option, Some, None}
+use Rattle.std.specs.Prelude.{IfSome, Bool, false, List, [], ◌∷◌, ◌++◌, Option, Some, None}
 use Rattle.std.specs.List.{list_all}
 use Rattle.ps_model.specs.declared.pieces.ObjectId.{ObjectId}
-use Rattle.ps_model.specs.names.Names.{Glyph, members, same_object}
-use Rattle.ps_model.specs.session.Frames.{same_objects}
+use Rattle.ps_model.specs.names.Names.{Glyph, Names, members, same_object}
+use Rattle.ps_model.specs.session.Frames.{character_of, glyph_of_objects, same_objects}
 
 -- the number of the object that each of a list is, if it is below a count
 abbrev pub single_place : ℕ → List ObjectId → Option ℕ
@@ -24,3 +25,19 @@ pub record AreLookedUp (glyphs : List Glyph) (single : List (Option ℕ)) (mixed
       slice_index_or single place None ≡ character_for glyphs objects
   pub several : (objects : List ObjectId) → single_place (length single) objects ≡ None →
       character_for mixed objects ≡ character_for glyphs objects
+
+-- the character shows each cell in which the object is the topmost one, whatever stands below it
+abbrev pub Covers : Names → ObjectId → ℕ → Type 0
+Covers names object character =
+    (below : List ObjectId) → character ≡ character_of (glyph_of_objects names (below ++ object ∷ []))
+
+-- by the objects' numbers, characters that do so
+abbrev pub AreCovering : Names → List (Option ℕ) → Type 0
+AreCovering names characters =
+    (place : ℕ) → IfSome (slice_index_or characters place None) (Covers names (record { 0 = place }))
+
+-- by the objects' numbers, characters of which those are left out whose objects meet a condition, and perhaps others
+abbrev pub AreThinned : (ObjectId → Bool) → List (Option ℕ) → List (Option ℕ) → Type 0
+AreThinned left_out before after =
+    (place character : ℕ) → slice_index_or after place None ≡ Some character →
+    (left_out (record { 0 = place }) ≡ false) × (slice_index_or before place None ≡ Some character)

@@ -1,6 +1,6 @@
 //! The character that shows a cell of a board.
 
-ghost use Rattle.std.specs.Prelude.{◌≡◌, ◌++◌, ◌<◌, OnOk, IfOk, option_to_list};
+ghost use Rattle.std.specs.Prelude.{◌≡◌, ◌++◌, ◌<◌, OnOk, IfOk, IfSome, option_to_list};
 ghost use Rattle.ps_model.specs.board.Grid.{IsGrid, cell_at, cell_count, slot_at};
 ghost use Rattle.ps_model.specs.session.Frames.{objects_in, shown_character};
 
@@ -27,12 +27,57 @@ impl CellSpace {
     }
 }
 
-/// The character that shows a cell.
+/// The character that shows a cell: that of its topmost object, where it shows the cell whatever stands below it, and
+/// else that of all its objects.
 ///
 /// # Errors
 ///
 /// `Memory`.
+#[inline(always)]
 pub fn cell_character<B: Board>(
+    look: &Look<'_>,
+    board: &B,
+    cell: u32,
+    space: &mut CellSpace,
+) -> Result<char, Memory>
+    requires cell { cell < cell_count (B.grid board.now) }
+    requires shape { IsGrid (B.grid board.now) }
+    ensures { IfOk result (λ character. character ≡ shown_character look.now (cell_at (B.grid board.now) cell)) }
+{
+    if let Some(character) = top_character(look, board, cell) {
+        return Ok(character);
+    }
+    gathered_character(look, board, cell, space)
+}
+
+/// The character of the topmost object of a cell, if it shows the cell whatever stands below it. Layers below that
+/// object aren't looked at.
+#[inline(always)]
+fn top_character<B: Board>(look: &Look<'_>, board: &B, cell: u32) -> Option<char>
+    requires cell { cell < cell_count (B.grid board.now) }
+    requires shape { IsGrid (B.grid board.now) }
+    ensures { IfSome result (λ character.
+        character ≡ shown_character look.now (cell_at (B.grid board.now) cell)) }
+{
+    let mut layer = board.layers();
+    while 1 < layer {
+        layer -= 1;
+        if let Some(object) = board.object(cell, LayerId(layer)) {
+            return look.covering(object);
+        }
+    }
+    let Some(object) = board.object(cell, LayerId(0)) else {
+        return None;
+    };
+    look.alone(object)
+}
+
+/// The character that shows a cell, by all its objects.
+///
+/// # Errors
+///
+/// `Memory`.
+fn gathered_character<B: Board>(
     look: &Look<'_>,
     board: &B,
     cell: u32,

@@ -5,6 +5,7 @@
 #![tactic(auto)]
 
 mod cells;
+mod covering;
 mod frame_texts;
 mod glyphs;
 mod look;

@@ -1,12 +1,13 @@
 //! What frames look up of a game's names, made ready once.
 
-ghost use Rattle.std.specs.Prelude.{◌≡◌, IfOk, map};
+ghost use Rattle.std.specs.Prelude.{◌≡◌, [], ◌∷◌, IfOk, IfSome, Some, map};
 ghost use Rattle.std.specs.List.{list_all};
 ghost use Rattle.ps_model.specs.names.Names.{same_object};
 ghost use Rattle.ps_model.specs.board.Levels.{is_ground};
 ghost use Rattle.ps_names.specs.GlyphsShown.{glyph_shown};
-ghost use Rattle.ps_screen.specs.Glyphs.{character_for, single_place};
+ghost use Rattle.ps_screen.specs.Glyphs.{Covers, character_for, single_place};
 
+use crate::covering::covering_characters;
 use crate::meanings::{are_same, ground_layer};
 use ps_model::{LayerId, Memory, ObjectId};
 use ps_names::{Glyph, Names};
@@ -24,6 +25,8 @@ pub struct Look<'g> {
     single: Vec<Option<char>>,
     /// The glyphs that show several objects, in order of declaration.
     mixed: Vec<&'g Glyph>,
+    /// By the objects' numbers, the character of each object that shows each cell in which it is the topmost one.
+    covering: Vec<Option<char>>,
 }
 
 impl<'g> Model for Look<'g> {
@@ -31,14 +34,15 @@ impl<'g> Model for Look<'g> {
     ghost use Rattle.ps_model.specs.names.Names.{Names as Meant};
     ghost use Rattle.ps_model.specs.board.Levels.{background_layer};
     ghost use Rattle.ps_names.specs.GlyphsShown.{glyph_shown};
-    ghost use Rattle.ps_screen.specs.Glyphs.{AreLookedUp};
+    ghost use Rattle.ps_screen.specs.Glyphs.{AreCovering, AreLookedUp};
 
     ghost Value = { Meant };
 
     ghost view = { λ l. l.names.now };
 
     ghost invariant = { λ l. (l.ground.0 ≡ background_layer l.names.now)
-        × AreLookedUp l.names.now.glyphs l.single.items (map (λ glyph. glyph_shown glyph.now) l.mixed.items) };
+        × (AreLookedUp l.names.now.glyphs l.single.items (map (λ glyph. glyph_shown glyph.now) l.mixed.items)
+        × AreCovering l.names.now l.covering.items) };
 }
 
 /// Whether each of a list is that object.
@@ -92,11 +96,13 @@ impl<'g> Look<'g> {
                 None => mixed.push(glyph)?,
             }
         }
+        let covering = covering_characters(alloc, names, &single, &mixed)?;
         Ok(Look {
             names,
             ground: ground_layer(names),
             single,
             mixed,
+            covering,
         })
     }
 
@@ -115,5 +121,29 @@ impl<'g> Look<'g> {
             Some(place) => self.single[place],
             None => first_glyph(self.mixed.as_slice(), objects),
         }
+    }
+
+    /// The character of an object, if it shows each cell in which the object is the topmost one.
+    #[inline(always)]
+    pub fn covering(&self, object: ObjectId) -> Option<char>
+        ensures { IfSome result (λ character. Covers self.now object character) }
+    {
+        let place = object.0 as usize;
+        if self.covering.len() <= place {
+            return None;
+        }
+        self.covering[place]
+    }
+
+    /// The character of an object that stands alone, if a glyph shows just that one.
+    #[inline(always)]
+    pub fn alone(&self, object: ObjectId) -> Option<char>
+        ensures { IfSome result (λ character. character_for self.now.glyphs (object ∷ []) ≡ Some character) }
+    {
+        let place = object.0 as usize;
+        if self.single.len() <= place {
+            return None;
+        }
+        self.single[place]
     }
 }

@@ -83,6 +83,7 @@ impl OutputText {
     /// # Errors
     ///
     /// `Memory`, and both are as before.
+    #[inline(always)]
     pub fn append(&mut self, other: &mut Self) -> Result<(), Memory>
         ensures moved { OnOk result (self.new ≡ self.old ++ other.old) }
         ensures emptied { OnOk result (other.new ≡ []) }
@@ -93,6 +94,22 @@ impl OutputText {
             mem::swap(&mut self.text, &mut other.text);
             return Ok(());
         }
+        self.append_behind(other)
+    }
+
+    /// Copies the bytes of another text behind those of this one, and leaves that one without any. This is a call of
+    /// its own, as texts change places far more often.
+    ///
+    /// # Errors
+    ///
+    /// `Memory`, and both are as before.
+    #[inline(never)]
+    fn append_behind(&mut self, other: &mut Self) -> Result<(), Memory>
+        ensures moved { OnOk result (self.new ≡ self.old ++ other.old) }
+        ensures emptied { OnOk result (other.new ≡ []) }
+        ensures kept { OnErr result (self.new ≡ self.old) }
+        ensures left { OnErr result (other.new ≡ other.old) }
+    {
         self.add(other.bytes())?;
         other.clear();
         Ok(())

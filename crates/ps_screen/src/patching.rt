@@ -5,8 +5,7 @@ ghost use Rattle.std.specs.Prelude.{◌≡◌, ◌≢◌, ◌+◌, ◌<◌, ◌�
 ghost use Rattle.std.specs.Prelude.{length, replicate, slice_index, true};
 ghost use Rattle.ps_model.specs.declared.limits.TheConstants.{SIDE_LIMIT};
 ghost use Rattle.ps_board.specs.ColumnSets.{column_at};
-ghost use Rattle.ps_board.specs.Rows.{AreAlike};
-ghost use Rattle.ps_screen.specs.PlainRows.{AreDrawn, IsOutside, IsPlainRow};
+ghost use Rattle.ps_screen.specs.PlainRows.{AreDrawn, IsGroupWritten, IsOutside, IsPlainRow};
 
 use crate::cells::{CellSpace, cell_character};
 use crate::look::Look;
@@ -54,22 +53,34 @@ fn put_columns<W: ColumnWords>(text: &mut OutputText, start: u32, columns: Colum
     }
 }
 
-/// Columns of a row that show the same as one of them, where many are left; none, where few are, which are sooner
-/// looked up one by one.
-fn others_alike<B: Board>(
+/// Writes a byte at a column of the row that begins at byte `start`, and where many columns are left, at those of them
+/// too that show the same. Few are sooner looked up one by one. Answers the columns that are left then.
+#[inline(always)]
+fn put_alike<B: Board>(
     board: &B,
     row: u32,
     column: u32,
     left: Columns<B::Words>,
+    start: u32,
+    byte: u8,
+    text: &mut OutputText,
 ) -> Columns<B::Words>
     requires row { row < (B.grid board.now).height }
     requires column { column < (B.grid board.now).width }
-    ensures { AreAlike result (B.grid board.now) row column }
+    requires small { column < SIDE_LIMIT }
+    requires room { column < B.Words.limit }
+    requires own { start + column < length text.old }
+    requires others { (x : ℕ) → x < SIDE_LIMIT → column_at left x ≡ true → start + x < length text.old }
+    ensures written { IsGroupWritten (B.grid board.now) row column left result start byte text.old text.new }
+    ensures long { length text.new ≡ length text.old }
 {
     if left.has_few() {
-        return Columns::none();
+        text.put(start as usize + column as usize, byte);
+        return left.without(left.both(Columns::none()).with(column, true));
     }
-    board.alike(row, column)
+    let group = left.both(board.alike(row, column)).with(column, true);
+    put_columns(text, start, group, byte);
+    left.without(group)
 }
 
 /// Draws the columns of a set of a plain row anew, which begins at byte `start`, and answers whether each of them has
@@ -79,6 +90,7 @@ fn others_alike<B: Board>(
 /// # Errors
 ///
 /// `Memory`, and the row is of no use.
+#[inline(always)]
 pub fn patch_columns<B: Board>(
     look: &Look<'_>,
     board: &B,
@@ -104,11 +116,7 @@ pub fn patch_columns<B: Board>(
         let Some(byte) = one_byte(character) else {
             return Ok(false);
         };
-        let group = left
-            .both(others_alike(board, row, column, left))
-            .with(column, true);
-        left = left.without(group);
-        put_columns(text, start, group, byte);
+        left = put_alike(board, row, column, left, start, byte, text);
     }
     Ok(true)
 }
