@@ -1,8 +1,9 @@
 -- Sets of the motions that a board has, layer by layer.
-use Rattle.std.proofs.Common.{◌≡◌, ◌≢◌, ◌∙◌, ℕ, ◌+◌, ◌*◌, ◌%◌, ◌<◌, ◌≤◌, inl, inr, Bool, true, false, not, List, []}
-use Rattle.std.proofs.Common.{Option, Some, None, refl, sym, ap, subst, arith}
-use Rattle.std.specs.Prelude.{option_map}
-use Rattle.std.proofs.lemmas.Bool.{cases_eq, cases_lt, false≢true}
+use Rattle.std.proofs.Common.{◌≡◌, ◌≢◌, ◌∙◌, ℕ, ◌+◌, ◌-◌, ◌*◌, ◌%◌, ◌<◌, ◌≤◌, inl, inr, Bool, true, false, not, ◌&&◌}
+use Rattle.std.proofs.Common.{List, [], Option, Some, None, refl, sym, ap, ap₂, subst, arith}
+use Rattle.std.specs.Prelude.{nat_le, option_map}
+use Rattle.std.proofs.lemmas.Bool.{cases_eq, cases_lt, false≢true, lt-ltb}
+use Rattle.std.proofs.lemmas.Bool.Decides.{nat_tests}
 use Rattle.std.proofs.lemmas.Option.{none-some, same_Some}
 use Rattle.ps_model.specs.declared.limits.TheConstants.{SIDE_LIMIT}
 use Rattle.ps_model.specs.declared.pieces.Direction.TheVariants.{Up, Down, Left, Right}
@@ -11,9 +12,10 @@ use Rattle.ps_model.specs.declared.pieces.Motion.TheVariants.{Still, Going, Acti
 use Rattle.ps_model.specs.declared.compiled.MotionTest.{MotionTest}
 use Rattle.ps_model.specs.board.Grid.{Grid, motion_in, slot_at}
 use Rattle.ps_model.specs.meaning.Fitting.{same_motion}
-use Rattle.ps_board.specs.ColumnSets.{column_at, no_columns, set_columns, with_column}
+use Rattle.ps_board.specs.ColumnSets.{both_columns, column_at, columns_ahead, columns_below, no_columns, set_columns}
+use Rattle.ps_board.specs.ColumnSets.{with_column}
 use Rattle.ps_board.specs.RowsOfGrids.{MoveOnlyOn, is_moving}
-use Rattle.ps_board.proofs.ColumnLaws.{none_in, with_here, with_other}
+use Rattle.ps_board.proofs.ColumnLaws.{below_at, column_at-where, none_in, with_here, with_other}
 use Rattle.ps_program.specs.MotionSets.{motion_place, place_on_layer}
 use Rattle.ps_program.specs.declared.motion_sets.TheConstants.{MOTIONS, PLACED_LAYERS}
 use Rattle.ps_program.proofs.MotionSets.{place_low}
@@ -23,7 +25,7 @@ use Rattle.ps_rows.specs.Planes.{row_of}
 use Rattle.ps_rows.specs.RowIndex.{AreRowsMarked}
 use Rattle.ps_rows.specs.Showing.{AreMotionsShown, grid_shown, motion_plane, motions_from}
 use Rattle.ps_rows.proofs.Scans.{beyond_row}
-use Rattle.ps_rows.proofs.Sets.{none_at}
+use Rattle.ps_rows.proofs.Sets.{both_at, none_at}
 use Rattle.ps_rows.proofs.Unmarked.{none_moves}
 
 -- one place more ------------------------------------------------------------------------------------------------------
@@ -49,6 +51,20 @@ module _ (P : ℕ → Type 0) (start : ℕ) where
         (sym (ap (λ (set : List Bool). column_at set (start + k)) with
         ∙ with_other before place (start + k) on (omega (arith, few, low)) apart) ∙ off)
   ]
+
+-- places that have moved up by some
+pub ahead_at : (set moved : List Bool) (limit count k : ℕ) →
+    moved ≡ both_columns (columns_below limit) (columns_ahead set count) → limit ≤ SIDE_LIMIT → count + k < limit →
+    column_at moved (count + k) ≡ column_at set k
+ahead_at set moved limit count k is few inside =
+    let low : count + k < SIDE_LIMIT = omega (arith, inside, few) in
+    let from : nat_le count (count + k) ≡ true = grind (arith, nat_tests) in
+    let back : count + k - count ≡ k = omega arith in
+    ap (λ (w : List Bool). column_at w (count + k)) is
+    ∙ both_at (columns_below limit) (columns_ahead set count) (count + k) low
+    ∙ ap₂ (λ (p q : Bool). p && q) (below_at limit (count + k) low ∙ lt-ltb (count + k) limit inside)
+    (column_at-where (λ x. nat_le count x && column_at set (x - count)) (count + k) low
+    ∙ ap₂ (λ (p q : Bool). p && q) from (ap (column_at set) back))
 
 -- a plane without a marked row
 pub unmarked : (index : List (List Bool)) (plane own : ℕ) (rows : List Bool) (empty : Bool) →

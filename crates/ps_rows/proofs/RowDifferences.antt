@@ -1,6 +1,6 @@
 -- Rows that are changed by what differs.
 use Rattle.std.proofs.Common.{◌≡◌, ◌≢◌, ◌∙◌, ℕ, ◌+◌, ◌*◌, ◌-◌, ◌/◌, ◌%◌, ◌<◌, ◌≤◌, inl, inr, Bool, true, false, not, List, []}
-use Rattle.std.proofs.Common.{◌∷◌, ◌++◌, length, get_or, drop, refl, sym, ap, arith}
+use Rattle.std.proofs.Common.{◌∷◌, ◌++◌, length, get_or, drop, refl, sym, ap, subst, arith}
 use Rattle.std.specs.Prelude.{if◌then◌else◌, nat_le, slice_set}
 use Rattle.std.specs.List.{list_any}
 use Rattle.std.proofs.Math.Nat.{mul-le-mul_left}
@@ -168,6 +168,13 @@ unfolding rows_changed
 rows_all height words differences k all h so = sym (at_drop_all (rows_changed height words) differences k h) ∙ so
 
 -- what leads to others ------------------------------------------------------------------------------------------------
+
+-- what is said of two lists is said of those that they are
+pub read_of : (E : List (List Bool) → List (List Bool) → Type 0) (words others here there : List (List Bool)) →
+    words ≡ here → others ≡ there → E words others → E here there
+read_of E words others here there is also told =
+    let First : List (List Bool) → Type 0 = λ ws. E ws others in
+    subst (E here) also (subst First is told)
 
 -- nothing is compared yet
 lead_none : (height : ℕ) (words others : List (List Bool)) → Lead height 0 words others []

@@ -1,6 +1,6 @@
 -- Rows of which columns are kept, row by row and test by test.
-use Rattle.std.proofs.Common.{◌≡◌, ◌∙◌, ℕ, ◌+◌, ◌*◌, ◌<◌, ◌≤◌, Bool, true, false, not, ◌&&◌, ◌||◌, List, [], length}
-use Rattle.std.proofs.Common.{refl, sym, ap, subst, take, get_or, arith}
+use Rattle.std.proofs.Common.{◌≡◌, ◌∙◌, ℕ, ◌+◌, ◌*◌, ◌<◌, ◌≤◌, Bool, true, false, not, ◌&&◌, ◌||◌, List, [], ◌∷◌}
+use Rattle.std.proofs.Common.{length, refl, sym, ap, subst, take, get_or, arith}
 use Rattle.std.specs.Prelude.{nat_lt, replicate, slice_get, slice_index_or}
 use Rattle.std.specs.List.{list_all, list_any}
 use Rattle.std.proofs.Math.Bool.{and-false, and-true}
@@ -19,11 +19,16 @@ use Rattle.ps_board.specs.ColumnSets.{row_fits}
 use Rattle.ps_board.proofs.ColumnLaws.{columns-agree}
 use Rattle.ps_rows.specs.Showing.{cells_shown, grid_shown}
 use Rattle.ps_rows.specs.Planes.{IsSet}
-use Rattle.ps_rows.specs.RowTests.{IsRowOf, IsWithin, held_all, is_free, narrowed}
+use Rattle.ps_rows.specs.RowTests.{IsRowOf, IsWithin, held_all, held_of_each, is_free, moved_all, narrowed}
 use Rattle.ps_rows.specs.RowsKept.{AreKept, IsKept, are_away}
 use Rattle.ps_rows.proofs.Rows.{row_told}
 use Rattle.ps_rows.proofs.Scans.{and3, mask_free, mask_narrowed}
 use Rattle.ps_rows.proofs.Sets.{both_at, none_at, set_where, wide_of, wide_on, without_at}
+
+-- a list without members
+pub none_left : {X : Type 0} (xs : List X) → length xs ≡ 0 → xs ≡ []
+none_left [] none = refl
+none_left (x ∷ xs) none = absurd (omega arith)
 
 -- one row ------------------------------------------------------------------------------------------------------------
 
@@ -86,6 +91,70 @@ module _ (g : Grid) (row : ℕ) (columns : List Bool) (test : List Slot → Bool
         set = λ so. so;
       }
 
+  -- another test that says the same
+  pub kept_as : (kept : List Bool) (other : List Slot → Bool) → ((cell : List Slot) → test cell ≡ other cell) →
+      IsKept g row columns kept test → IsKept g row columns kept other
+  kept_as kept other same one =
+      record {
+        part = λ x h. one.part x h
+            ∙ ap (λ (b : Bool). column_at columns x && b) (same (cell_at g (x * g.height + row)));
+        within = one.within;
+        set = one.set;
+      }
+
+  -- one test behind the other
+  pub kept_then : (mid kept : List Bool) (other : List Slot → Bool) → IsKept g row columns mid test →
+      IsKept g row mid kept other → IsKept g row columns kept (λ cell. test cell && other cell)
+  kept_then mid kept other one two =
+      record {
+        part = λ x h.
+            let cell : List Slot = cell_at g (x * g.height + row) in
+            two.part x h ∙ ap (λ (b : Bool). b && other cell) (one.part x h)
+            ∙ and3 (column_at columns x) (test cell) (other cell);
+        within = λ inside. two.within (one.within inside);
+        set = λ so. two.set (one.set so);
+      }
+
+  -- nothing is asked
+  pub kept_whole : ((cell : List Slot) → test cell ≡ true) → IsKept g row columns columns test
+  kept_whole all =
+      record {
+        part = λ x h.
+            sym (ap (λ (b : Bool). column_at columns x && b) (all (cell_at g (x * g.height + row)))
+            ∙ and-true (column_at columns x));
+        within = λ inside. inside;
+        set = λ so. so;
+      }
+
+-- one more of a list
+pub kept_more : {X : Type 0} (g : Grid) (row : ℕ) (q : List Slot → X → Bool) (xs : List X) (i : ℕ) (d : X)
+    (columns mid kept : List Bool) → i < length xs → IsKept g row columns mid (λ cell. list_all (q cell) (take i xs)) →
+    IsKept g row mid kept (λ cell. q cell (get_or xs i d)) →
+    IsKept g row columns kept (λ cell. list_all (q cell) (take (i + 1) xs))
+kept_more g row q xs i d columns mid kept below front here =
+    kept_as g row columns (λ cell. list_all (q cell) (take i xs) && q cell (get_or xs i d)) kept
+    (λ cell. list_all (q cell) (take (i + 1) xs))
+    (λ cell. sym (list_all_more (q cell) xs i d below))
+    (kept_then g row columns (λ cell. list_all (q cell) (take i xs)) mid kept (λ cell. q cell (get_or xs i d)) front
+    here)
+
+-- the first of a list, and then the others
+pub kept_first : {X : Type 0} (g : Grid) (row : ℕ) (q : List Slot → X → Bool) (x : X) (xs all : List X)
+    (columns mid kept : List Bool) → all ≡ x ∷ xs → IsKept g row columns mid (λ cell. q cell x) →
+    IsKept g row mid kept (λ cell. list_all (q cell) xs) → IsKept g row columns kept (λ cell. list_all (q cell) all)
+kept_first g row q x xs all columns mid kept is one others =
+    kept_as g row columns (λ cell. q cell x && list_all (q cell) xs) kept (λ cell. list_all (q cell) all)
+    (λ cell. sym (ap (λ ys. list_all (q cell) ys) is))
+    (kept_then g row columns (λ cell. q cell x) mid kept (λ cell. list_all (q cell) xs) one others)
+
+-- one object of each of a mask's lists, and then its motions
+pub kept_narrowed : (g : Grid) (row : ℕ) (columns listed mid kept : List Bool) (mask : CellMask) →
+    g.width ≤ SIDE_LIMIT → IsRowOf g row listed (held_of_each mask.one_of) → mid ≡ both_columns columns listed →
+    IsKept g row mid kept (moved_all mask.motions) → IsKept g row columns kept (narrowed mask)
+kept_narrowed g row columns listed mid kept mask narrow told is moving =
+    kept_then g row columns (held_of_each mask.one_of) mid kept (moved_all mask.motions)
+    (kept_both g row columns (held_of_each mask.one_of) listed mid narrow told is) moving
+
 -- all rows -----------------------------------------------------------------------------------------------------------
 
 module _ (g : Grid) (first : ℕ) where
@@ -96,14 +165,7 @@ module _ (g : Grid) (first : ℕ) where
       record {
         long = kept.long;
         each = λ k low.
-            let one = kept.each k low in
-            record {
-              part = λ x h. one.part x h
-                  ∙ ap (λ (b : Bool). column_at (slice_index_or old k []) x && b)
-                  (same (cell_at g (x * g.height + (first + k))));
-              within = one.within;
-              set = one.set;
-            };
+            kept_as g (first + k) (slice_index_or old k []) test (slice_index_or new k []) other same (kept.each k low);
       }
 
   -- nothing is asked
@@ -112,15 +174,7 @@ module _ (g : Grid) (first : ℕ) where
   kept_at_first old test all =
       record {
         long = refl;
-        each = λ k low.
-            record {
-              part = λ x h.
-                  sym (ap (λ (b : Bool). column_at (slice_index_or old k []) x && b)
-                  (all (cell_at g (x * g.height + (first + k))))
-                  ∙ and-true (column_at (slice_index_or old k []) x));
-              within = λ inside. inside;
-              set = λ so. so;
-            };
+        each = λ k low. kept_whole g (first + k) (slice_index_or old k []) test all;
       }
 
   -- one test behind the other
@@ -131,16 +185,8 @@ module _ (g : Grid) (first : ℕ) where
       record {
         long = more.long ∙ kept.long;
         each = λ k low.
-            let one = kept.each k low in
-            let two = more.each k (rw kept.long low) in
-            record {
-              part = λ x h.
-                  let cell : List Slot = cell_at g (x * g.height + (first + k)) in
-                  two.part x h ∙ ap (λ (b : Bool). b && other cell) (one.part x h)
-                  ∙ and3 (column_at (slice_index_or old k []) x) (test cell) (other cell);
-              within = λ inside. two.within (one.within inside);
-              set = λ so. two.set (one.set so);
-            };
+            kept_then g (first + k) (slice_index_or old k []) test (slice_index_or mid k []) (slice_index_or new k [])
+            other (kept.each k low) (more.each k (rw kept.long low));
       }
 
   -- one more of a list
@@ -154,6 +200,24 @@ module _ (g : Grid) (first : ℕ) where
       (λ cell. list_all (q cell) (take (i + 1) xs))
       (λ cell. sym (list_all_more (q cell) xs i d below))
       (kept_twice old mid new (λ cell. list_all (q cell) (take i xs)) (λ cell. q cell (get_or xs i d)) front here)
+
+  -- of a list its first, where it is all, and its first two, and then the others
+  pub kept_alone : {X : Type 0} (q : List Slot → X → Bool) (x : X) (xs : List X) (old new : List (List Bool)) →
+      xs ≡ [] → AreKept g first old new (λ cell. q cell x) →
+      AreKept g first old new (λ cell. list_all (q cell) (x ∷ xs))
+  kept_alone q x xs old new none kept =
+      kept_by old new (λ cell. q cell x) (λ cell. list_all (q cell) (x ∷ xs))
+      (λ cell. sym (ap (λ zs. q cell x && list_all (q cell) zs) none ∙ and-true (q cell x))) kept
+
+  pub kept_pair : {X : Type 0} (q : List Slot → X → Bool) (x y : X) (xs ys : List X) (old mid new : List (List Bool)) →
+      xs ≡ y ∷ ys → AreKept g first old mid (λ cell. q cell x && q cell y) →
+      AreKept g first mid new (λ cell. list_all (q cell) ys) →
+      AreKept g first old new (λ cell. list_all (q cell) (x ∷ xs))
+  kept_pair q x y xs ys old mid new some kept more =
+      kept_by old new (λ cell. (q cell x && q cell y) && list_all (q cell) ys) (λ cell. list_all (q cell) (x ∷ xs))
+      (λ cell. and3 (q cell x) (q cell y) (list_all (q cell) ys)
+      ∙ sym (ap (λ zs. q cell x && list_all (q cell) zs) some))
+      (kept_twice old mid new (λ cell. q cell x && q cell y) (λ cell. list_all (q cell) ys) kept more)
 
   not_either : (a b : Bool) → (not a && not b) ≡ not (a || b)
   not_either true b = refl

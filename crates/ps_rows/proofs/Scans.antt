@@ -1,6 +1,6 @@
 -- Sets of columns of a row against what a mask asks.
-use Rattle.std.proofs.Common.{◌≡◌, ℕ, ◌+◌, ◌*◌, ◌<◌, ◌≤◌, inl, inr, Bool, true, false, not, ◌&&◌, ap₂}
-use Rattle.std.proofs.Common.{◌||◌, Option, Some, None, List, [], length, get_or, take, map, refl, sym, ap, ◌∙◌, arith}
+use Rattle.std.proofs.Common.{◌≡◌, ◌∙◌, ℕ, ◌+◌, ◌*◌, ◌<◌, ◌≤◌, inl, inr, Bool, true, false, not, ◌&&◌, ◌||◌}
+use Rattle.std.proofs.Common.{Option, Some, None, List, [], ◌∷◌, length, get_or, take, map, refl, sym, ap, ap₂, arith}
 use Rattle.std.specs.Prelude.{nat_lt, slice_get, option_map}
 use Rattle.std.specs.List.{list_all, list_any, range_with_len}
 use Rattle.std.proofs.lemmas.Bool.{cases_lt, and_parts, false_from_ne_true, false≢true, ltb-true, lt-ltb}
@@ -238,48 +238,40 @@ and4 true b c d = refl
 and4 false b c d = refl
 
 -- the cells that have all that it needs, and nothing that it bars
-pub free_inside : (g : Grid) (row : ℕ) (full needed barred : List Bool) (mask : CellMask) → g.width ≤ SIDE_LIMIT →
-    full ≡ columns_below g.width → IsRowOf g row needed (held_all mask.needed) →
-    IsRowOf g row barred (held_any mask.barred) →
-    IsRowOf g row (columns_without (both_columns full needed) barred) (is_free mask)
-free_inside g row full needed barred mask narrow is a b = λ x h.
+pub free_inside : (g : Grid) (row : ℕ) (needed barred : List Bool) (mask : CellMask) → g.width ≤ SIDE_LIMIT →
+    IsRowOf g row needed (held_all mask.needed) → IsRowOf g row barred (held_any mask.barred) →
+    IsRowOf g row (columns_without needed barred) (is_free mask)
+free_inside g row needed barred mask narrow a b = λ x h.
+    without_at needed barred x (omega (arith, h, narrow)) ∙ ap₂ (λ (p q : Bool). p && not q) (a x h) (b x h)
+
+pub free_within : (g : Grid) (needed barred : List Bool) → IsWithin g needed →
+    IsWithin g (columns_without needed barred)
+free_within g needed barred within = λ x off low.
+    without_at needed barred x low ∙ ap (λ (b : Bool). b && not (column_at barred x)) (within x off low)
+
+-- where a mask needs one object, and bars none
+pub alone_free : (g : Grid) (row : ℕ) (full held_row word : List Bool) (sought : LayeredObject) (mask : CellMask) →
+    g.width ≤ SIDE_LIMIT → full ≡ columns_below g.width → mask.needed ≡ sought ∷ [] → mask.barred ≡ [] →
+    IsRowOf g row held_row (held sought) → word ≡ both_columns full held_row → IsRowOf g row word (is_free mask)
+alone_free g row full held_row word sought mask narrow is needed barred told so = λ x h.
     let low : x < SIDE_LIMIT = omega (arith, h, narrow) in
-    without_at (both_columns full needed) barred x low
-    ∙ ap₂ (λ (p q : Bool). p && not q)
-    (both_at full needed x low ∙ ap₂ (λ (p q : Bool). p && q) (wide_on full g.width narrow is x h) (a x h))
-    (b x h)
+    let cell : List Slot = cell_at g (x * g.height + row) in
+    ap (λ (w : List Bool). column_at w x) so ∙ both_at full held_row x low
+    ∙ ap₂ (λ (p q : Bool). p && q) (wide_on full g.width narrow is x h) (told x h)
+    ∙ sym (ap₂ (λ (xs ys : List LayeredObject). held_all xs cell && not (held_any ys cell)) needed barred
+    ∙ and-true (held sought cell && true) ∙ and-true (held sought cell))
 
-pub free_within : (g : Grid) (full needed barred : List Bool) → full ≡ columns_below g.width →
-    IsWithin g (columns_without (both_columns full needed) barred)
-free_within g full needed barred is = λ x off low.
-    let none : column_at full x ≡ false = wide_of full g.width is x low ∙ le-ltb x g.width off in
-    without_at (both_columns full needed) barred x low
-    ∙ ap (λ (b : Bool). b && not (column_at barred x))
-    (both_at full needed x low ∙ ap (λ (b : Bool). b && column_at needed x) none)
+-- all columns of the board, and fewer of a set, are within it
+pub full_within : (g : Grid) (full : List Bool) → full ≡ columns_below g.width → IsWithin g full
+full_within g full is = λ x off low. wide_of full g.width is x low ∙ le-ltb x g.width off
 
--- those of a set that have one object of each list, and the motions
+pub both_within : (g : Grid) (columns word : List Bool) → IsWithin g columns → IsWithin g (both_columns columns word)
+both_within g columns word within = λ x off low.
+    both_at columns word x low ∙ ap (λ (b : Bool). b && column_at word x) (within x off low)
+
 pub and3 : (a b c : Bool) → ((a && b) && c) ≡ (a && (b && c))
 and3 true b c = refl
 and3 false b c = refl
-
-pub narrowed_inside : (g : Grid) (row : ℕ) (columns listed moving : List Bool) (mask : CellMask) →
-    g.width ≤ SIDE_LIMIT →
-    IsRowOf g row listed (held_of_each mask.one_of) → IsRowOf g row moving (moved_all mask.motions) →
-    IsPartOf g row columns (both_columns (both_columns columns listed) moving) (narrowed mask)
-narrowed_inside g row columns listed moving mask narrow a b = λ x h.
-    let low : x < SIDE_LIMIT = omega (arith, h, narrow) in
-    let cell : List Slot = cell_at g (x * g.height + row) in
-    let both : Bool → Bool → Bool = λ p q. p && q in
-    both_at (both_columns columns listed) moving x low
-    ∙ ap₂ both (both_at columns listed x low ∙ ap (λ (p : Bool). column_at columns x && p) (a x h)) (b x h)
-    ∙ and3 (column_at columns x) (held_of_each mask.one_of cell) (moved_all mask.motions cell)
-
-pub narrowed_within : (g : Grid) (columns listed moving : List Bool) → IsWithin g columns →
-    IsWithin g (both_columns (both_columns columns listed) moving)
-narrowed_within g columns listed moving within = λ x off low.
-    both_at (both_columns columns listed) moving x low
-    ∙ ap (λ (b : Bool). b && column_at moving x)
-    (both_at columns listed x low ∙ ap (λ (b : Bool). b && column_at listed x) (within x off low))
 
 -- they fit
 pub mask_narrowed : (g : Grid) (row : ℕ) (free word : List Bool) (mask : CellMask) →

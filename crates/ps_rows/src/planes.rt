@@ -10,6 +10,7 @@ ghost use Rattle.ps_rows.specs.Planes.{AreEmptyFrom, AreSameFrom, AreSets, HaveP
 ghost use Rattle.ps_rows.specs.Planes.{with_cell, with_cell_in, with_shift};
 ghost use Rattle.ps_rows.specs.PlaneCopies.{AreCopied, AreMarksTaken, ArePlanesOf, AreRowsOf, IsRowCopied};
 ghost use Rattle.ps_rows.specs.RowIndex.{AreRowsMarked};
+ghost use Rattle.ps_rows.specs.RowTests.{five_rows};
 ghost use Rattle.ps_rows.specs.Sameness.{DifferOnlyOnRows};
 ghost use Rattle.ps_rows.specs.Showing.{cleared_from, motion_planes};
 
@@ -229,6 +230,21 @@ impl<W: ColumnWords> Planes<W> {
         ensures { result ≡ row_of self.now.index.items plane }
     {
         self.index[plane as usize]
+    }
+
+    /// The columns of a row that one of five planes from the first on has.
+    pub fn five_row(&self, first: u32, row: u32) -> Columns<W>
+        requires row { row < self.now.height }
+        requires planes { (first + 5) * self.now.height ≤ vec_len self.now.words }
+        ensures { result ≡ five_rows self.now.height self.now.words.items first row }
+    {
+        let height = self.height as usize;
+        let place = first as usize * height + row as usize;
+        self.words[place]
+            .either(self.words[place + height])
+            .either(self.words[place + 2 * height])
+            .either(self.words[place + 3 * height])
+            .either(self.words[place + 4 * height])
     }
 
     /// The marked rows of each of five planes from the first on.

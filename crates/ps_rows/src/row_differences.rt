@@ -1,14 +1,15 @@
 //! How the rows of planes differ from others', and how they become those.
 
-ghost use Rattle.std.specs.Prelude.{◌≡◌, ◌+◌, ◌*◌, ◌<◌, ◌≤◌, ◌^◌, ℕ, IfOk, IfSome, OnOk, false, nat_le, vec_len};
+ghost use Rattle.std.specs.Prelude.{◌≡◌, ◌+◌, ◌*◌, ◌<◌, ◌≤◌, ◌^◌, ℕ, IfOk, IfSome, OnOk, false, length, nat_le};
+ghost use Rattle.std.specs.Prelude.{true, vec_len};
 ghost use Rattle.std.specs.List.{list_any};
 ghost use Rattle.ps_model.specs.declared.limits.TheConstants.{SIDE_LIMIT};
 ghost use Rattle.ps_board.specs.ColumnSets.{column_at};
 ghost use Rattle.ps_rows.specs.MixedPlanes.{mixed_planes};
-ghost use Rattle.ps_rows.specs.Planes.{AreSameFrom};
+ghost use Rattle.ps_rows.specs.Planes.{AreSameFrom, AreSets, row_of};
 ghost use Rattle.ps_rows.specs.RowDifferences.{LeadBothWays, row_changed, rows_changed};
 
-use crate::planes::Planes;
+use crate::planes::{Planes, plane_row};
 use ps_board::{ColumnWords, Columns};
 use ps_model::Memory;
 use std::alloc::Global;
@@ -56,8 +57,48 @@ pub fn reach<S: Copy>(rows: &[RowDifference<S>], plane: u32) -> bool
     rows.iter().any(|row| plane <= row.plane)
 }
 
-/// Adds the rows, of some, in which a plane differs, where the planes before it have been added. Those that neither
-/// side has marked aren't read.
+/// Adds the rows, of some, in which a plane of so many rows differs on two boards, where the planes before it have been
+/// added. Those that aren't marked, in which it is the same, aren't read, and all others one by one.
+#[inline(always)]
+fn add_rows<W: ColumnWords>(
+    words: &[Columns<W>],
+    others: &[Columns<W>],
+    height: u32,
+    plane: u32,
+    rows: Columns<W>,
+    marked: Columns<W>,
+    found: &mut Vec<RowDifference<Columns<W>>>,
+) -> Result<(), Memory>
+    requires short { height ≤ SIDE_LIMIT }
+    requires long { length others.now ≡ length words.now }
+    requires plane { (plane + 1) * height ≤ length words.now }
+    requires sets { AreSets words.now }
+    requires other_sets { AreSets others.now }
+    requires rows { (row : ℕ) → row < SIDE_LIMIT → height ≤ row → column_at rows row ≡ false }
+    requires marked { (row : ℕ) → row < height → column_at marked row ≡ false →
+        row_of words.now (plane * height + row) ≡ row_of others.now (plane * height + row) }
+    requires before { let mixed = mixed_planes height rows words.now others.now in
+        LeadBothWays height (plane * height) words.now mixed found.old.items }
+    ensures { let mixed = mixed_planes height rows words.now others.now in
+        OnOk result (LeadBothWays height ((plane + 1) * height) words.now mixed found.new.items) }
+{
+    let mut left = rows.both(marked);
+    while let Some(row) = left.take_first() {
+        let here = plane_row(words, height, plane, row);
+        let columns = here.unlike(plane_row(others, height, plane, row));
+        if !columns.is_empty() {
+            found.push(RowDifference {
+                plane,
+                row,
+                columns,
+            })?;
+        }
+    }
+    Ok(())
+}
+
+/// Adds the rows, of some, in which a plane differs, where the planes before it have been added. A plane with many
+/// marked rows is looked at as a whole before.
 fn add_differences<W: ColumnWords>(
     first: &Planes<W>,
     second: &Planes<W>,
@@ -77,21 +118,102 @@ fn add_differences<W: ColumnWords>(
         OnOk result (LeadBothWays p.height ((plane + 1) * p.height) p.words.items mixed found.new.items) }
 {
     let marked = first.rows_of(plane).either(second.rows_of(plane));
-    let mut left = rows.both(marked);
-    if first.has_same_many(second, plane, left) {
+    if first.has_same_many(second, plane, rows.both(marked)) {
         return Ok(());
     }
-    while let Some(row) = left.take_first() {
-        let columns = first.row(plane, row).unlike(second.row(plane, row));
-        if !columns.is_empty() {
-            found.push(RowDifference {
-                plane,
-                row,
-                columns,
-            })?;
+    let words = first.words.as_slice();
+    let others = second.words.as_slice();
+    add_rows(words, others, first.height, plane, rows, marked, found)
+}
+
+/// Adds the rows, of a few, in which so many planes differ, the first ones. Answers whether they aren't more than half
+/// of all rows. Where the rows stand is read once for all planes.
+#[inline(always)]
+fn add_few<W: ColumnWords>(
+    first: &Planes<W>,
+    second: &Planes<W>,
+    planes: u32,
+    rows: Columns<W>,
+    found: &mut Vec<RowDifference<Columns<W>>>,
+) -> Result<bool, Memory>
+    requires height { second.now.height ≡ first.now.height }
+    requires count { vec_len second.now.words ≡ vec_len first.now.words }
+    requires planes { planes * first.now.height ≤ vec_len first.now.words }
+    requires rows { (row : ℕ) → row < SIDE_LIMIT → first.now.height ≤ row → column_at rows row ≡ false }
+    requires before { let p = first.now in
+        let mixed = mixed_planes p.height rows p.words.items second.now.words.items in
+        LeadBothWays p.height 0 p.words.items mixed found.old.items }
+    ensures { let p = first.now in
+        let mixed = mixed_planes p.height rows p.words.items second.now.words.items in
+        IfOk result (λ enough. enough ≡ true →
+        LeadBothWays p.height (planes * p.height) p.words.items mixed found.new.items) }
+{
+    let words = first.words.as_slice();
+    let others = second.words.as_slice();
+    let height = first.height;
+    for plane in 0..planes {
+        let marked = first.rows_of(plane).either(second.rows_of(plane));
+        add_rows(words, others, height, plane, rows, marked, found)?;
+    }
+    Ok(found.len() <= words.len() / 2)
+}
+
+/// Adds the rows, of some, in which so many planes differ, the first ones. Answers whether they aren't more than half
+/// of all rows; some are left out, where they are.
+fn add_many<W: ColumnWords>(
+    first: &Planes<W>,
+    second: &Planes<W>,
+    planes: u32,
+    rows: Columns<W>,
+    found: &mut Vec<RowDifference<Columns<W>>>,
+) -> Result<bool, Memory>
+    requires height { second.now.height ≡ first.now.height }
+    requires count { vec_len second.now.words ≡ vec_len first.now.words }
+    requires planes { planes * first.now.height ≤ vec_len first.now.words }
+    requires rows { (row : ℕ) → row < SIDE_LIMIT → first.now.height ≤ row → column_at rows row ≡ false }
+    requires before { let p = first.now in
+        let mixed = mixed_planes p.height rows p.words.items second.now.words.items in
+        LeadBothWays p.height 0 p.words.items mixed found.old.items }
+    ensures { let p = first.now in
+        let mixed = mixed_planes p.height rows p.words.items second.now.words.items in
+        IfOk result (λ enough. enough ≡ true →
+        LeadBothWays p.height (planes * p.height) p.words.items mixed found.new.items) }
+{
+    let most = first.words.len() / 2;
+    for plane in 0..planes {
+        add_differences(first, second, plane, rows, found)?;
+        if most < found.len() {
+            return Ok(false);
         }
     }
-    Ok(())
+    Ok(true)
+}
+
+/// Adds the rows, of some, in which so many planes differ, the first ones. Answers whether they aren't more than half
+/// of all rows; some are left out, where they are.
+fn add_all<W: ColumnWords>(
+    first: &Planes<W>,
+    second: &Planes<W>,
+    planes: u32,
+    rows: Columns<W>,
+    found: &mut Vec<RowDifference<Columns<W>>>,
+) -> Result<bool, Memory>
+    requires height { second.now.height ≡ first.now.height }
+    requires count { vec_len second.now.words ≡ vec_len first.now.words }
+    requires planes { planes * first.now.height ≤ vec_len first.now.words }
+    requires rows { (row : ℕ) → row < SIDE_LIMIT → first.now.height ≤ row → column_at rows row ≡ false }
+    requires before { let p = first.now in
+        let mixed = mixed_planes p.height rows p.words.items second.now.words.items in
+        LeadBothWays p.height 0 p.words.items mixed found.old.items }
+    ensures { let p = first.now in
+        let mixed = mixed_planes p.height rows p.words.items second.now.words.items in
+        IfOk result (λ enough. enough ≡ true →
+        LeadBothWays p.height (planes * p.height) p.words.items mixed found.new.items) }
+{
+    if rows.has_few() {
+        return add_few(first, second, planes, rows, found);
+    }
+    add_many(first, second, planes, rows, found)
 }
 
 /// The rows, of some, in which planes differ from others, as many of the same height, of which so many, the first ones,
@@ -123,12 +245,9 @@ pub fn differences<W: ColumnWords>(
     let marked = first.planes_marked(second, planes as usize);
     let all = Columns::below(first.height);
     let within = rows.both(all);
-    let most = first.words.len() / 2;
-    for plane in 0..marked {
-        add_differences(first, second, plane as u32, within, &mut found)?;
-        if most < found.len() {
-            return Ok(None);
-        }
+    let enough = add_all(first, second, marked as u32, within, &mut found)?;
+    if !enough {
+        return Ok(None);
     }
     Ok(Some(found))
 }

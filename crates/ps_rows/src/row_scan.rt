@@ -17,14 +17,13 @@ impl<W: ColumnWords> RowBoard<W> {
         ensures { AreMotionsTold self.now.members.table.items self.now.planes.index.items layer motions result }
     {
         let first = self.motions_from(layer);
-        let place = MOTIONS * (layer % PLACED_LAYERS);
         let own = Columns::none()
-            .with(place, !self.rows_of(first).is_empty())
-            .with(place + 1, !self.rows_of(first + 1).is_empty())
-            .with(place + 2, !self.rows_of(first + 2).is_empty())
-            .with(place + 3, !self.rows_of(first + 3).is_empty())
-            .with(place + 4, !self.rows_of(first + 4).is_empty());
-        motions.either(own)
+            .with(0, !self.rows_of(first).is_empty())
+            .with(1, !self.rows_of(first + 1).is_empty())
+            .with(2, !self.rows_of(first + 2).is_empty())
+            .with(3, !self.rows_of(first + 3).is_empty())
+            .with(4, !self.rows_of(first + 4).is_empty());
+        motions.either(own.ahead(MOTIONS * (layer % PLACED_LAYERS)))
     }
 }
 

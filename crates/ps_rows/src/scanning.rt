@@ -1,6 +1,6 @@
 //! A row of the board against a mask, all its cells at once.
 
-ghost use Rattle.std.specs.Prelude.{◌≡◌, ◌+◌, ◌^◌, ◌<◌, ℕ, [], true};
+ghost use Rattle.std.specs.Prelude.{◌≡◌, ◌+◌, ◌^◌, ◌<◌, ◌∷◌, ℕ, [], IfSome, true};
 ghost use Rattle.ps_model.specs.declared.pieces.Motion.TheVariants.{Still};
 ghost use Rattle.ps_model.specs.meaning.Compiled.{mask_fits};
 ghost use Rattle.ps_model.specs.meaning.Fitting.{same_motion};
@@ -9,6 +9,7 @@ ghost use Rattle.ps_board.specs.ColumnSets.{column_at};
 ghost use Rattle.ps_rows.specs.Planes.{IsSet};
 ghost use Rattle.ps_rows.specs.RowTests.{IsPartOf, IsRowOf, IsWithin, held, held_all, held_any};
 ghost use Rattle.ps_rows.specs.RowTests.{five_rows, held_of_each, is_free, moved, moved_all, narrowed};
+ghost use Rattle.ps_rows.specs.RowsKept.{IsKept};
 ghost use Rattle.ps_rows.specs.Showing.{motions_from};
 
 use crate::motions::motion_plane;
@@ -31,6 +32,27 @@ fn has_no_lists(mask: &CellMask) -> bool
     ensures { result ≡ true → (mask_shown mask.now).one_of ≡ [] }
 {
     mask.one_of.as_slice().is_empty()
+}
+
+/// Whether a mask bars nothing and has no lists.
+fn only_needs(mask: &CellMask) -> bool
+    ensures barred { result ≡ true → (mask_shown mask.now).barred ≡ [] }
+    ensures lists { result ≡ true → (mask_shown mask.now).one_of ≡ [] }
+{
+    mask.barred.as_slice().is_empty() && mask.one_of.as_slice().is_empty()
+}
+
+/// The object that a mask needs, if it needs no other, and bars nothing and has no lists.
+fn only_needed(mask: &CellMask) -> Option<&LayeredObject>
+    ensures needed { IfSome result (λ sought. (mask_shown mask.now).needed ≡ sought.now ∷ []) }
+    ensures barred { IfSome result (λ sought. (mask_shown mask.now).barred ≡ []) }
+    ensures lists { IfSome result (λ sought. (mask_shown mask.now).one_of ≡ []) }
+{
+    let (sought, others) = mask.needed.as_slice().split_first()?;
+    if others.is_empty() && only_needs(mask) {
+        return Some(sought);
+    }
+    None
 }
 
 impl<W: ColumnWords> RowBoard<W> {
@@ -58,7 +80,8 @@ impl<W: ColumnWords> RowBoard<W> {
     /// Where each of the objects stands.
     fn all_row(&self, objects: &[LayeredObject], row: u32) -> Columns<W>
         requires { row < self.now.planes.height }
-        ensures { IsRowOf (⟦<RowBoard<W> as Board>⟧.grid self.now) row result (held_all objects.now) }
+        ensures inside { IsRowOf (⟦<RowBoard<W> as Board>⟧.grid self.now) row result (held_all objects.now) }
+        ensures within { IsWithin (⟦<RowBoard<W> as Board>⟧.grid self.now) result }
     {
         let mut word = self.all_columns;
         for sought in objects {
@@ -101,14 +124,11 @@ impl<W: ColumnWords> RowBoard<W> {
         if self.planes.is_unmarked(first, row) {
             return Columns::none();
         }
-        self.row(first, row)
-            .either(self.row(first + 1, row))
-            .either(self.row(first + 2, row))
-            .either(self.row(first + 3, row))
-            .either(self.row(first + 4, row))
+        self.planes.five_row(first, row)
     }
 
     /// Where a layer has the motion that is asked for.
+    #[inline(always)]
     pub(crate) fn motion_row(&self, test: &MotionTest, row: u32) -> Columns<W>
         requires { row < self.now.planes.height }
         ensures { IsRowOf (⟦<RowBoard<W> as Board>⟧.grid self.now) row result (moved test.now) }
@@ -123,16 +143,34 @@ impl<W: ColumnWords> RowBoard<W> {
         }
     }
 
-    /// Where each layer has the motion that is asked for.
-    fn motions_row(&self, tests: &[MotionTest], row: u32) -> Columns<W>
+    /// Those of some columns of a row in which each layer has the motion that is asked for, for many motions.
+    #[inline(never)]
+    fn moving_of_each(&self, tests: &[MotionTest], row: u32, columns: Columns<W>) -> Columns<W>
         requires { row < self.now.planes.height }
-        ensures { IsRowOf (⟦<RowBoard<W> as Board>⟧.grid self.now) row result (moved_all tests.now) }
+        ensures { IsKept (⟦<RowBoard<W> as Board>⟧.grid self.now) row columns result (moved_all tests.now) }
     {
-        let mut word = self.all_columns;
+        let mut word = columns;
         for test in tests {
             word = word.both(self.motion_row(test, row));
         }
         word
+    }
+
+    /// Those of some columns of a row in which each layer has the motion that is asked for. Most masks ask for one at
+    /// most.
+    #[inline(always)]
+    fn moving_of(&self, tests: &[MotionTest], row: u32, columns: Columns<W>) -> Columns<W>
+        requires { row < self.now.planes.height }
+        ensures { IsKept (⟦<RowBoard<W> as Board>⟧.grid self.now) row columns result (moved_all tests.now) }
+    {
+        let Some((test, others)) = tests.split_first() else {
+            return columns;
+        };
+        let word = columns.both(self.motion_row(test, row));
+        if others.is_empty() {
+            return word;
+        }
+        self.moving_of_each(others, row, word)
     }
 
     /// Those of some columns of a row in which one object of each of a mask's lists stands, and each layer has the
@@ -150,22 +188,19 @@ impl<W: ColumnWords> RowBoard<W> {
         if columns.is_empty() {
             return Columns::none();
         }
-        let listed = self.lists_row(mask.one_of.as_slice(), row);
-        let moving = self.motions_row(mask.motions.as_slice(), row);
-        columns.both(listed).both(moving)
+        let listed = columns.both(self.lists_row(mask.one_of.as_slice(), row));
+        self.moving_of(mask.motions.as_slice(), row, listed)
     }
 
     /// Those of some columns of a row in which each layer has the motion that a mask without lists asks for.
+    #[inline(always)]
     fn moving_as_asked(&self, mask: &CellMask, row: u32, columns: Columns<W>) -> Columns<W>
         requires row { row < self.now.planes.height }
         requires lists { (mask_shown mask.now).one_of ≡ [] }
-        ensures inside { let asked = narrowed (mask_shown mask.now) in
-            IsPartOf (⟦<RowBoard<W> as Board>⟧.grid self.now) row columns result asked }
-        ensures within { let g = ⟦<RowBoard<W> as Board>⟧.grid self.now in IsWithin g columns → IsWithin g result }
-        ensures set { IsSet result }
+        ensures { let asked = narrowed (mask_shown mask.now) in
+            IsKept (⟦<RowBoard<W> as Board>⟧.grid self.now) row columns result asked }
     {
-        let moving = self.motions_row(mask.motions.as_slice(), row);
-        columns.both(moving)
+        self.moving_of(mask.motions.as_slice(), row, columns)
     }
 
     /// The cells of a row that have all that a mask needs, and nothing that it bars.
@@ -173,16 +208,46 @@ impl<W: ColumnWords> RowBoard<W> {
         requires row { row < self.now.planes.height }
         requires needed { let all = held_all (mask_shown mask.now).needed in
             IsRowOf (⟦<RowBoard<W> as Board>⟧.grid self.now) row needed all }
+        requires within { IsWithin (⟦<RowBoard<W> as Board>⟧.grid self.now) needed }
         ensures inside { IsRowOf (⟦<RowBoard<W> as Board>⟧.grid self.now) row result (is_free (mask_shown mask.now)) }
         ensures within { IsWithin (⟦<RowBoard<W> as Board>⟧.grid self.now) result }
         ensures set { IsSet result }
     {
         let barred = self.any_row(mask.barred.as_slice(), row);
-        self.all_columns.both(needed).without(barred)
+        needed.without(barred)
     }
 
-    /// The cells of a row that fit a mask.
+    /// The cells of a row that fit a mask which needs this object alone, and bars none and has no lists.
+    fn plain_row(&self, sought: &LayeredObject, mask: &CellMask, row: u32) -> Columns<W>
+        requires row { row < self.now.planes.height }
+        requires needed { (mask_shown mask.now).needed ≡ sought.now ∷ [] }
+        requires barred { (mask_shown mask.now).barred ≡ [] }
+        requires lists { (mask_shown mask.now).one_of ≡ [] }
+        ensures inside { IsRowOf (⟦<RowBoard<W> as Board>⟧.grid self.now) row result (mask_fits (mask_shown mask.now)) }
+        ensures within { IsWithin (⟦<RowBoard<W> as Board>⟧.grid self.now) result }
+        ensures set { IsSet result }
+    {
+        let word = self.all_columns.both(self.object_row(sought, row));
+        self.moving_as_asked(mask, row, word)
+    }
+
+    /// The cells of a row that fit a mask. Most masks need one object, and bar none and have no lists.
+    #[inline(never)]
     pub(crate) fn mask_row(&self, mask: &CellMask, row: u32) -> Columns<W>
+        requires { row < self.now.planes.height }
+        ensures inside { IsRowOf (⟦<RowBoard<W> as Board>⟧.grid self.now) row result (mask_fits (mask_shown mask.now)) }
+        ensures within { IsWithin (⟦<RowBoard<W> as Board>⟧.grid self.now) result }
+        ensures set { IsSet result }
+    {
+        match only_needed(mask) {
+            Some(sought) => self.plain_row(sought, mask, row),
+            None => self.fitting_row(mask, row),
+        }
+    }
+
+    /// The cells of a row that fit a mask, whatever it asks.
+    #[inline(never)]
+    fn fitting_row(&self, mask: &CellMask, row: u32) -> Columns<W>
         requires { row < self.now.planes.height }
         ensures inside { IsRowOf (⟦<RowBoard<W> as Board>⟧.grid self.now) row result (mask_fits (mask_shown mask.now)) }
         ensures within { IsWithin (⟦<RowBoard<W> as Board>⟧.grid self.now) result }

@@ -1,7 +1,9 @@
 //! Rows of the board against a mask, all at once: each plane that the mask asks about is joined with all of them in one
 //! go.
 
-ghost use Rattle.std.specs.Prelude.{◌≡◌, ◌+◌, ◌<◌, ◌≤◌, ℕ, [], length, replicate, slice_index_or};
+ghost use Rattle.std.specs.Prelude.{◌≡◌, ◌+◌, ◌<◌, ◌≤◌, ◌&&◌, ◌∷◌, ℕ, [], length, nat_lt, replicate, slice_get};
+ghost use Rattle.std.specs.Prelude.{slice_index_or, true};
+ghost use Rattle.ps_model.specs.board.Movement.{is_number};
 ghost use Rattle.ps_board.specs.ColumnSets.{both_columns};
 ghost use Rattle.ps_program.specs.ProgramShown.{mask_shown};
 ghost use Rattle.ps_match.specs.InRoom.{meaning_of_mask};
@@ -57,6 +59,25 @@ fn fill_both<W: ColumnWords>(found: &mut [Columns<W>], words: &[Columns<W>], col
     }
 }
 
+/// Makes each set those of these columns that are in the sets at the same place of two lists.
+fn fill_three<W: ColumnWords>(
+    found: &mut [Columns<W>],
+    words: &[Columns<W>],
+    others: &[Columns<W>],
+    columns: Columns<W>,
+)
+    requires words { length words.now ≡ length found.old }
+    requires others { length others.now ≡ length found.old }
+    ensures both { (k : ℕ) → k < length found.old →
+        slice_index_or found.new k [] ≡
+        both_columns (both_columns columns (slice_index_or words.now k [])) (slice_index_or others.now k []) }
+    ensures long { length found.new ≡ length found.old }
+{
+    for step in 0..found.len() {
+        found[step] = columns.both(words[step]).both(others[step]);
+    }
+}
+
 impl<W: ColumnWords> RowBoard<W> {
     /// Makes each row the columns in which an object stands on its layer.
     fn start_held(&self, sought: &LayeredObject, first: u32, found: &mut [Columns<W>])
@@ -72,6 +93,60 @@ impl<W: ColumnWords> RowBoard<W> {
         fill(found, Columns::none());
     }
 
+    /// Whether each of two objects is one of a layer that the board has, by the table.
+    fn are_on(&self, sought: &LayeredObject, other: &LayeredObject) -> bool
+        ensures first { let b = self.now in let own = slice_get b.members.table.items (sought.now.object).0 in
+            let layer = (sought.now.layer).0 in result ≡ true → (nat_lt layer b.layers && is_number own layer) ≡ true }
+        ensures second { let b = self.now in let own = slice_get b.members.table.items (other.now.object).0 in
+            let layer = (other.now.layer).0 in result ≡ true → (nat_lt layer b.layers && is_number own layer) ≡ true }
+    {
+        self.is_on(sought.object.0, sought.layer.0) && self.is_on(other.object.0, other.layer.0)
+    }
+
+    /// Makes each row the columns in which two objects stand. Where each has a plane, both are read in one go.
+    fn start_two(
+        &self,
+        sought: &LayeredObject,
+        other: &LayeredObject,
+        first: u32,
+        found: &mut [Columns<W>],
+    )
+        requires { first + length found.old ≤ self.now.planes.height }
+        ensures { let all = replicate (length found.old) self.now.all_columns in
+            AreKept (⟦<RowBoard<W> as Board>⟧.grid self.now) first all found.new
+            (λ cell. held sought.now cell && held other.now cell) }
+    {
+        if self.are_on(sought, other) {
+            let words = self.plane_rows(sought.object.0, first, found.len());
+            let others = self.plane_rows(other.object.0, first, found.len());
+            fill_three(found, words, others, self.all_columns);
+            return;
+        }
+        self.start_held(sought, first, found);
+        self.keep_held(other, first, found);
+    }
+
+    /// Makes each row the columns in which an object stands, and each of some others.
+    fn start_some(
+        &self,
+        sought: &LayeredObject,
+        others: &[LayeredObject],
+        first: u32,
+        found: &mut [Columns<W>],
+    )
+        requires { first + length found.old ≤ self.now.planes.height }
+        ensures { let all = replicate (length found.old) self.now.all_columns in
+            AreKept (⟦<RowBoard<W> as Board>⟧.grid self.now) first all found.new (held_all (sought.now ∷ others.now)) }
+    {
+        match others.split_first() {
+            None => self.start_held(sought, first, found),
+            Some((other, rest)) => {
+                self.start_two(sought, other, first, found);
+                self.keep_all(rest, first, found);
+            }
+        }
+    }
+
     /// Makes each row the columns in which each of the objects stands.
     fn start_all(&self, objects: &[LayeredObject], first: u32, found: &mut [Columns<W>])
         requires { first + length found.old ≤ self.now.planes.height }
@@ -80,10 +155,7 @@ impl<W: ColumnWords> RowBoard<W> {
     {
         match objects.split_first() {
             None => fill(found, self.all_columns),
-            Some((sought, others)) => {
-                self.start_held(sought, first, found);
-                self.keep_all(others, first, found);
-            }
+            Some((sought, others)) => self.start_some(sought, others, first, found),
         }
     }
 

@@ -1,28 +1,18 @@
-use Rattle.std.proofs.Common.{◌≡◌, ◌∙◌, ◌*◌, ◌≤◌, ℕ, Bool, length, refl, sym, ap, arith, subst, [], List}
+use Rattle.std.proofs.Common.{◌≡◌, ◌∙◌, ◌*◌, ◌≤◌, ℕ, Bool, length, sym, ap, subst, List}
 use Rattle.ps_board.proofs.Taken.{below-init}
 use Rattle.ps_rows.specs.MixedPlanes.{mixed_planes}
-use Rattle.ps_rows.specs.RowDifferences.{Difference, LeadBothWays, rows_changed}
+use Rattle.ps_rows.specs.RowDifferences.{Difference, rows_changed}
 use Rattle.ps_rows.proofs.MixedPlanes.{length-mixed, mixed_plane, mixed_same, mixed_within}
 use Rattle.ps_rows.proofs.RowDifferences.{all_back, all_forth, both_none, both_planes, both_reach}
-use Rattle.ps_rows.proofs.Passed.{next_enough, own_order, planes_enough}
-use Rattle.ps_laws.proofs.common.Orders.{two_up}
+use Rattle.ps_rows.proofs.Passed.{own_order, planes_enough}
 use Rattle.ps_rows.proofs.row_differences.differences.Goals as goal
-
-pub loop-plane-init : goal.loop-plane-init
-loop-plane-init g c =
-    let p = c.args.first.now in
-    let start : 0 ≡ 0 * p.height = omega arith in
-    let none : List Difference = [] in
-    let mixed : List (List Bool) =
-    mixed_planes p.height c.both-within.result p.words.items c.args.second.now.words.items in
-    let E : ℕ → Type 0 = λ end. LeadBothWays p.height end p.words.items mixed none in
-    rw c.new-found.ensures.items (subst E start (both_none p.height p.words.items mixed))
 
 pub returns-clause-forth : goal.returns-clause-forth
 returns-clause-forth g c =
     let p = c.args.first.now in
     let o = c.args.second.now in
     let marked : ℕ = c.planes_marked-marked.result in
+    let found : List Difference = c.add_all.new.found.items in
     let within : List Bool = c.both-within.result in
     let mixed : List (List Bool) = mixed_planes p.height within p.words.items o.words.items in
     let whole : length p.words.items ≤ length p.words.items = own_order (length p.words.items) in
@@ -32,18 +22,16 @@ returns-clause-forth g c =
     let all : mixed ≡ mixed_planes p.height c.args.rows p.words.items o.words.items =
     mixed_within p.height c.args.rows p.words.items o.words.items c.below-all.result within p.some_row p.rows
     c.below-all.ensures c.both-within.ensures in
-    all_forth p.height (length p.words.items) p.words.items mixed c.loop-plane.found.items whole
+    all_forth p.height (length p.words.items) p.words.items mixed found whole
     (length-mixed p.height within p.words.items o.words.items)
     (both_reach p.height (c.args.planes * p.height) (length p.words.items) p.words.items mixed
-    c.loop-plane.found.items enough
+    found enough
     (λ place from below. mixed_same p.height within p.words.items o.words.items long place (c.requires.rest place from))
-    (both_planes p.height c.loop-plane.plane c.args.planes p.words.items mixed c.loop-plane.found.items
-    p.some_row
-    (two_up c.loop-plane.plane marked c.args.planes c.loop-plane.auto.plane-end c.planes_marked-marked.ensures.few)
+    (both_planes p.height marked c.args.planes p.words.items mixed found p.some_row
+    c.planes_marked-marked.ensures.few
     (λ plane from below. mixed_plane p.height within p.words.items o.words.items long plane
-    (c.planes_marked-marked.ensures.same plane
-    (two_up marked c.loop-plane.plane plane c.loop-plane-test.false from) below))
-    c.loop-plane.invariant))
+    (c.planes_marked-marked.ensures.same plane from below))
+    (c.in_ok-enough.ensures c.if-not-enough.false)))
     ∙ all
 
 pub returns-clause-back : goal.returns-clause-back
@@ -51,6 +39,7 @@ returns-clause-back g c =
     let p = c.args.first.now in
     let o = c.args.second.now in
     let marked : ℕ = c.planes_marked-marked.result in
+    let found : List Difference = c.add_all.new.found.items in
     let within : List Bool = c.both-within.result in
     let mixed : List (List Bool) = mixed_planes p.height within p.words.items o.words.items in
     let whole : length p.words.items ≤ length p.words.items = own_order (length p.words.items) in
@@ -60,19 +49,17 @@ returns-clause-back g c =
     let all : mixed ≡ mixed_planes p.height c.args.rows p.words.items o.words.items =
     mixed_within p.height c.args.rows p.words.items o.words.items c.below-all.result within p.some_row p.rows
     c.below-all.ensures c.both-within.ensures in
-    ap (λ (words : List (List Bool)). rows_changed p.height words c.loop-plane.found.items) (sym all)
-    ∙ all_back p.height (length p.words.items) p.words.items mixed c.loop-plane.found.items whole
+    ap (λ (words : List (List Bool)). rows_changed p.height words found) (sym all)
+    ∙ all_back p.height (length p.words.items) p.words.items mixed found whole
     (length-mixed p.height within p.words.items o.words.items)
     (both_reach p.height (c.args.planes * p.height) (length p.words.items) p.words.items mixed
-    c.loop-plane.found.items enough
+    found enough
     (λ place from below. mixed_same p.height within p.words.items o.words.items long place (c.requires.rest place from))
-    (both_planes p.height c.loop-plane.plane c.args.planes p.words.items mixed c.loop-plane.found.items
-    p.some_row
-    (two_up c.loop-plane.plane marked c.args.planes c.loop-plane.auto.plane-end c.planes_marked-marked.ensures.few)
+    (both_planes p.height marked c.args.planes p.words.items mixed found p.some_row
+    c.planes_marked-marked.ensures.few
     (λ plane from below. mixed_plane p.height within p.words.items o.words.items long plane
-    (c.planes_marked-marked.ensures.same plane
-    (two_up marked c.loop-plane.plane plane c.loop-plane-test.false from) below))
-    c.loop-plane.invariant))
+    (c.planes_marked-marked.ensures.same plane from below))
+    (c.in_ok-enough.ensures c.if-not-enough.false)))
 
 pub planes_marked-marked-requires : goal.planes_marked-marked-requires
 planes_marked-marked-requires g c =
@@ -84,19 +71,13 @@ planes_marked-marked-requires g c =
           (own_order c.args.planes) c.requires.planes c.requires.count;
     }
 
-pub add_differences-requires : goal.add_differences-requires
-add_differences-requires g c =
-    let p = c.args.first.now in
-    record {
-      height = c.requires.height;
-      count = c.requires.count;
-      plane = next_enough p.height c.loop-plane.plane c.planes_marked-marked.result c.args.planes p.words.len
-          p.words.len
-          c.loop-plane-test.true c.planes_marked-marked.ensures.few c.requires.planes refl;
-      rows = (below-init c.args.rows c.below-all.result c.both-within.result p.height c.below-all.ensures
-          c.both-within.ensures).at;
-      before = c.loop-plane.invariant;
-    }
+pub add_all-requires-clause-rows : goal.add_all-requires-clause-rows
+add_all-requires-clause-rows g c =
+    (below-init c.args.rows c.below-all.result c.both-within.result c.args.first.now.height c.below-all.ensures
+    c.both-within.ensures).at
 
-pub loop-plane-preserved : goal.loop-plane-preserved
-loop-plane-preserved g c = c.in_ok-add_differences.ensures
+pub add_all-requires-clause-before : goal.add_all-requires-clause-before
+add_all-requires-clause-before g c =
+    let p = c.args.first.now in
+    rw c.new-found.ensures.items (both_none p.height p.words.items
+    (mixed_planes p.height c.both-within.result p.words.items c.args.second.now.words.items))

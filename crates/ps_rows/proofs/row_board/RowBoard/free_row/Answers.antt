@@ -15,19 +15,18 @@ returns-clause-inside g c =
     let b = c.args.self.now in
     let grid : Grid = grid_shown b.members.table.items b.width b.planes.height b.layers b.planes.words.items in
     let Barred : List LayeredObject → Type 0 = λ xs. IsRowOf grid c.args.row c.any_row-barred.result (held_any xs) in
-    rw (c.without.ensures, c.both.ensures)
-    (free_inside grid c.args.row b.all_columns c.args.needed c.any_row-barred.result (mask_shown c.args.mask.now)
-    b.columns b.all c.requires.needed (subst Barred c.as_slice.ensures c.any_row-barred.ensures))
+    rw c.without.ensures
+    (free_inside grid c.args.row c.args.needed c.any_row-barred.result (mask_shown c.args.mask.now) b.columns
+    c.requires.needed (subst Barred c.as_slice.ensures c.any_row-barred.ensures))
 
 pub returns-clause-within : goal.returns-clause-within
 returns-clause-within g c =
     let b = c.args.self.now in
     let grid : Grid = grid_shown b.members.table.items b.width b.planes.height b.layers b.planes.words.items in
-    rw (c.without.ensures, c.both.ensures)
-    (free_within grid b.all_columns c.args.needed c.any_row-barred.result b.all)
+    rw c.without.ensures (free_within grid c.args.needed c.any_row-barred.result c.requires.within)
 
 pub returns-clause-set : goal.returns-clause-set
 returns-clause-set g c =
     let P : List Bool → Type 0 = λ set. IsSet set in
     subst P (sym c.without.ensures) (set_where (λ x.
-    column_at c.both.result x && not (column_at c.any_row-barred.result x)))
+    column_at c.args.needed x && not (column_at c.any_row-barred.result x)))

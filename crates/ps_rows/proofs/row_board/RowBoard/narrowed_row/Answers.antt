@@ -1,4 +1,4 @@
-use Rattle.std.proofs.Common.{◌+◌, ◌*◌, ◌&&◌, ◌∙◌, ℕ, Bool, false, List, subst, sym, ap, arith}
+use Rattle.std.proofs.Common.{◌+◌, ◌*◌, ◌&&◌, ◌∙◌, Bool, false, List, subst, sym, ap, arith}
 use Rattle.ps_model.specs.declared.compiled.LayeredObject.{LayeredObject}
 use Rattle.ps_model.specs.declared.compiled.MotionTest.{MotionTest}
 use Rattle.ps_program.specs.ProgramShown.{mask_shown}
@@ -8,7 +8,8 @@ use Rattle.ps_board.proofs.ColumnLaws.{none_in}
 use Rattle.ps_rows.specs.Planes.{IsSet}
 use Rattle.ps_rows.specs.Showing.{grid_shown}
 use Rattle.ps_rows.specs.RowTests.{IsRowOf, held_of_each, moved_all, narrowed}
-use Rattle.ps_rows.proofs.Scans.{narrowed_inside, narrowed_within}
+use Rattle.ps_rows.specs.RowsKept.{IsKept}
+use Rattle.ps_rows.proofs.RowsKept.{kept_narrowed}
 use Rattle.ps_rows.proofs.Sets.{none_at, set_where}
 use Rattle.ps_rows.proofs.row_board.RowBoard.narrowed_row.Goals as goal
 
@@ -34,25 +35,30 @@ pub returns-clause-inside : goal.returns-clause-inside
 returns-clause-inside g c =
     let b = c.args.self.now in
     let grid : Grid = grid_shown b.members.table.items b.width b.planes.height b.layers b.planes.words.items in
-    let row : ℕ = c.args.row in
-    let Listed : List (List LayeredObject) → Type 0 = λ xs.
-    IsRowOf grid row c.lists_row-listed.result (held_of_each xs) in
-    let Moving : List MotionTest → Type 0 = λ xs. IsRowOf grid row c.motions_row-moving.result (moved_all xs) in
-    rw (c.both-2.ensures, c.both.ensures)
-    (narrowed_inside grid row c.args.columns c.lists_row-listed.result c.motions_row-moving.result
-    (mask_shown c.args.mask.now) b.columns
-    (subst Listed c.as_slice.ensures c.lists_row-listed.ensures)
-    (subst Moving c.as_slice-2.ensures c.motions_row-moving.ensures))
+    let mask = mask_shown c.args.mask.now in
+    let Listed : List (List LayeredObject) → Type 0 = λ xs. IsRowOf grid c.args.row c.lists_row.result (held_of_each xs)
+    in
+    let Moving : List MotionTest → Type 0 = λ xs. IsKept grid c.args.row c.both-listed.result c.moving_of.result
+    (moved_all xs) in
+    (kept_narrowed grid c.args.row c.args.columns c.lists_row.result c.both-listed.result c.moving_of.result mask
+    b.columns (subst Listed c.as_slice.ensures c.lists_row.ensures) c.both-listed.ensures
+    (subst Moving c.as_slice-2.ensures c.moving_of.ensures)).part
 
 pub returns-clause-within : goal.returns-clause-within
-returns-clause-within g c = λ within.
+returns-clause-within g c =
     let b = c.args.self.now in
     let grid : Grid = grid_shown b.members.table.items b.width b.planes.height b.layers b.planes.words.items in
-    rw (c.both-2.ensures, c.both.ensures)
-    (narrowed_within grid c.args.columns c.lists_row-listed.result c.motions_row-moving.result within)
+    let mask = mask_shown c.args.mask.now in
+    let Listed : List (List LayeredObject) → Type 0 = λ xs. IsRowOf grid c.args.row c.lists_row.result (held_of_each xs)
+    in
+    let Moving : List MotionTest → Type 0 = λ xs. IsKept grid c.args.row c.both-listed.result c.moving_of.result
+    (moved_all xs) in
+    (kept_narrowed grid c.args.row c.args.columns c.lists_row.result c.both-listed.result c.moving_of.result mask
+    b.columns (subst Listed c.as_slice.ensures c.lists_row.ensures) c.both-listed.ensures
+    (subst Moving c.as_slice-2.ensures c.moving_of.ensures)).within
 
 pub returns-clause-set : goal.returns-clause-set
 returns-clause-set g c =
     let P : List Bool → Type 0 = λ set. IsSet set in
-    subst P (sym c.both-2.ensures) (set_where (λ x.
-    column_at c.both.result x && column_at c.motions_row-moving.result x))
+    c.moving_of.ensures.set (subst P (sym c.both-listed.ensures) (set_where (λ x.
+    column_at c.args.columns x && column_at c.lists_row.result x)))
