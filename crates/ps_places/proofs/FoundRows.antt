@@ -4,13 +4,13 @@ use Rattle.std.proofs.Common.{Option, List, [], ◌∷◌, length, refl, sym, ap
 use Rattle.std.specs.Prelude.{nat_eq, nat_le, nat_lt, if◌then◌else◌}
 use Rattle.std.proofs.Math.Bool.{and-false}
 use Rattle.std.proofs.lemmas.Bool.Decides.{nat_tests}
-use Rattle.std.proofs.lemmas.Bool.{cases_eq, cases_lt, not-false, not-true, or_parts}
+use Rattle.std.proofs.lemmas.Bool.{cases_eq, cases_lt, not-false, not-true}
 use Rattle.ps_model.specs.declared.limits.TheConstants.{SIDE_LIMIT}
 use Rattle.ps_model.specs.board.Grid.{Grid}
 use Rattle.ps_board.specs.ColumnSets.{both_columns, column_at, columns_below, columns_without, no_columns, set_columns}
-use Rattle.ps_board.specs.ColumnSets.{either_columns, with_column}
+use Rattle.ps_board.specs.ColumnSets.{with_column}
 use Rattle.ps_board.proofs.ColumnLaws.{below_at, column_at-beyond, column_at-where, first_in, none_in, with_here}
-use Rattle.ps_board.proofs.ColumnLaws.{none_on, set_columns-are, with_other}
+use Rattle.ps_board.proofs.ColumnLaws.{with_other}
 use Rattle.ps_board.proofs.Taken.{first_least, in_both, taken_out, was_in}
 use Rattle.ps_program.specs.declared.cells.CompiledCell.{CompiledCell}
 use Rattle.ps_program.specs.declared.rows.Axis.{Axis}

@@ -1,4 +1,5 @@
 pub mod FirstOf
+pub mod FirstRows
 pub mod Positions
 pub mod CellByCell
 pub mod CellsInTurn

@@ -91,6 +91,15 @@ mask-init g mask {limit} rows grid room is = record {
       not_left_out g limit rows row grid room is low out in absurd (cc);
 }
 
+-- one object that the mask needs, alone
+pub mask-first : (g : Grid) (mask : CellMask) (object : LayeredObject) (having : List Bool) →
+    slice_get mask.needed 0 ≡ Some object → HasRowsIn g object having → FitsOnlyOn g mask having
+mask-first g mask object having needs has =
+    record {
+      at = λ row x low out. cell_off g mask object 0 (x * g.height + row) (slice_get g.cells (x * g.height + row)) needs
+          (has row low out x) refl;
+    }
+
 mask_by : (g : Grid) (mask : CellMask) (object : LayeredObject) (k row x : ℕ) (rows having : List Bool) →
     slice_get mask.needed k ≡ Some object → HasRowsIn g object having → FitsOnlyOn g mask rows →
     row < g.height → (column_at rows row ≡ false) ⊎ (column_at having row ≡ false) →
@@ -216,4 +225,34 @@ begin-more g table axis part index c rows own both grid e low has is only =
       at = λ row x high room out.
           begin_by g table axis part index row x c rows own e low has only high room
           (missing rows own both row is (omega (arith, high, grid.rows)) out);
+    }
+
+-- a part's first cell alone
+more_none : (a n : ℕ) → a + 0 * n ≡ a
+more_none a n = omega arith
+
+pub begin-first : (g : Grid) (table : Option (List ℕ)) (axis : Axis) (part : List CompiledCell) (c : CompiledCell)
+    (rows : List Bool) → slice_get part 0 ≡ Some c → 0 < length part → FitsOnlyOn g c.mask rows →
+    BeginsOnlyOn g table axis part rows
+begin-first g table axis part c rows e low only =
+    record {
+      at = λ row x high room out.
+          fits_not g table part (x * g.height + row) (step_along axis g.height) (length part) 0 c e low
+          (ap (λ (m : ℕ). fits_there (meaning_of_mask (mask_shown c.mask)) (slice_get g.cells m))
+          (more_none (x * g.height + row) (step_along axis g.height))
+          ∙ only.at row x high out);
+    }
+
+-- rows for which a set has room
+pub begin-within : (g : Grid) (table : Option (List ℕ)) (axis : Axis) (part : List CompiledCell) {limit : ℕ}
+    (rows all both : List Bool) → IsGrid g → g.height ≤ limit → all ≡ columns_below limit →
+    both ≡ both_columns rows all → BeginsOnlyOn g table axis part rows → BeginsOnlyOn g table axis part both
+begin-within g table axis part {limit} rows all both grid room is joined only =
+    record {
+      at = λ row x low fits out.
+          elim (missing rows all both row joined (omega (arith, low, grid.rows)) out) [
+            | inl off ↦ only.at row x low fits off
+            | inr off ↦
+                let clash : true ≡ false = not_left_out g limit all row grid room is low off in absurd (cc)
+          ];
     }

@@ -17,17 +17,15 @@ pub fn columns_across<B: Scan>(board: &B, part: &[CompiledCell], row: u32) -> Co
     ensures { AreWhere (part_fits (B.grid board.now) (B.table board.now) Right row part.now) result }
 {
     recall_shape(board);
-    let mut columns = Columns::all();
-    let mut steps = 0;
-    for cell in part {
+    let mut columns = board.scan(&part[0].mask, row);
+    for number in 1..part.len() {
         if columns.is_empty() {
             return columns;
         }
-        if SIDE_LIMIT <= steps {
+        if SIDE_LIMIT as usize <= number {
             return Columns::none();
         }
-        columns = columns.both(board.scan(&cell.mask, row).behind(steps));
-        steps += 1;
+        columns = columns.both(board.scan(&part[number].mask, row).behind(number as u32));
     }
     columns
 }

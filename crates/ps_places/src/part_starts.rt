@@ -8,6 +8,7 @@ ghost use Rattle.ps_program.specs.Axes.{direction_of};
 ghost use Rattle.ps_laws.specs.WholeRows.{HasCells};
 ghost use Rattle.ps_places.specs.Lines.{part_meaning};
 ghost use Rattle.ps_program.specs.declared.rows.Axis.TheVariants.{Down, Right};
+ghost use Rattle.ps_places.specs.Candidates.{BeginsOnlyOn};
 ghost use Rattle.ps_places.specs.PartStarts.{AreStarts, begins_at};
 ghost use Rattle.ps_places.specs.Starts.{AreWhere};
 ghost use Rattle.ps_places.specs.RowsFound.{AreBothBehind, AreEmptyBetween, AreRowsBegun, AreRowsBelow, AreRowsBetween};
@@ -101,6 +102,7 @@ fn find_down<B: Scan>(
 }
 
 /// The columns of a row of the board in which a part begins.
+#[inline(always)]
 fn starts_on_row<B: Scan>(
     board: &B,
     axis: Axis,
@@ -271,8 +273,43 @@ pub fn begins_nowhere<B: Scan>(board: &B, axis: Axis, part: &[CompiledCell]) -> 
         .is_empty()
 }
 
+/// Finds the columns in which a part begins of several rows of the board, and answers the rows that have one. What is
+/// in `scanned` afterwards is anything.
+///
+/// It is apart from what is done where one row is left, which is most often.
+#[inline(never)]
+fn find_on_rows<B: Scan>(
+    board: &B,
+    axis: Axis,
+    part: &[CompiledCell],
+    having: Columns<B::Words>,
+    starts: &mut [Columns<B::Words>],
+    scanned: &mut [Columns<B::Words>],
+) -> Columns<B::Words>
+    requires whole { HasCells part.now }
+    requires only { BeginsOnlyOn (B.grid board.now) (B.table board.now) axis part.now having }
+    requires room { SIDE_LIMIT ≤ length starts.old }
+    requires scanned { SIDE_LIMIT ≤ length scanned.old }
+    ensures starts { AreStarts (B.grid board.now) (B.table board.now) axis part.now result starts.new }
+    ensures long { length starts.new ≡ length starts.old }
+{
+    let (_width, height) = board.size();
+    let count = rows_with_room(axis, height, part.len());
+    let rows = having.both(Columns::below(count));
+    let mut left = rows;
+    let Some(first) = left.take_first() else {
+        return rows;
+    };
+    let end = end_of(rows, first, count);
+    find_between(board, axis, part, first, end, starts, scanned);
+    begun_between(rows, first, end, starts)
+}
+
 /// Finds the columns of each row of the board in which a part begins, and answers the rows that have one. What is in
 /// `scanned` afterwards is anything.
+///
+/// Where one row is left by what the cells ask for, it is looked at right away: that tells as well whether the part has
+/// room there.
 pub fn find_rows<B: Scan>(
     board: &B,
     axis: Axis,
@@ -287,18 +324,18 @@ pub fn find_rows<B: Scan>(
     ensures long { length starts.new ≡ length starts.old }
 {
     let (_width, height) = board.size();
-    let count = rows_with_room(axis, height, part.len());
-    let rows = rows_of_part(board, axis, part).both(Columns::below(count));
+    let rows = rows_of_part(board, axis, part).both(Columns::all());
     let mut left = rows;
     let Some(first) = left.take_first() else {
         return rows;
     };
-    if left.is_empty() {
-        return find_on_row(board, axis, part, rows, first, starts);
+    if !left.is_empty() {
+        return find_on_rows(board, axis, part, rows, starts, scanned);
     }
-    let end = end_of(rows, first, count);
-    find_between(board, axis, part, first, end, starts, scanned);
-    begun_between(rows, first, end, starts)
+    if height <= first {
+        return Columns::none();
+    }
+    find_on_row(board, axis, part, rows, first, starts)
 }
 
 impl<W: ColumnWords> RowRoom<Columns<W>> {

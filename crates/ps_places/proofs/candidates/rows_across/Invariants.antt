@@ -3,5 +3,5 @@ use Rattle.ps_places.specs.Candidates.{BeginsOnlyOn}
 use Rattle.ps_places.proofs.candidates.rows_across.Given as goal
 
 -- the part doesn't begin on another row of the board
-abbrev pub invariant-loop-cell : goal.invariant-loop-cell
-invariant-loop-cell g l = BeginsOnlyOn (g.B.Board.grid l.board) (g.B.Board.table l.board) Right l.part l.rows
+abbrev pub invariant-loop-number : goal.invariant-loop-number
+invariant-loop-number g l = BeginsOnlyOn (g.B.Board.grid l.board) (g.B.Board.table l.board) Right l.part l.rows

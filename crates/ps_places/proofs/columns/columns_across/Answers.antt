@@ -1,53 +1,64 @@
-use Rattle.std.proofs.Common.{◌≡◌, ◌+◌, ◌≤◌, ℕ, true, length, ap, refl, rules, ◌∙◌}
-use Rattle.std.proofs.lemmas.Option.{slice_get_read}
-use Rattle.ps_model.specs.declared.limits.TheConstants.{SIDE_LIMIT}
-use Rattle.ps_board.specs.ColumnSets.{columns_behind}
-use Rattle.ps_places.proofs.PartColumns.{across-all, across-init, across-more, across-none, across-past}
+use Rattle.std.proofs.Common.{◌≡◌, ℕ, true, List, length, refl, rules, arith, subst, sym}
+use Rattle.std.proofs.lemmas.Option.{slice_get-get_or, slice_get_read}
+use Rattle.ps_model.specs.board.Grid.{Grid}
+use Rattle.ps_board.specs.ColumnSets.{row_fits}
+use Rattle.ps_match.specs.InRoom.{meaning_of_mask}
+use Rattle.ps_program.specs.ProgramShown.{mask_shown}
+use Rattle.ps_program.specs.declared.cells.CompiledCell.{CompiledCell}
+use Rattle.ps_places.proofs.PartColumns.{across-all, across-first, across-more, across-none, across-past}
 use Rattle.ps_places.proofs.columns.columns_across.Goals as goal
 
-pub loop-cell-init : goal.loop-cell-init
-loop-cell-init g c =
+pub loop-number-init : goal.loop-number-init
+loop-number-init g c =
+    let grid : Grid = g.B.Board.grid c.args.board.now in
+    let part : List CompiledCell = c.args.part.now in
     record {
-      left = across-init (g.B.Board.grid c.args.board.now)
-          (g.B.Board.table c.args.board.now) c.args.part.now c.args.row c.all-columns.result
-          c.recall_shape.ensures.shape c.requires.whole
-          c.recall_shape.ensures.narrow c.all-columns.ensures;
-      steps = refl;
+      left = across-first grid (g.B.Board.table c.args.board.now) part c.args.row c.index-part-0.result
+          c.scan-columns.result c.recall_shape.ensures.shape
+          (slice_get_read part (length part) 0 c.index-part-0.result refl c.requires.whole c.index-part-0.is)
+          c.requires.whole
+          (subst (λ (cell : CompiledCell). c.scan-columns.result
+          ≡ row_fits grid (meaning_of_mask (mask_shown cell.mask)) c.args.row) (sym c.index-part-0.is)
+          c.scan-columns.ensures);
+      some = omega arith;
     }
 
 pub returns-then-is_empty : goal.returns-then-is_empty
 returns-then-is_empty g c =
     let empty : c.is_empty.result ≡ true = search rules in
     across-none (g.B.Board.grid c.args.board.now) (g.B.Board.table c.args.board.now)
-    c.args.part.now c.args.row c.loop-cell.cell-index c.loop-cell.columns
-    (c.is_empty.ensures.none empty) c.loop-cell.invariant.left
+    c.args.part.now c.args.row c.loop-number.number c.loop-number.columns
+    (c.is_empty.ensures.none empty) c.loop-number.invariant.left
 
-pub returns-then-steps-ge-SIDE_LIMIT : goal.returns-then-steps-ge-SIDE_LIMIT
-returns-then-steps-ge-SIDE_LIMIT g c =
-    let far : SIDE_LIMIT ≤ c.loop-cell.cell-index = rw (← c.loop-cell.invariant.steps) c.if-steps-ge-SIDE_LIMIT.true in
-    across-past (g.B.Board.grid c.args.board.now) (g.B.Board.table c.args.board.now)
-    c.args.part.now c.args.row c.loop-cell.cell-index c.cell-item.result c.loop-cell.columns
-    c.none.result c.recall_shape.ensures.shape
-    (slice_get_read c.args.part.now (length c.args.part.now)
-    c.loop-cell.cell-index c.cell-item.result refl c.loop-cell-test.true c.cell-item.is) c.loop-cell-test.true
-    far c.none.ensures c.loop-cell.invariant.left
+pub returns-then-number : goal.returns-then-number
+returns-then-number g c =
+    let part : List CompiledCell = c.args.part.now in
+    let number : ℕ = c.loop-number.number in
+    across-past (g.B.Board.grid c.args.board.now) (g.B.Board.table c.args.board.now) part c.args.row number _
+    c.loop-number.columns c.none.result c.recall_shape.ensures.shape
+    (slice_get-get_or part number c.index-part-0.result c.loop-number-test.true) c.loop-number-test.true
+    c.if-number.true c.none.ensures c.loop-number.invariant.left
 
-pub loop-cell-preserved : goal.loop-cell-preserved
-loop-cell-preserved g c =
+pub loop-number-preserved : goal.loop-number-preserved
+loop-number-preserved g c =
+    let grid : Grid = g.B.Board.grid c.args.board.now in
+    let part : List CompiledCell = c.args.part.now in
+    let number : ℕ = c.loop-number.number in
     record {
       left =
-          across-more (g.B.Board.grid c.args.board.now)
-          (g.B.Board.table c.args.board.now) c.args.part.now c.args.row c.loop-cell.cell-index c.cell-item.result
-          c.loop-cell.columns c.scan.result c.behind.result c.both-columns.result c.recall_shape.ensures.shape
-          (slice_get_read c.args.part.now (length c.args.part.now)
-          c.loop-cell.cell-index c.cell-item.result refl c.loop-cell-test.true c.cell-item.is) c.loop-cell-test.true
-          c.scan.ensures (c.behind.ensures ∙ ap (columns_behind c.scan.result) c.loop-cell.invariant.steps)
-          c.both-columns.ensures c.loop-cell.invariant.left;
-      steps = ap (λ (n : ℕ). n + 1) c.loop-cell.invariant.steps;
+          across-more grid (g.B.Board.table c.args.board.now) part c.args.row number c.index-part-number.result
+          c.loop-number.columns c.scan.result c.behind.result c.both-columns.result c.recall_shape.ensures.shape
+          (slice_get_read part (length part) number c.index-part-number.result refl c.loop-number-test.true
+          c.index-part-number.is) c.loop-number-test.true
+          (subst (λ (cell : CompiledCell). c.scan.result
+          ≡ row_fits grid (meaning_of_mask (mask_shown cell.mask)) c.args.row) (sym c.index-part-number.is)
+          c.scan.ensures)
+          c.behind.ensures c.both-columns.ensures c.loop-number.invariant.left;
+      some = omega arith;
     }
 
 pub returns : goal.returns
 returns g c =
     across-all (g.B.Board.grid c.args.board.now) (g.B.Board.table c.args.board.now)
-    c.args.part.now c.args.row c.loop-cell.cell-index c.loop-cell.columns
-    c.loop-cell-test.false c.loop-cell.invariant.left
+    c.args.part.now c.args.row c.loop-number.number c.loop-number.columns
+    (omega (arith, c.loop-number-test.false)) c.loop-number.invariant.left
