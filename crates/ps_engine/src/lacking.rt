@@ -11,7 +11,8 @@ use ps_program::{CompiledRule, MotionSet};
 
 /// Whether a rule asks for a motion whose place isn't in a set. Such a rule has no combination where the set has all
 /// motions of the board. No memory is taken.
-fn asks_for_others<B: Scan>(board: &B, motions: MotionSet, rule: &CompiledRule) -> bool
+#[inline(always)]
+pub fn asks_for_others<B: Scan>(board: &B, motions: MotionSet, rule: &CompiledRule) -> bool
     requires { HasMotionsIn (B.grid board.now) motions }
     ensures { result ≡ true →
         combinations_on (B.grid board.now) (rule_meaning (B.table board.now) rule.now) ≡ [] }

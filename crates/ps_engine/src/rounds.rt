@@ -1,16 +1,17 @@
 //! Rounds, groups, and passes of a loop's body.
 
-ghost use Rattle.std.specs.Prelude.{◌≡◌, IfOk, OnOk, length, true};
-ghost use Rattle.ps_model.specs.board.Attempts.{Result as Meant, State};
+ghost use Rattle.std.specs.Prelude.{◌≡◌, ◌≤◌, ◌-◌, IfOk, OnOk, drop, length, true};
+ghost use Rattle.ps_model.specs.declared.limits.TheConstants.{ROUND_LIMIT};
+ghost use Rattle.ps_model.specs.board.Attempts.{Result as Meant, State, attempt};
 ghost use Rattle.ps_model.specs.board.Programs.{group, pass, round, settled};
-ghost use Rattle.ps_engine.specs.RulesInRoom.{groups_meaning, rules_meaning};
+ghost use Rattle.ps_engine.specs.RulesInRoom.{groups_meaning, rule_meaning, rules_meaning};
 ghost use Rattle.ps_engine.specs.Rooms.{GroupsHaveRooms, HaveRooms};
 ghost use Rattle.ps_match.specs.InRoom.{sides_of};
 ghost use Rattle.ps_match.specs.Nowhere.{HasMotionsIn};
 
 use crate::attempts::attempt;
 use crate::kept_board::KeptBoard;
-use crate::lacking::behind_lacking;
+use crate::lacking::{asks_for_others, behind_lacking};
 use crate::lent_queue::LentQueue;
 use crate::watch::Watch;
 use ps_match::Scan;
@@ -96,6 +97,70 @@ fn play_rounds<'r, B: Scan>(
     Ok(())
 }
 
+/// An attempt of a rule, unless it asks for a motion which isn't in the set: then it has no combination. The set has
+/// all motions of the board. Answers whether a cell changed.
+#[inline(always)]
+fn attempt_asked<'r, B: Scan>(
+    rule: &CompiledRule<'r>,
+    motions: MotionSet,
+    board: &mut B,
+    queue: &mut LentQueue<'r>,
+    rooms: &mut [RoomFor<B>],
+) -> bool
+    requires rooms { length rule.now.rows ≤ length rooms.old }
+    requires motions { HasMotionsIn (B.grid board.old) motions }
+    ensures attempt { let before : State = record { grid = B.grid board.old; queue = queue.old } in
+        let after : State = record { grid = B.grid board.new; queue = queue.new } in
+        let all : Meant = record { state = after; changed = result } in
+        all ≡ attempt (rule_meaning (B.table board.old) rule.now) before }
+    ensures table { B.table board.new ≡ B.table board.old }
+    ensures origin { B.origin board.new ≡ B.origin board.old }
+    ensures sides { sides_of (B.grid board.new) ≡ sides_of (B.grid board.old) }
+    ensures rooms { length rooms.new ≡ length rooms.old }
+{
+    if asks_for_others(board, motions, rule) {
+        return false;
+    }
+    attempt(rule, board, queue, rooms)
+}
+
+/// The rest of a group behind the first rule that has changed something: the rest of the first round, from the rule of
+/// that number on, and the rounds behind it. Few groups come to it, so that it is apart, and the first rules of a group
+/// are looked at with nothing else to keep. Behind it the set has all motions of the board.
+///
+/// # Errors
+///
+/// `Memory`, where there are many rounds and no board alike is kept; some of them have been made.
+#[inline(never)]
+fn play_on<'r, B: Scan>(
+    rules: &[CompiledRule<'r>],
+    first: usize,
+    board: &mut B,
+    queue: &mut LentQueue<'r>,
+    rooms: &mut [RoomFor<B>],
+    motions: &mut MotionSet,
+    kept: &mut KeptBoard<B>,
+) -> Result<(), Memory>
+    requires rooms { HaveRooms (length rooms.old) rules.now }
+    requires first { first ≤ length rules.now }
+    ensures settled { let before : State = record { grid = B.grid board.old; queue = queue.old } in
+        let after : State = record { grid = B.grid board.new; queue = queue.new } in
+        let all : Meant = record { state = after; changed = true } in
+        let meant = rules_meaning (B.table board.old) rules.now in
+        let rest = round (rules_meaning (B.table board.old) (drop first rules.now)) before in
+        OnOk result (all ≡ settled meant (ROUND_LIMIT - 1) true rest.state) }
+    ensures table { B.table board.new ≡ B.table board.old }
+    ensures origin { B.origin board.new ≡ B.origin board.old }
+    ensures sides { sides_of (B.grid board.new) ≡ sides_of (B.grid board.old) }
+    ensures rooms { length rooms.new ≡ length rooms.old }
+    ensures motions { HasMotionsIn (B.grid board.new) motions.new }
+{
+    *motions = board.motions_there();
+    let (_front, rest) = rules.split_at(first);
+    round(rest, board, queue, rooms, motions);
+    play_rounds(rules, ROUND_LIMIT - 1, board, queue, rooms, motions, kept)
+}
+
 /// A group: rounds until one changes nothing, as many as are allowed, without whole periods where they come back.
 /// Answers whether one changed something. Most groups have nothing to do, so that a call for each would be felt: this
 /// is in line.
@@ -124,11 +189,16 @@ pub fn play_group<'r, B: Scan>(
     ensures rooms { length rooms.new ≡ length rooms.old }
     ensures motions { HasMotionsIn (B.grid board.new) motions.new }
 {
-    if !round(rules, board, queue, rooms, motions) {
-        return Ok(false);
+    for number in 0..rules.len() {
+        if attempt_asked(&rules[number], *motions, board, queue, rooms) {
+            let mut moved = *motions;
+            let played = play_on(rules, number + 1, board, queue, rooms, &mut moved, kept);
+            *motions = moved;
+            played?;
+            return Ok(true);
+        }
     }
-    play_rounds(rules, ROUND_LIMIT - 1, board, queue, rooms, motions, kept)?;
-    Ok(true)
+    Ok(false)
 }
 
 /// A pass of a loop's body: its groups in order. Answers whether one changed something.

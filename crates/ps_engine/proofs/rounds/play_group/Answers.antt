@@ -1,34 +1,81 @@
-use Rattle.std.proofs.Common.{◌≡◌, ◌∙◌, ◌-◌, ℕ, Bool, true, false, Option, List, refl, sym, ap, arith}
+use Rattle.std.proofs.Common.{◌≡◌, ◌∙◌, ◌-◌, ◌+◌, ℕ, Bool, true, false, Option, List, drop, refl, sym, ap, subst}
+use Rattle.std.proofs.Common.{arith}
 use Rattle.ps_model.specs.declared.limits.TheConstants.{ROUND_LIMIT}
-use Rattle.ps_model.specs.board.Attempts.{State, Result}
+use Rattle.ps_model.specs.board.Grid.{Grid}
+use Rattle.ps_model.specs.board.Attempts.{State, Result, attempt}
 use Rattle.ps_model.specs.board.Programs.{round, settled}
 use Rattle.ps_model.specs.meaning.RuleMeanings.{RuleMeaning}
-use Rattle.ps_engine.specs.RulesInRoom.{rules_meaning}
-use Rattle.ps_engine.proofs.Sequences.{group_is, settled_off, settled_on}
+use Rattle.ps_match.specs.Nowhere.{HasMotionsIn}
+use Rattle.ps_program.specs.declared.rules.CompiledRule.{CompiledRule}
+use Rattle.ps_engine.specs.RulesInRoom.{rule_meaning, rules_meaning}
+use Rattle.ps_engine.proofs.Sequences.{group_is, round_end, round_more, settled_off, settled_on}
+use Rattle.ps_engine.proofs.Unchanged.{made_kept}
 use Rattle.ps_engine.proofs.rounds.play_group.Goals as goal
 
-pub returns-then-not-round-clause-group : goal.returns-then-not-round-clause-group
-returns-then-not-round-clause-group g c =
-    let meant : List RuleMeaning = rules_meaning (g.B.Board.table c.args.board.now) c.args.rules.now in
-    let now : State = record { grid = g.B.Board.grid c.args.board.now; queue = c.args.queue.now } in
-    let next : State = record { grid = g.B.Board.grid c.round.new.board; queue = c.round.new.queue } in
-    let made : (let r : Result = record { state = next; changed = false } in r) ≡ round meant now =
-    ap (λ (b : Bool). let r : Result = record { state = next; changed = b } in r) (sym c.if-not-round.true)
-    ∙ c.round.ensures.round in
-    settled_off meant ROUND_LIMIT (ROUND_LIMIT - 1) false now next (omega arith) made
-    ∙ group_is meant ROUND_LIMIT now refl
+pub returns-then-attempt_asked-clause-group : goal.returns-then-attempt_asked-clause-group
+returns-then-attempt_asked-clause-group g c =
+    let table : Option (List ℕ) = g.B.Board.table c.args.board.now in
+    let rules : List CompiledRule = c.args.rules.now in
+    let meant : List RuleMeaning = rules_meaning table rules in
+    let at : ℕ = c.loop-number.number in
+    let rule : CompiledRule = c.index-rules-number.result in
+    let before : State = record { grid = g.B.Board.grid c.args.board.now; queue = c.args.queue.now } in
+    let now : State = record { grid = g.B.Board.grid c.loop-number.board; queue = c.loop-number.queue } in
+    let next : State = record { grid = g.B.Board.grid c.attempt_asked.new.board; queue = c.attempt_asked.new.queue } in
+    let same : g.B.Board.table c.attempt_asked.new.board ≡ table =
+    c.attempt_asked.ensures.table ∙ c.loop-number.invariant.table in
+    let made : (let r : Result = record { state = next; changed = true } in r)
+    ≡ attempt (rule_meaning table rule) now =
+    ap (λ (b : Bool). let r : Result = record { state = next; changed = b } in r) (sym c.if-attempt_asked.true)
+    ∙ c.attempt_asked.ensures.attempt
+    ∙ ap (λ (t : Option (List ℕ)). attempt (rule_meaning t rule) now) c.loop-number.invariant.table in
+    let rest : State = (round (rules_meaning table (drop (at + 1) rules)) next).state in
+    let first : (let r : Result = record { state = rest; changed = true } in r) ≡ round meant before =
+    round_more (rule_meaning table) rules at rule false true now next c.loop-number-test.true c.index-rules-number.is
+    made ∙ c.loop-number.invariant.round in
+    c.in_ok-played.ensures.settled
+    ∙ ap (λ (t : Option (List ℕ)). settled (rules_meaning t rules) (ROUND_LIMIT - 1) true
+    (round (rules_meaning t (drop (at + 1) rules)) next).state) same
+    ∙ settled_on meant ROUND_LIMIT (ROUND_LIMIT - 1) false before rest (omega arith) first
+    ∙ group_is meant ROUND_LIMIT before refl
+
+pub loop-number-preserved : goal.loop-number-preserved
+loop-number-preserved g c =
+    let table : Option (List ℕ) = g.B.Board.table c.args.board.now in
+    let was = c.loop-number.invariant in
+    let rules : List CompiledRule = c.args.rules.now in
+    let at : ℕ = c.loop-number.number in
+    let rule : CompiledRule = c.index-rules-number.result in
+    let now : State = record { grid = g.B.Board.grid c.loop-number.board; queue = c.loop-number.queue } in
+    let next : State = record { grid = g.B.Board.grid c.attempt_asked.new.board; queue = c.attempt_asked.new.queue } in
+    let after : Result = record { state = next; changed = c.attempt_asked.result } in
+    let made : after ≡ attempt (rule_meaning table rule) now =
+    c.attempt_asked.ensures.attempt
+    ∙ ap (λ (t : Option (List ℕ)). attempt (rule_meaning t rule) now) was.table in
+    let off : (let r : Result = record { state = next; changed = false } in r)
+    ≡ attempt (rule_meaning table rule) now =
+    ap (λ (b : Bool). let r : Result = record { state = next; changed = b } in r) (sym c.if-attempt_asked.false)
+    ∙ made in
+    record {
+      round = round_more (rule_meaning table) rules at rule false false now next c.loop-number-test.true
+          c.index-rules-number.is off ∙ was.round;
+      table = c.attempt_asked.ensures.table ∙ was.table;
+      origin = c.attempt_asked.ensures.origin ∙ was.origin;
+      sides = c.attempt_asked.ensures.sides ∙ was.sides;
+      rooms = c.attempt_asked.ensures.rooms ∙ was.rooms;
+      motions = subst (λ (grid : Grid). HasMotionsIn grid c.loop-number.motions)
+          (sym (made_kept (rule_meaning table rule) now after made c.if-attempt_asked.false)) was.motions;
+    }
 
 pub returns-clause-group : goal.returns-clause-group
 returns-clause-group g c =
     let table : Option (List ℕ) = g.B.Board.table c.args.board.now in
     let meant : List RuleMeaning = rules_meaning table c.args.rules.now in
-    let now : State = record { grid = g.B.Board.grid c.args.board.now; queue = c.args.queue.now } in
-    let next : State = record { grid = g.B.Board.grid c.round.new.board; queue = c.round.new.queue } in
-    let made : (let r : Result = record { state = next; changed = true } in r) ≡ round meant now =
-    ap (λ (b : Bool). let r : Result = record { state = next; changed = b } in r) (sym c.if-not-round.false)
-    ∙ c.round.ensures.round in
-    c.in_ok-play_rounds.ensures.settled
-    ∙ ap (λ (t : Option (List ℕ)). settled (rules_meaning t c.args.rules.now) (ROUND_LIMIT - 1) true next)
-    c.round.ensures.table
-    ∙ settled_on meant ROUND_LIMIT (ROUND_LIMIT - 1) false now next (omega arith) made
-    ∙ group_is meant ROUND_LIMIT now refl
+    let before : State = record { grid = g.B.Board.grid c.args.board.now; queue = c.args.queue.now } in
+    let now : State = record { grid = g.B.Board.grid c.loop-number.board; queue = c.loop-number.queue } in
+    let made : (let r : Result = record { state = now; changed = false } in r) ≡ round meant before =
+    round_end (rule_meaning table) c.args.rules.now c.loop-number.number false now
+    (omega (arith, c.loop-number-test.false))
+    ∙ c.loop-number.invariant.round in
+    settled_off meant ROUND_LIMIT (ROUND_LIMIT - 1) false before now (omega arith) made
+    ∙ group_is meant ROUND_LIMIT before refl

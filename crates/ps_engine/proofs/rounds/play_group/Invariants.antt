@@ -1,0 +1,23 @@
+use Rattle.std.proofs.Common.{◌≡◌, drop, false, length, map}
+use Rattle.ps_match.specs.InRoom.{sides_of}
+use Rattle.ps_match.specs.Nowhere.{HasMotionsIn}
+use Rattle.ps_model.specs.board.Attempts.{State}
+use Rattle.ps_model.specs.board.Programs.{after_change, round}
+use Rattle.ps_engine.specs.RulesInRoom.{rule_meaning, rules_meaning}
+use Rattle.ps_engine.proofs.rounds.play_group.Given as goal
+
+-- the rules passed by were attempted, and changed nothing
+abbrev pub invariant-loop-number : goal.invariant-loop-number
+invariant-loop-number g l =
+    let before : State = record { grid = g.B.Board.grid l.fn.board; queue = l.fn.queue } in
+    let now : State = record { grid = g.B.Board.grid l.board; queue = l.queue } in
+    let table = g.B.Board.table l.fn.board in
+    record {
+      round : after_change false (round (map (rule_meaning table) (drop l.number l.rules)) now) ≡ round
+          (rules_meaning table l.rules) before;
+      table : g.B.Board.table l.board ≡ table;
+      origin : g.B.Board.origin l.board ≡ g.B.Board.origin l.fn.board;
+      sides : sides_of (g.B.Board.grid l.board) ≡ sides_of (g.B.Board.grid l.fn.board);
+      rooms : length l.rooms ≡ length l.fn.rooms;
+      motions : HasMotionsIn (g.B.Board.grid l.board) l.motions;
+    }
