@@ -64,6 +64,7 @@ fn give_back<B: Board>(stage: &mut Stage<'_, B>, location: Location<PlayedLevel<
 
 /// The board of a level that is left is handed on to the one that comes next, for its turns, where some rows are known
 /// outside of which the two show the same objects. Else the boards of the one that is left are there to be used again.
+#[inline(always)]
 fn hand_on<B: Board>(
     stage: &mut Stage<'_, B>,
     level: PlayedLevel<B>,
@@ -102,6 +103,7 @@ pub fn give_up<B: Board>(stage: &mut Stage<'_, B>, next: NextLevel<B>)
 
 /// The board of a level that is left, which is ready, enters the history. The level's own board is handed on to the one
 /// that comes next, or there to be used again.
+#[inline(always)]
 fn add_to_history<B: Board, H: History<B>>(
     stage: &mut Stage<'_, B>,
     history: &mut H,

@@ -88,6 +88,7 @@ impl<'g, B: Board> Stage<'g, B> {
     }
 
     /// Goes where the turns of a key have ended, with the history as it is then.
+    #[inline(always)]
     fn finish_key<R: Rules<B>>(
         &mut self,
         rules: &mut TurnRules<B, R>,

@@ -564,6 +564,7 @@ impl<B: Board> PlayedLevel<B> {
 
     /// Its board becomes the one for turns of the next level, if that has none, and else is there to be used again. The
     /// two show the same objects outside of these rows.
+    #[inline(always)]
     pub(crate) fn hand_on(
         self,
         spares: &mut SpareBoards<B>,

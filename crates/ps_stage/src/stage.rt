@@ -144,6 +144,7 @@ impl<'g, B: Board> Stage<'g, B> {
     }
 
     /// The room that the next frame of a board shows, where the last one showed a room. No memory is taken.
+    #[inline(always)]
     pub fn room_after(&self, board: &B, last: Room) -> Room
         ensures { result ≡ room_after self.now.game.options.flickscreen self.now.game.names (B.grid board.now) last }
     {
@@ -175,6 +176,7 @@ impl<'g, B: Board> Stage<'g, B> {
 
     /// Hands the board of a level that is left on to the next one, for its turns, or else keeps it to be used again.
     /// The two levels show the same objects outside of these rows. No memory is taken.
+    #[inline(always)]
     pub fn hand_on(
         &mut self,
         level: PlayedLevel<B>,
