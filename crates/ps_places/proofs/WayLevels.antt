@@ -2,6 +2,7 @@
 -- first one.
 use Rattle.std.proofs.Common.{◌≡◌, ◌∙◌, ℕ, ◌+◌, Bool, true, false, Option, List, [], ◌∷◌, length, refl, sym, ap, ap₂}
 use Rattle.std.proofs.Common.{arith}
+use Rattle.std.proofs.lemmas.List.{nil_from_length}
 use Rattle.ps_model.specs.board.Grid.{Grid}
 use Rattle.ps_program.specs.declared.cells.CompiledCell.{CompiledCell}
 use Rattle.ps_program.specs.declared.rows.Axis.{Axis}
@@ -107,10 +108,6 @@ level-unfit g table axis line parts cells part others sets set more old p way e 
     ∙ out))
 
 -- the last part alone is left
-length-none : {X : Type 0} (xs : List X) → length xs ≡ 0 → xs ≡ []
-length-none [] e = refl
-length-none (x ∷ xs) e = absurd (omega (arith, e))
-
 pub level-last : (g : Grid) (table : Option (List ℕ)) (axis : Axis) (line : ℕ) (parts : List (List CompiledCell))
     (part : List CompiledCell) (others : List (List CompiledCell))
     (sets : List (List Bool)) (set : List Bool) (more : List (List Bool)) (old : List ℕ) (p : ℕ) (way : List ℕ) →
@@ -120,5 +117,5 @@ pub level-last : (g : Grid) (table : Option (List ℕ)) (axis : Axis) (line : �
     ≡ from_first (way_fits g table axis line parts) (ways_from sets (part_sizes parts) (p + 1))
 level-last g table axis line parts part others sets set more old p way e f was long alone =
     let short : length more ≡ 0 = omega (arith, ap length e, ap length f, long, alone) in
-    let empty : more ≡ [] = length-none more short in
+    let empty : more ≡ [] = nil_from_length more short in
     level-done g table axis line parts part others sets set more old p way e f was (rw empty refl)

@@ -25,11 +25,6 @@ use Rattle.ps_rows.proofs.Rows.{row_told}
 use Rattle.ps_rows.proofs.Scans.{and3, mask_free, mask_narrowed}
 use Rattle.ps_rows.proofs.Sets.{both_at, none_at, set_where, wide_of, wide_on, without_at}
 
--- a list without members
-pub none_left : {X : Type 0} (xs : List X) → length xs ≡ 0 → xs ≡ []
-none_left [] none = refl
-none_left (x ∷ xs) none = absurd (omega arith)
-
 -- one row ------------------------------------------------------------------------------------------------------------
 
 module _ (g : Grid) (row : ℕ) (columns : List Bool) (test : List Slot → Bool) where

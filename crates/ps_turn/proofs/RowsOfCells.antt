@@ -25,7 +25,7 @@ use Rattle.ps_board.proofs.PassedColumns.{cell_below}
 use Rattle.ps_board.proofs.Taken.{AreBelow}
 use Rattle.ps_turn.specs.RowsOfCells.{columns_within, row_cells, has_each}
 use Rattle.ps_turn.specs.Sweeps.{holds_any}
-use Rattle.ps_turn.proofs.WhereObjectsStand.{same_by, among_by}
+use Rattle.ps_turn.proofs.WhereObjectsStand.{among_by, holds_bare, same_by}
 
 -- sets of columns -----------------------------------------------------------------------------------------------------
 
@@ -336,14 +336,10 @@ one_in_front held others (object ∷ objects) =
     ∙ or_across (same_object held object) (is_among others object) (is_among objects held)
     (list_any (is_among others) objects)
 
-bare_has_none : (objects : List ObjectId) → holds_any objects Bare ≡ false
-bare_has_none [] = refl
-bare_has_none (object ∷ objects) = bare_has_none objects
-
 pub cell_has_some : (objects : List ObjectId) (cell : List Slot) →
     list_any (holds_any objects) cell ≡ list_any (is_among (objects_in cell)) objects
 cell_has_some objects [] = sym (no_objects objects)
-cell_has_some objects (Bare ∷ cell) = ap (λ (b : Bool). b || list_any (holds_any objects) cell) (bare_has_none objects)
+cell_has_some objects (Bare ∷ cell) = ap (λ (b : Bool). b || list_any (holds_any objects) cell) (holds_bare objects)
     ∙ cell_has_some objects cell
 cell_has_some objects (Holds held motion ∷ cell) =
     ap₂ (λ (a b : Bool). a || b) (among_by objects held) (cell_has_some objects cell)
@@ -353,7 +349,7 @@ pub cell_has_any_of : (objects : List ObjectId) (cell : List Slot) →
     list_any (holds_any objects) cell ≡ list_any (is_among objects) (objects_in cell)
 cell_has_any_of objects [] = refl
 cell_has_any_of objects (Bare ∷ cell) = ap (λ (b : Bool).
-    b || list_any (holds_any objects) cell) (bare_has_none objects) ∙ cell_has_any_of objects cell
+    b || list_any (holds_any objects) cell) (holds_bare objects) ∙ cell_has_any_of objects cell
 cell_has_any_of objects (Holds held motion ∷ cell) =
     ap₂ (λ (a b : Bool). a || b) (among_by objects held) (cell_has_any_of objects cell)
 

@@ -39,7 +39,7 @@ layer_more g objects layer row count all more object within is so_far told =
     ∙ sym (list_any_more (λ o. slot_holds o (slot_at g (x * g.height + row) layer)) objects count object within))
 
 -- and none of them stands beyond the last column
-holds_bare : (objects : List ObjectId) → holds_any objects Bare ≡ false
+pub holds_bare : (objects : List ObjectId) → holds_any objects Bare ≡ false
 holds_bare [] = refl
 holds_bare (object ∷ objects) = holds_bare objects
 
