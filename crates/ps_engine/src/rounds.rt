@@ -191,6 +191,7 @@ pub fn play_group<'r, B: Scan>(
 {
     for number in 0..rules.len() {
         if attempt_asked(&rules[number], *motions, board, queue, rooms) {
+            // A copy is lent, so that the set needn't lie in memory as long as nothing has changed.
             let mut moved = *motions;
             let played = play_on(rules, number + 1, board, queue, rooms, &mut moved, kept);
             *motions = moved;

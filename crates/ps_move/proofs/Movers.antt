@@ -13,6 +13,7 @@ use Rattle.ps_board.specs.ColumnSets.{both_columns, column_at, columns_below, ei
 use Rattle.ps_board.specs.RowsOfGrids.{MoveOnlyOn, is_moving, row_movers}
 use Rattle.ps_board.proofs.ColumnLaws.{column_at-where}
 use Rattle.ps_board.proofs.AllRows.{none_outside}
+use Rattle.ps_board.proofs.EmptySets.{at_both}
 use Rattle.ps_move.specs.Parts.{IsBelow}
 
 -- a row in whose columns beside these the objects of a layer are still
@@ -43,12 +44,6 @@ pub movers_beside : (g : Grid) (layer row : ℕ) → IsGrid g → IsStillRow g l
 movers_beside g layer row shape = λ column across out.
     sym (column_at-where (λ y. is_moving (slot_at g (y * g.height + row) layer)) column
     (omega (arith, across, shape.columns))) ∙ out
-
--- the numbers of a set that are in another
-at_both : (set other both : List Bool) (x : ℕ) → both ≡ both_columns set other → x < SIDE_LIMIT →
-    column_at both x ≡ (column_at set x && column_at other x)
-at_both set other both x e low =
-    ap (λ (cs : List Bool). column_at cs x) e ∙ column_at-where (λ y. column_at set y && column_at other y) x low
 
 pub below_both : (count : ℕ) (set other both : List Bool) → both ≡ both_columns set other → IsBelow count set →
     IsBelow count both

@@ -14,6 +14,7 @@ use Rattle.ps_board.specs.ColumnSets.{both_columns, column_at, columns_below, ei
 use Rattle.ps_board.specs.ColumnSets.{with_column}
 use Rattle.ps_board.proofs.ColumnLaws.{column_at-beyond, column_at-where, first_in, none_in}
 use Rattle.ps_board.proofs.ColumnLaws.{with_here, with_other}
+use Rattle.ps_board.proofs.EmptySets.{at_both}
 use Rattle.ps_board.proofs.Taken.{passed-init, taken_gone, taken_out}
 use Rattle.ps_places.specs.Candidates.{BeginsOnlyOn}
 use Rattle.ps_places.specs.FoundStarts.{IsPartFound, IsRowAdded, begins_on, set_of, with_row}
@@ -219,11 +220,6 @@ either_at : (found columns more : List Bool) (x : ℕ) → more ≡ either_colum
 either_at found columns more x e low = ap (λ (cs : List Bool). column_at cs x) e
     ∙ column_at-where (λ y. column_at found y || column_at columns y) x low
 
-both_at : (fits within columns : List Bool) (x : ℕ) → columns ≡ both_columns fits within → x < SIDE_LIMIT →
-    column_at columns x ≡ (column_at fits x && column_at within x)
-both_at fits within columns x e low = ap (λ (cs : List Bool). column_at cs x) e
-    ∙ column_at-where (λ y. column_at fits y && column_at within y) x low
-
 inside_by : (found here : Bool) (inside : Bool) → (found ≡ true → inside ≡ true) → (here ≡ true → inside ≡ true) →
     (found || here) ≡ true → inside ≡ true
 inside_by true here inside e d is = e refl
@@ -241,7 +237,7 @@ gathering-more g table part within count number row old now more found left rest
     begins c f added gathering =
     record {
       all = λ x y low near.
-          let here : column_at columns x ≡ wanted g table part within x row = both_at fits within columns x c low
+          let here : column_at columns x ≡ wanted g table part within x row = at_both fits within columns x c low
           ∙ ap (λ (b : Bool). b && column_at within x) (begins.at x low) in
           let wants : Bool = wanted g table part within x y in
           ap₂ (λ (b : Bool) (set : List Bool). (b && column_at set y) || (column_at rest y && wants))
@@ -256,7 +252,7 @@ gathering-more g table part within count number row old now more found left rest
             inside_by (column_at found x) (column_at columns x) (column_at within x) (gathering.inside x)
             (λ yes.
             let both = and_parts (column_at fits x) (column_at within x)
-            (sym (both_at fits within columns x c low) ∙ yes) in
+            (sym (at_both fits within columns x c low) ∙ yes) in
             both.1)
             (sym (either_at found columns found_now x f low) ∙ is)
         | inr far ↦

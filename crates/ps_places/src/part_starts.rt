@@ -324,6 +324,7 @@ pub fn find_rows<B: Scan>(
     ensures long { length starts.new ≡ length starts.old }
 {
     let (_width, height) = board.size();
+    // Joined with all, so that no row is among them that a set has no place for.
     let rows = rows_of_part(board, axis, part).both(Columns::all());
     let mut left = rows;
     let Some(first) = left.take_first() else {

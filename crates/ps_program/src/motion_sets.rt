@@ -1,5 +1,5 @@
-//! Sets of motions: each motion of a layer has a place in them, which layers that are twelve apart share. What a rule asks
-//! for and what a board has are compared by one look at two such sets.
+//! Sets of motions: each motion of a layer has a place in them, which layers that are twelve apart share. What a rule
+//! asks for and what a board has are compared by one look at two such sets.
 
 ghost use Rattle.std.specs.Prelude.{◌≡◌, ◌*◌, ◌<◌, IfSome};
 ghost use Rattle.ps_program.specs.MotionSets.{motion_place, place_on_layer, places_asked, with_place};

@@ -76,7 +76,7 @@ fn put_alike<B: Board>(
 {
     if left.has_few() {
         text.put(start as usize + column as usize, byte);
-        return left.without(left.both(Columns::none()).with(column, true));
+        return left.without(Columns::none().with(column, true));
     }
     let group = left.both(board.alike(row, column)).with(column, true);
     put_columns(text, start, group, byte);
