@@ -7,7 +7,7 @@ ghost use Rattle.ps_run.specs.GamesInPlay.{script_on};
 ghost use Rattle.ps_run.specs.Runs.{ComesOrStops};
 
 use crate::game_play::GamePlay;
-use crate::play::{Play, write_output};
+use crate::play::Play;
 use ps_devices::{ByteReader, ByteWriter, RunFault};
 use ps_keys::Keys;
 use ps_model::{Ending, Memory};

@@ -10,6 +10,7 @@ mod player;
 mod row_play;
 mod sized_play;
 mod text_run;
+mod writing;
 
 pub use laws::answers_carry_over;
 pub use player::GamePlayer;

@@ -10,7 +10,8 @@ ghost use Rattle.ps_run.specs.Played.{HasTaken, HavePlayed, StopsAs, StopsAtText
 
 use crate::faults::{PieceFault, fault_of_piece};
 use crate::game_play::GamePlay;
-use ps_devices::{ByteReader, ByteWriter, RunFault, write_whole};
+use crate::writing::write_output;
+use ps_devices::{ByteReader, ByteWriter, RunFault};
 use ps_keys::Keys;
 use ps_model::{CALL_LIMIT, Ending, Key, Memory, READ_LIMIT};
 use ps_screen::OutputText;
@@ -20,21 +21,6 @@ pub struct Play<'g> {
     pub game: GamePlay<'g>,
     pub keys: Keys,
     pub output: OutputText,
-}
-
-/// Writes what the output has.
-pub fn write_output<W: ByteWriter>(output: &OutputText, writer: &mut W) -> Result<(), PieceFault>
-    requires { (W.state writer.old).has_failed ≡ false }
-    ensures written { OnOk result (HasTaken (W.state writer.old) (W.state writer.new) output.now 1) }
-    ensures stops { IfErr result (λ fault. StopsAtText fault (W.state writer.old) (W.state writer.new) output.now) }
-    ensures well { result ≢ Err PieceFault.Write → (W.state writer.new).has_failed ≡ false }
-    ensures told { result ≡ Err PieceFault.Write → (W.state writer.new).has_failed ≡ true }
-    ensures fault { result ≢ Err PieceFault.Memory }
-{
-    match write_whole(output.bytes(), writer) {
-        Ok(()) => Ok(()),
-        Err(_) => Err(PieceFault::Write),
-    }
 }
 
 impl<'g> Play<'g> {

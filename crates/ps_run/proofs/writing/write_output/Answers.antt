@@ -1,5 +1,5 @@
 use Rattle.ps_run.proofs.Playing.{written_front}
-use Rattle.ps_run.proofs.play.write_output.Goals as goal
+use Rattle.ps_run.proofs.writing.write_output.Goals as goal
 
 pub returns-in-Err-clause-stops : goal.returns-in-Err-clause-stops
 returns-in-Err-clause-stops g c = written_front _ _ _ _ c.in-Err.ensures.front.0 c.bytes.ensures
