@@ -8,6 +8,7 @@ ghost use Rattle.ps_run.specs.Runs.{ComesOrStops};
 
 use crate::game_play::GamePlay;
 use crate::play::Play;
+use crate::writing::write_output;
 use ps_devices::{ByteReader, ByteWriter, RunFault};
 use ps_keys::Keys;
 use ps_model::{Ending, Memory};
