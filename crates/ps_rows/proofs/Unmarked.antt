@@ -1,9 +1,9 @@
 -- Rows that aren't marked in the planes of an object, of a motion, or of all motions.
 use Rattle.std.proofs.Common.{◌≡◌, ◌∙◌, ℕ, suc, ◌+◌, ◌*◌, ◌<◌, ◌≤◌, ◌&&◌, inl, inr, Bool, false, not, Some, List, []}
-use Rattle.std.proofs.Common.{◌∷◌, length, get_or, refl, sym, arith}
+use Rattle.std.proofs.Common.{◌∷◌, ap, length, get_or, refl, sym, arith}
 use Rattle.std.specs.Prelude.{nat_lt, slice_get}
 use Rattle.std.specs.List.{list_any}
-use Rattle.std.proofs.lemmas.Bool.{cases_Bool, cases_eq, cases_lt, and_parts, or_parts, false≢true}
+use Rattle.std.proofs.lemmas.Bool.{cases_Bool, cases_eq, cases_lt, and_parts, or_parts, false≢true, lt-ltb}
 use Rattle.std.proofs.lemmas.Option.{slice_get_within}
 use Rattle.ps_model.specs.declared.pieces.ObjectId.{ObjectId}
 use Rattle.ps_model.specs.declared.pieces.Direction.TheVariants.{Up, Down, Left, Right}
@@ -13,13 +13,13 @@ use Rattle.ps_model.specs.declared.pieces.Slot.{Slot}
 use Rattle.ps_model.specs.declared.pieces.Slot.TheVariants.{Bare}
 use Rattle.ps_model.specs.declared.compiled.LayeredObject.{LayeredObject}
 use Rattle.ps_model.specs.declared.compiled.MotionTest.{MotionTest}
-use Rattle.ps_model.specs.board.Grid.{cell_at, motion_in, slot_at}
+use Rattle.ps_model.specs.board.Grid.{Grid, cell_at, motion_in, slot_at}
 use Rattle.ps_model.specs.board.Movement.{is_number}
 use Rattle.ps_model.specs.meaning.Compiled.{slot_holds}
 use Rattle.ps_model.specs.meaning.Fitting.{same_motion}
 use Rattle.ps_laws.proofs.common.SameThings.{is_number-true}
 use Rattle.ps_board.specs.RowsOfGrids.{is_moving}
-use Rattle.ps_match.specs.Nowhere.{NoneMovesOnRow}
+use Rattle.ps_match.specs.Nowhere.{HasMovesIn, NoneMovesOnRow}
 use Rattle.ps_rows.specs.RowIndex.{AreRowsMarked}
 use Rattle.ps_rows.specs.RowTests.{IsRowOf, held, moved}
 use Rattle.ps_rows.specs.Showing.{motions_from, motion_plane, grid_shown, AreObjectsShown, AreMotionsShown}
@@ -27,7 +27,8 @@ use Rattle.ps_rows.proofs.Absent.{not_marked}
 use Rattle.ps_rows.proofs.Sets.{either_at, none_at}
 use Rattle.ps_rows.proofs.Moves.{plane_low, plane_high}
 use Rattle.ps_rows.proofs.Scans.{other_row, moving_row_is, beyond_row}
-use Rattle.ps_board.specs.ColumnSets.{column_at, either_columns, no_columns}
+use Rattle.ps_board.specs.ColumnSets.{column_at, columns_below, either_columns, no_columns}
+use Rattle.ps_board.proofs.ColumnLaws.{column_at-where}
 use Rattle.ps_model.specs.declared.limits.TheConstants.{SIDE_LIMIT}
 use Rattle.ps_rows.specs.Planes.{row_of}
 
@@ -167,3 +168,12 @@ module _ (table : List ℕ) (width height layers : ℕ) (words : List (List Bool
       no_slot is_moving cell
       (λ layer. at_rest_by (motion_in (get_or cell layer Bare)) (λ other going.
       sym (unmoved layer other shown blank going x across) ∙ none_at x))
+
+-- no row of a board is outside of all for which there is room
+pub may_move_anywhere : (g : Grid) (test : MotionTest) (limit : ℕ) (rows : List Bool) → g.height ≤ SIDE_LIMIT →
+    g.height ≤ limit → rows ≡ columns_below limit → HasMovesIn g test rows
+may_move_anywhere g test limit rows low room all = λ row under none.
+    let within : row < SIDE_LIMIT = omega (arith, under, low) in
+    let here : column_at rows row ≡ nat_lt row limit =
+    ap (λ (set : List Bool). column_at set row) all ∙ column_at-where (λ x. nat_lt x limit) row within in
+    absurd (false≢true (sym none ∙ here ∙ lt-ltb row limit (omega (arith, under, room))))

@@ -67,16 +67,16 @@ impl<W: ColumnWords> Scan for RowBoard<W> {
         self.rows_of(object.object.0)
     }
 
-    /// The rows of the motion's plane, by the index; all rows, for rest, and for a layer that the board doesn't have.
+    /// The rows of the motion's plane, by the index; for rest, and for a layer that the board doesn't have, all for which
+    /// a set has room, as that is no more than a word, and the answer cuts other rows.
     fn rows_moving(&self, test: &MotionTest) -> Columns<W> {
-        let (_width, height) = self.size();
         if self.layers() <= test.layer.0 {
-            return Columns::below(height);
+            return Columns::all();
         }
         let first = self.motions_from(test.layer.0);
         match motion_plane(first, test.motion) {
             Some(plane) => self.rows_of(plane),
-            None => Columns::below(height),
+            None => Columns::all(),
         }
     }
 

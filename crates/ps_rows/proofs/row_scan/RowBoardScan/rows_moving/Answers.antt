@@ -1,15 +1,16 @@
-use Rattle.std.proofs.Common.{◌≡◌, ◌<◌, ◌∙◌, ℕ, Bool, List, Some, false, ap, sym, arith}
+use Rattle.std.proofs.Common.{◌≡◌, ◌<◌, ◌∙◌, ℕ, Bool, List, Some, ap, false, sym, arith}
 use Rattle.ps_board.specs.ColumnSets.{column_at}
-use Rattle.ps_match.proofs.AllRows.{all_moving}
-use Rattle.ps_rows.specs.Showing.{motion_plane, motions_from}
+use Rattle.ps_rows.specs.Showing.{grid_shown, motion_plane, motions_from}
 use Rattle.ps_rows.proofs.Marked.{planes_indexed}
-use Rattle.ps_rows.proofs.Unmarked.{none_moves}
+use Rattle.ps_rows.proofs.Unmarked.{may_move_anywhere, none_moves}
 use Rattle.ps_rows.specs.Planes.{row_of}
 use Rattle.ps_rows.proofs.row_scan.RowBoardScan.rows_moving.Goals as goal
 
 pub returns-then-layers-test : goal.returns-then-layers-test
-returns-then-layers-test g c = all_moving _ c.args.test.now c.size-width.result.1 c.below.result
-    c.size-width.ensures.shape c.size-width.ensures.height c.below.ensures
+returns-then-layers-test g c =
+    let b = c.args.self.now in
+    may_move_anywhere (grid_shown b.members.table.items b.width b.planes.height b.layers b.planes.words.items)
+    c.args.test.now g.W.ColumnWords.limit c.all.result b.planes.rows b.planes.low c.all.ensures
 
 pub returns-in-Some : goal.returns-in-Some
 returns-in-Some g c = λ row under none.
@@ -29,5 +30,8 @@ returns-in-Some g c = λ row under none.
     b.planes.marked on asked clear
 
 pub returns-in-None : goal.returns-in-None
-returns-in-None g c = all_moving _ c.args.test.now c.size-width.result.1 c.below-in-None.result
-    c.size-width.ensures.shape c.size-width.ensures.height c.below-in-None.ensures
+returns-in-None g c =
+    let b = c.args.self.now in
+    may_move_anywhere (grid_shown b.members.table.items b.width b.planes.height b.layers b.planes.words.items)
+    c.args.test.now g.W.ColumnWords.limit c.all-in-None.result b.planes.rows b.planes.low
+    c.all-in-None.ensures
