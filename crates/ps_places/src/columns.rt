@@ -31,22 +31,26 @@ pub fn columns_across<B: Scan>(board: &B, part: &[CompiledCell], row: u32) -> Co
 }
 
 /// The columns of a row of the board where a part fits that goes down, its first cell there, and doesn't reach beyond
-/// the lower edge.
+/// the lower edge. The first cell is looked at apart from those below it: it fits in columns of the board alone, so
+/// that these needn't be made first.
 pub fn columns_down<B: Scan>(board: &B, part: &[CompiledCell], row: u32) -> Columns<B::Words>
     requires { row < (B.grid board.now).height }
     ensures { AreWhere (begins_down (B.grid board.now) (B.table board.now) part.now row) result }
 {
     let (width, height) = board.size();
-    let mut columns = Columns::below(width);
-    let mut below = row;
-    for cell in part {
+    if part.is_empty() {
+        return Columns::below(width);
+    }
+    let mut columns = board.scan(&part[0].mask, row);
+    let mut below = row + 1;
+    for number in 1..part.len() {
         if columns.is_empty() {
             return columns;
         }
         if height <= below {
             return Columns::none();
         }
-        columns = columns.both(board.scan(&cell.mask, below));
+        columns = columns.both(board.scan(&part[number].mask, below));
         below += 1;
     }
     columns

@@ -309,8 +309,9 @@ fn find_on_rows<B: Scan>(
 /// `scanned` afterwards is anything.
 ///
 /// Where one row is left by what the cells ask for, it is looked at right away: that tells as well whether the part has
-/// room there.
-pub fn find_rows<B: Scan>(
+/// room there. This is in line where a rule has no other part: most such rules have no place, and a call would be felt.
+#[inline(always)]
+fn find_rows_in_line<B: Scan>(
     board: &B,
     axis: Axis,
     part: &[CompiledCell],
@@ -339,9 +340,29 @@ pub fn find_rows<B: Scan>(
     find_on_row(board, axis, part, rows, first, starts)
 }
 
+/// Finds the columns of each row of the board in which one of several parts begins, and answers the rows that have one.
+/// What is in `scanned` afterwards is anything.
+#[inline(never)]
+pub fn find_rows<B: Scan>(
+    board: &B,
+    axis: Axis,
+    part: &[CompiledCell],
+    starts: &mut [Columns<B::Words>],
+    scanned: &mut [Columns<B::Words>],
+) -> Columns<B::Words>
+    requires whole { HasCells part.now }
+    requires room { SIDE_LIMIT ≤ length starts.old }
+    requires scanned { SIDE_LIMIT ≤ length scanned.old }
+    ensures starts { AreStarts (B.grid board.now) (B.table board.now) axis part.now result starts.new }
+    ensures long { length starts.new ≡ length starts.old }
+{
+    find_rows_in_line(board, axis, part, starts, scanned)
+}
+
 impl<W: ColumnWords> RowRoom<Columns<W>> {
     /// Finds where the only part of a row begins as the board is, and answers the rows of the board that have a place:
     /// for each of them its columns are kept. No memory is taken.
+    #[inline(always)]
     pub fn find_part<B: Scan<Words = W>>(
         &mut self,
         board: &B,
@@ -357,7 +378,7 @@ impl<W: ColumnWords> RowRoom<Columns<W>> {
             0 < length (set_columns result) → places (B.grid board.now) (direction_of axis) (meant ∷ []) ≢ [] }
     {
         recall_shape(board);
-        find_rows(
+        find_rows_in_line(
             board,
             axis,
             part,

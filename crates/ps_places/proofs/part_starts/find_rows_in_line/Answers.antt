@@ -5,7 +5,7 @@ use Rattle.ps_places.proofs.LineSets.{none_has}
 use Rattle.ps_places.proofs.OnlyOn.{begin-within}
 use Rattle.ps_places.proofs.FirstRows.{both_within, none_before, none_begun, none_left, one_begun}
 use Rattle.ps_places.proofs.FoundRows.{only_on}
-use Rattle.ps_places.proofs.part_starts.find_rows.Goals as goal
+use Rattle.ps_places.proofs.part_starts.find_rows_in_line.Goals as goal
 
 past : (first high height : ℕ) → high ≡ height → high ≤ first → height ≤ first
 past first high height same far = omega arith
