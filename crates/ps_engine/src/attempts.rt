@@ -30,6 +30,20 @@ fn lacks_object<B: Scan>(board: &B, rule: &CompiledRule) -> bool
     false
 }
 
+/// Whether the board knows that the last object which a rule needs is nowhere; then the rule has no combination. No
+/// memory is taken. Of the objects that a rule needs the last one is nowhere more often than those before it, which are
+/// as a rule the Player's or of another thing that moves.
+#[inline(always)]
+fn lacks_last<B: Scan>(board: &B, rule: &CompiledRule) -> bool
+    ensures { result ≡ true →
+        combinations_on (B.grid board.now) (rule_meaning (B.table board.now) rule.now) ≡ [] }
+{
+    match rule.needed.as_slice().last() {
+        Some(object) => board.lacks(object),
+        None => false,
+    }
+}
+
 /// Finds where each row of a rule fits on the board as it is, and chooses the first place of each. Answers whether
 /// each row has one: whether the rule has a combination.
 fn choose_first<'r, B: Scan>(board: &B, rule: &CompiledRule<'r>, rooms: &mut [RoomFor<B>]) -> bool
@@ -98,7 +112,8 @@ pub fn attempt_rows<'r, B: Scan>(
     walk(board, rows, rooms, rule.sleeps)
 }
 
-/// An attempt of a rule by its kind: of commands alone, with a writer, or of any rows.
+/// An attempt of a rule by its kind: of commands alone, with a writer, or of any rows. A rule of commands alone tells
+/// by its rows soon enough that an object is nowhere.
 #[inline(never)]
 fn attempt_by_kind<'r, B: Scan>(
     rule: &CompiledRule<'r>,
@@ -120,6 +135,9 @@ fn attempt_by_kind<'r, B: Scan>(
         attempt_commands(rule, board, queue, rooms);
         return false;
     }
+    if lacks_object(board, rule) {
+        return false;
+    }
     if let Some(writer) = rule.writer {
         return attempt_writer(rule, writer, board, queue, &mut rooms[0]);
     }
@@ -128,7 +146,8 @@ fn attempt_by_kind<'r, B: Scan>(
 
 /// An attempt of a rule: all combinations of its places are applied in order, each if every row still fits, and its
 /// commands enter the queue, if it has a combination. Answers whether a cell changed. No memory is taken. Most rules
-/// of a large game need an object that is nowhere, and so this is asked in line.
+/// of a large game need an object that is nowhere, and so the last one is asked for in line; whether the others are
+/// there a rule of one part tells by where it begins.
 #[inline(always)]
 pub fn attempt<'r, B: Scan>(
     rule: &CompiledRule<'r>,
@@ -146,7 +165,7 @@ pub fn attempt<'r, B: Scan>(
     ensures sides { sides_of (B.grid board.new) ≡ sides_of (B.grid board.old) }
     ensures rooms { length rooms.new ≡ length rooms.old }
 {
-    if lacks_object(board, rule) {
+    if lacks_last(board, rule) {
         return false;
     }
     if rule.rewrites {

@@ -9,26 +9,26 @@ use Rattle.ps_engine.specs.RulesInRoom.{rule_meaning}
 use Rattle.ps_engine.proofs.Attempting.{attempt_none}
 use Rattle.ps_engine.proofs.attempts.attempt.Goals as goal
 
-pub returns-then-lacks_object-clause-attempt : goal.returns-then-lacks_object-clause-attempt
-returns-then-lacks_object-clause-attempt g c =
+pub returns-then-lacks_last-clause-attempt : goal.returns-then-lacks_last-clause-attempt
+returns-then-lacks_last-clause-attempt g c =
     let grid : Grid = g.B.Board.grid c.args.board.now in
     let table : Option (List ℕ) = g.B.Board.table c.args.board.now in
     let rule = c.args.rule.now in
     attempt_none (direction_of rule.axis) (rows_meaning table rule.rows) rule.rewrites
     (commands_shown rule.commands.now) grid c.args.queue.now
-    (combinations_on grid (rule_meaning table rule)) (c.lacks_object.ensures c.if-lacks_object.true)
+    (combinations_on grid (rule_meaning table rule)) (c.lacks_last.ensures c.if-lacks_last.true)
 
-pub returns-then-lacks_object-clause-table : goal.returns-then-lacks_object-clause-table
-returns-then-lacks_object-clause-table g c = refl
+pub returns-then-lacks_last-clause-table : goal.returns-then-lacks_last-clause-table
+returns-then-lacks_last-clause-table g c = refl
 
-pub returns-then-lacks_object-clause-origin : goal.returns-then-lacks_object-clause-origin
-returns-then-lacks_object-clause-origin g c = refl
+pub returns-then-lacks_last-clause-origin : goal.returns-then-lacks_last-clause-origin
+returns-then-lacks_last-clause-origin g c = refl
 
-pub returns-then-lacks_object-clause-sides : goal.returns-then-lacks_object-clause-sides
-returns-then-lacks_object-clause-sides g c = refl
+pub returns-then-lacks_last-clause-sides : goal.returns-then-lacks_last-clause-sides
+returns-then-lacks_last-clause-sides g c = refl
 
-pub returns-then-lacks_object-clause-rooms : goal.returns-then-lacks_object-clause-rooms
-returns-then-lacks_object-clause-rooms g c = refl
+pub returns-then-lacks_last-clause-rooms : goal.returns-then-lacks_last-clause-rooms
+returns-then-lacks_last-clause-rooms g c = refl
 
 pub attempt_by_kind-requires : goal.attempt_by_kind-requires
 attempt_by_kind-requires g c = c.requires

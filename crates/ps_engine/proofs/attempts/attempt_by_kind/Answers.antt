@@ -1,5 +1,12 @@
-use Rattle.std.proofs.Common.{refl, length}
+use Rattle.std.proofs.Common.{ℕ, Option, List, refl, length}
 use Rattle.std.proofs.lemmas.List.{length-set}
+use Rattle.ps_model.specs.board.Grid.{Grid}
+use Rattle.ps_model.specs.board.Attempts.{combinations_on}
+use Rattle.ps_program.specs.CommandsShown.{commands_shown}
+use Rattle.ps_program.specs.Axes.{direction_of}
+use Rattle.ps_engine.specs.Choosing.{rows_meaning}
+use Rattle.ps_engine.specs.RulesInRoom.{rule_meaning}
+use Rattle.ps_engine.proofs.Attempting.{attempt_none}
 use Rattle.ps_engine.proofs.Within.{writer_room}
 use Rattle.ps_engine.proofs.attempts.attempt_by_kind.Goals as goal
 
@@ -23,6 +30,27 @@ returns-then-not-rule-clause-sides g c = refl
 
 pub returns-then-not-rule-clause-rooms : goal.returns-then-not-rule-clause-rooms
 returns-then-not-rule-clause-rooms g c = c.attempt_commands.ensures.rooms
+
+pub returns-then-lacks_object-clause-attempt : goal.returns-then-lacks_object-clause-attempt
+returns-then-lacks_object-clause-attempt g c =
+    let grid : Grid = g.B.Board.grid c.args.board.now in
+    let table : Option (List ℕ) = g.B.Board.table c.args.board.now in
+    let rule = c.args.rule.now in
+    attempt_none (direction_of rule.axis) (rows_meaning table rule.rows) rule.rewrites
+    (commands_shown rule.commands.now) grid c.args.queue.now
+    (combinations_on grid (rule_meaning table rule)) (c.lacks_object.ensures c.if-lacks_object.true)
+
+pub returns-then-lacks_object-clause-table : goal.returns-then-lacks_object-clause-table
+returns-then-lacks_object-clause-table g c = refl
+
+pub returns-then-lacks_object-clause-origin : goal.returns-then-lacks_object-clause-origin
+returns-then-lacks_object-clause-origin g c = refl
+
+pub returns-then-lacks_object-clause-sides : goal.returns-then-lacks_object-clause-sides
+returns-then-lacks_object-clause-sides g c = refl
+
+pub returns-then-lacks_object-clause-rooms : goal.returns-then-lacks_object-clause-rooms
+returns-then-lacks_object-clause-rooms g c = refl
 
 pub attempt_writer-requires-clause-writer : goal.attempt_writer-requires-clause-writer
 attempt_writer-requires-clause-writer g c = c.in-Some.is
