@@ -18,7 +18,8 @@ use crate::entries::EntryNumber;
 use crate::game::SessionGame;
 use crate::loading::load;
 use crate::locations::Change;
-use crate::spares::SpareBoards;
+use crate::parts::{LevelParts, restart_board_behind};
+use crate::spares::SpareLevels;
 use ps_board::{Board, Columns, recall_shape};
 use ps_levels::Level;
 use ps_model::{Input, Memory, Room, RoomSize};
@@ -32,32 +33,20 @@ use std::mem;
 use std::rc::Rc;
 use std::snapshot::Snapshot;
 
-/// A level that is played: its entry, its board, the board that a restart goes back to, which the levels behind its
-/// turns share until a checkpoint, and the room that the last frame showed. Turns work on a board of their own, which
-/// shows the same between them, if there is one. The text of its board's frame goes with it, if it was drawn: behind a
-/// turn what the turn has changed is drawn anew.
+/// A level that is played. Turns work on the parts of another level, whose board shows the same between them, if there
+/// are any: they become those of the level behind the turn, and this one's parts serve that one's turns. A level is
+/// handed from step to step at each key, so that its parts stay where they are and only their place goes on.
 pub struct PlayedLevel<B: Board> {
-    entry: EntryNumber,
-    board: Box<B>,
-    spare: Option<Box<B>>,
-    restart_board: Rc<Box<B>, Global>,
-    room: Room,
-    frame: Option<FrameText>,
-    /// The names that the frame is drawn by.
-    names: Snapshot<Names>,
+    parts: Box<LevelParts<B>>,
+    spare: Option<Box<LevelParts<B>>>,
 }
 
-/// Written out, so that who owns a level calls this on each way out, instead of dropping its boards there.
+/// Written out, so that who owns a level calls this on each way out, instead of dropping its parts there.
 impl<B: Board> Drop for PlayedLevel<B> {
     fn drop(self) {
         let PlayedLevel {
-            entry: _entry,
-            board: _board,
+            parts: _parts,
             spare: _spare,
-            restart_board: _restart_board,
-            room: _,
-            frame: _frame,
-            names: _names,
         } = self;
     }
 }
@@ -70,18 +59,19 @@ impl<B: Board> Model for PlayedLevel<B> {
     ghost Value = { Standing };
 
     ghost view = { λ l. record {
-      entry = l.entry;
-      basis = record { table = B.table l.board.value; names = l.names.value };
-      board = B.grid l.board.value;
-      restart_board = B.grid l.restart_board.value.value;
-      room = l.room;
+      entry = l.parts.value.entry;
+      basis = record { table = B.table l.parts.value.board.value; names = l.parts.value.names.value };
+      board = B.grid l.parts.value.board.value;
+      restart_board = B.grid l.parts.value.restart_board.value.value;
+      room = l.parts.value.room;
     } };
 
-    ghost invariant = { λ l. IfSome l.spare (λ spare. B.grid spare.value ≡ B.grid l.board.value)
-        × (IfSome l.spare (λ spare. B.origin spare.value ≡ B.grid l.board.value)
-        × (IfSome l.spare (λ spare. B.table spare.value ≡ B.table l.board.value)
-        × ((B.table l.restart_board.value.value ≡ B.table l.board.value)
-        × IsFrameOf l.names.value (B.grid l.board.value) l.frame))) };
+    ghost invariant = { λ l.
+        IfSome l.spare (λ spare. B.grid spare.value.board.value ≡ B.grid l.parts.value.board.value)
+        × (IfSome l.spare (λ spare. B.origin spare.value.board.value ≡ B.grid l.parts.value.board.value)
+        × (IfSome l.spare (λ spare. B.table spare.value.board.value ≡ B.table l.parts.value.board.value)
+        × ((B.table l.parts.value.restart_board.value.value ≡ B.table l.parts.value.board.value)
+        × IsFrameOf l.parts.value.names.value (B.grid l.parts.value.board.value) l.parts.value.frame))) };
 }
 
 /// Which done turns count. One that doesn't is as if not run.
@@ -205,127 +195,80 @@ fn counted_turn<B: Board, R: Rules<B>>(
     Ok(turned)
 }
 
-/// A board that shows what another one does: the level's own spare one, or else a copy.
+/// Parts whose board shows what that of a level's parts does: the level's own spare ones, or else a copy.
 ///
 /// # Errors
 ///
-/// `Memory`, where there is no spare board.
+/// `Memory`, where there are no spare ones.
 fn lent<B: Board>(
     alloc: Global,
-    spares: &mut SpareBoards<B>,
-    board: &B,
-    spare: Option<Box<B>>,
-) -> Result<Box<B>, Memory>
-    requires grid { IfSome spare (λ spare. B.grid spare.value ≡ B.grid board.now) }
-    requires origin { IfSome spare (λ spare. B.origin spare.value ≡ B.grid board.now) }
-    requires table { IfSome spare (λ spare. B.table spare.value ≡ B.table board.now) }
-    ensures grid { IfOk result (λ lent. B.grid lent.value ≡ B.grid board.now) }
-    ensures origin { IfOk result (λ lent. B.origin lent.value ≡ B.grid board.now) }
-    ensures table { IfOk result (λ lent. B.table lent.value ≡ B.table board.now) }
+    spares: &mut SpareLevels<B>,
+    parts: &LevelParts<B>,
+    names: &Names,
+    spare: Option<Box<LevelParts<B>>>,
+) -> Result<Box<LevelParts<B>>, Memory>
+    requires grid { IfSome spare (λ spare. B.grid spare.value.board.value ≡ B.grid parts.now.board.value) }
+    requires origin { IfSome spare (λ spare. B.origin spare.value.board.value ≡ B.grid parts.now.board.value) }
+    requires table { IfSome spare (λ spare. B.table spare.value.board.value ≡ B.table parts.now.board.value) }
+    ensures grid { IfOk result (λ lent. B.grid lent.value.board.value ≡ B.grid parts.now.board.value) }
+    ensures origin { IfOk result (λ lent. B.origin lent.value.board.value ≡ B.grid parts.now.board.value) }
+    ensures table { IfOk result (λ lent. B.table lent.value.board.value ≡ B.table parts.now.board.value) }
 {
     let Some(spare) = spare else {
-        return spares.copy_of(alloc, board);
+        return spares.copy_of(alloc, parts, &*parts.board, names);
     };
     Ok(spare)
 }
 
-/// A board that was lent goes back to its place.
-fn put_back<B: Board>(place: &mut Option<Box<B>>, board: Box<B>)
-    ensures { place.new ≡ Some board }
+/// Parts that were lent go back to their place.
+fn put_back<B: Board>(place: &mut Option<Box<LevelParts<B>>>, parts: Box<LevelParts<B>>)
+    ensures { place.new ≡ Some parts }
 {
-    *place = Some(board);
+    *place = Some(parts);
 }
 
-/// A board that shows what another one does, for turns, and a share of a third.
+/// A level of parts like these, with a copy of that board. The last frame showed that room; the text of the board's
+/// frame is this one, if it was drawn.
 ///
 /// # Errors
 ///
-/// `Memory`.
-fn boards_beside<B: Board>(
-    alloc: Global,
-    spares: &mut SpareBoards<B>,
-    board: &B,
-    restart_board: &Rc<Box<B>, Global>,
-) -> Result<(Box<B>, Rc<Box<B>, Global>), Memory>
-    ensures spare { IfOk result (λ both. B.grid both.0.value ≡ B.grid board.now) }
-    ensures spare_origin { IfOk result (λ both. B.origin both.0.value ≡ B.grid board.now) }
-    ensures spare_table { IfOk result (λ both. B.table both.0.value ≡ B.table board.now) }
-    ensures restart_board { IfOk result (λ both. both.1.value ≡ restart_board.now.value) }
-{
-    let restart_board = restart_board.clone()?;
-    let spare = spares.copy_of(alloc, board)?;
-    Ok((spare, restart_board))
-}
-
-/// A level of these boards: the first is copied, and the second shared. The last frame showed that room; the text of
-/// the board's frame is this one, drawn by these names, if it was.
-///
-/// # Errors
-///
-/// `Memory`, and no spare board is lost.
+/// `Memory`, and no spare parts are lost.
 fn level_of<B: Board>(
     alloc: Global,
-    spares: &mut SpareBoards<B>,
-    entry: EntryNumber,
+    spares: &mut SpareLevels<B>,
+    parts: &LevelParts<B>,
     board: &B,
-    restart_board: &Rc<Box<B>, Global>,
     room: Room,
     frame: Option<FrameText>,
     names: &Names,
 ) -> Result<PlayedLevel<B>, Memory>
-    requires table { B.table restart_board.now.value.value ≡ B.table board.now }
+    requires names { parts.now.names.value ≡ names.now }
+    requires table { B.table parts.now.restart_board.value.value ≡ B.table board.now }
     requires frame { IsFrameOf names.now (B.grid board.now) frame }
-    ensures entry { IfOk result (λ level. level.entry ≡ entry) }
+    ensures entry { IfOk result (λ level. level.entry ≡ parts.now.entry) }
     ensures table { IfOk result (λ level. level.basis.table ≡ B.table board.now) }
     ensures names { IfOk result (λ level. level.basis.names ≡ names.now) }
     ensures board { IfOk result (λ level. level.board ≡ B.grid board.now) }
-    ensures restart_board { IfOk result (λ level. level.restart_board ≡ B.grid restart_board.now.value.value) }
+    ensures restart_board { IfOk result (λ level. level.restart_board
+        ≡ B.grid parts.now.restart_board.value.value) }
     ensures room { IfOk result (λ level. level.room ≡ room) }
 {
-    let copy = spares.copy_of(alloc, board)?;
-    match boards_beside(alloc, spares, board, restart_board) {
-        Ok((spare, restart_board)) => Ok(PlayedLevel {
-            entry,
-            board: copy,
-            spare: Some(spare),
-            restart_board,
-            room,
-            frame,
-            names: Snapshot::of(names),
-        }),
+    let mut copy = spares.copy_of(alloc, parts, board, names)?;
+    match spares.copy_of(alloc, parts, board, names) {
+        Ok(spare) => {
+            copy.room = room;
+            copy.frame = frame;
+            Ok(PlayedLevel {
+                parts: copy,
+                spare: Some(spare),
+            })
+        }
         Err(Memory) => {
             drop(frame);
             spares.keep(copy);
             Err(Memory)
         }
     }
-}
-
-/// The board that a restart goes back to behind a done turn that came to a board: this one, where the turn set a
-/// checkpoint.
-///
-/// # Errors
-///
-/// `Memory`.
-fn restart_board_behind<B: Board>(
-    alloc: Global,
-    spares: &mut SpareBoards<B>,
-    board: &B,
-    restart_board: &Rc<Box<B>, Global>,
-    done: &DoneTurn,
-) -> Result<Rc<Box<B>, Global>, Memory>
-    requires { B.table restart_board.now.value.value ≡ B.table board.now }
-    ensures grid { IfOk result (λ next. B.grid next.value.value
-        ≡ (if done.now.checkpoint then B.grid board.now else B.grid restart_board.now.value.value)) }
-    ensures table { IfOk result (λ next. B.table next.value.value ≡ B.table board.now) }
-{
-    if !done.checkpoint {
-        let same = restart_board.clone()?;
-        return Ok(same);
-    }
-    let copy = spares.copy_of(alloc, board)?;
-    let next = Rc::new(alloc, copy)?;
-    Ok(next)
 }
 
 /// The text of the frame of another board, made of that of a board, if there is one and the boards are alike. In which
@@ -360,7 +303,7 @@ impl<B: Board> PlayedLevel<B> {
     /// `Memory`.
     pub(crate) fn load(
         alloc: Global,
-        spares: &mut SpareBoards<B>,
+        spares: &mut SpareLevels<B>,
         names: &Names,
         entry: EntryNumber,
         level: &Level,
@@ -374,18 +317,11 @@ impl<B: Board> PlayedLevel<B> {
         ensures room { IfOk result (λ played. played.room ≡ first_room) }
     {
         let board: B = load(alloc, names, level)?;
-        let board = Box::new(alloc, board)?;
-        let spare = spares.copy_of(alloc, &*board)?;
-        let copy = spares.copy_of(alloc, &*board)?;
-        let restart_board = Rc::new(alloc, copy)?;
+        let parts = LevelParts::at_start(alloc, names, entry, board)?;
+        let spare = spares.copy_of(alloc, &*parts, &*parts.board, names)?;
         Ok(PlayedLevel {
-            entry,
-            board,
+            parts,
             spare: Some(spare),
-            restart_board,
-            room: Room { x: 0, y: 0 },
-            frame: None,
-            names: Snapshot::of(names),
         })
     }
 
@@ -397,21 +333,21 @@ impl<B: Board> PlayedLevel<B> {
     pub(crate) fn try_copy(
         &mut self,
         alloc: Global,
-        spares: &mut SpareBoards<B>,
+        spares: &mut SpareLevels<B>,
         names: &Names,
     ) -> Result<PlayedLevel<B>, Memory>
         requires { self.old.basis.names ≡ names.now }
         ensures level { self.new ≡ self.old }
         ensures copy { IfOk result (λ copy. copy ≡ self.old) }
     {
-        let frame = self.frame.take();
+        let frame = self.parts.frame.take();
+        let parts = &*self.parts;
         level_of(
             alloc,
             spares,
-            self.entry.copied(),
-            &*self.board,
-            &self.restart_board,
-            self.room,
+            parts,
+            &*parts.board,
+            parts.room,
             frame,
             names,
         )
@@ -426,7 +362,7 @@ impl<B: Board> PlayedLevel<B> {
     pub(crate) fn with_board(
         &mut self,
         alloc: Global,
-        spares: &mut SpareBoards<B>,
+        spares: &mut SpareLevels<B>,
         picture: &mut Picture<'_>,
         names: &Names,
         other: &B,
@@ -443,17 +379,8 @@ impl<B: Board> PlayedLevel<B> {
         ensures restart_board { IfOk result (λ copy. copy.restart_board ≡ self.old.restart_board) }
         ensures room { IfOk result (λ copy. copy.room ≡ room) }
     {
-        let frame = frame_on(picture, self.frame.take(), &*self.board, other)?;
-        level_of(
-            alloc,
-            spares,
-            self.entry.copied(),
-            other,
-            &self.restart_board,
-            room,
-            frame,
-            names,
-        )
+        let frame = frame_on(picture, self.parts.frame.take(), &*self.parts.board, other)?;
+        level_of(alloc, spares, &*self.parts, other, room, frame, names)
     }
 
     /// The level at the board that a restart goes back to. The room stays.
@@ -464,7 +391,7 @@ impl<B: Board> PlayedLevel<B> {
     pub(crate) fn restarted(
         &mut self,
         alloc: Global,
-        spares: &mut SpareBoards<B>,
+        spares: &mut SpareLevels<B>,
         picture: &mut Picture<'_>,
         names: &Names,
     ) -> Result<PlayedLevel<B>, Memory>
@@ -478,29 +405,18 @@ impl<B: Board> PlayedLevel<B> {
         ensures restart_board { IfOk result (λ copy. copy.restart_board ≡ self.old.restart_board) }
         ensures room { IfOk result (λ copy. copy.room ≡ self.old.room) }
     {
-        let frame = frame_on(
-            picture,
-            self.frame.take(),
-            &*self.board,
-            &**self.restart_board,
-        )?;
-        level_of(
-            alloc,
-            spares,
-            self.entry.copied(),
-            &**self.restart_board,
-            &self.restart_board,
-            self.room,
-            frame,
-            names,
-        )
+        let frame = self.parts.frame.take();
+        let parts = &*self.parts;
+        let other = &**parts.restart_board;
+        let frame = frame_on(picture, frame, &*parts.board, other)?;
+        level_of(alloc, spares, parts, other, parts.room, frame, names)
     }
 
     /// The place of its entry.
     pub fn entry(&self) -> EntryNumber
         ensures { result ≡ self.now.entry }
     {
-        self.entry.copied()
+        self.parts.entry.copied()
     }
 
     /// Its board.
@@ -508,14 +424,14 @@ impl<B: Board> PlayedLevel<B> {
         ensures grid { B.grid result.now ≡ self.now.board }
         ensures table { B.table result.now ≡ self.now.basis.table }
     {
-        &*self.board
+        &*self.parts.board
     }
 
     /// The room that the last frame showed.
     pub fn room(&self) -> Room
         ensures { result ≡ self.now.room }
     {
-        self.room
+        self.parts.room
     }
 
     /// Adds its board's frame to an output: of the room that it has, where there are rooms of that size, and else of
@@ -537,37 +453,33 @@ impl<B: Board> PlayedLevel<B> {
             (output.new ≡ output.old ++ frame_in size picture.old self.old.board self.old.room) }
         ensures kept { OnErr result (output.new ≡ output.old) }
     {
-        picture.show(&mut self.frame, &*self.board, size, self.room, output)
+        let parts = &mut *self.parts;
+        picture.show(&mut parts.frame, &*parts.board, size, parts.room, output)
     }
 
     /// It has the room that the next frame of its board shows. No memory is taken.
     pub(crate) fn see(&mut self, game: &SessionGame<'_>)
         ensures { self.new ≡ seen_level game.now self.old }
     {
-        self.room = game.room_after(&*self.board, self.room);
+        let Some(_) = game.options().flickscreen else {
+            return;
+        };
+        self.parts.room = game.room_after(&*self.parts.board, self.parts.room);
     }
 
-    /// Its board, and the one for turns, are there to be used again.
-    pub(crate) fn give_back(self, spares: &mut SpareBoards<B>) {
-        let PlayedLevel {
-            entry: _entry,
-            board,
-            spare,
-            restart_board: _restart_board,
-            room: _,
-            frame: _frame,
-            names: _names,
-        } = self;
+    /// Its parts, and those for turns, are there to be used again.
+    pub(crate) fn give_back(self, spares: &mut SpareLevels<B>) {
+        let PlayedLevel { parts, spare } = self;
         spares.keep_any(spare);
-        spares.keep(board);
+        spares.keep(parts);
     }
 
-    /// Its board becomes the one for turns of the next level, if that has none, and else is there to be used again. The
-    /// two show the same objects outside of these rows.
+    /// Its parts become those for turns of the next level, if that has none, and else are there to be used again. The
+    /// boards of the two show the same objects outside of these rows.
     #[inline(always)]
     pub(crate) fn hand_on(
         self,
-        spares: &mut SpareBoards<B>,
+        spares: &mut SpareLevels<B>,
         next: &mut PlayedLevel<B>,
         rows: &Columns<B::Words>,
     )
@@ -575,22 +487,14 @@ impl<B: Board> PlayedLevel<B> {
         requires basis { self.basis ≡ next.old.basis }
         ensures { next.new ≡ next.old }
     {
-        let PlayedLevel {
-            entry: _entry,
-            mut board,
-            spare,
-            restart_board: _restart_board,
-            room: _,
-            frame: _frame,
-            names: _names,
-        } = self;
+        let PlayedLevel { mut parts, spare } = self;
         spares.keep_any(spare);
         if next.spare.is_some() {
-            spares.keep(board);
+            spares.keep(parts);
             return;
         }
-        next.board.copy_rows(&mut *board, rows);
-        next.spare = Some(board);
+        next.parts.board.copy_rows(&mut *parts.board, rows);
+        next.spare = Some(parts);
     }
 
     /// Takes a turn. Where it is done and counts, the level has its board, and goes back to it at a restart where the
@@ -602,7 +506,7 @@ impl<B: Board> PlayedLevel<B> {
     pub(crate) fn take_turn<R: Rules<B>>(
         &mut self,
         alloc: Global,
-        spares: &mut SpareBoards<B>,
+        spares: &mut SpareLevels<B>,
         picture: &mut Picture<'_>,
         game: &SessionGame<'_>,
         rules: &mut TurnRules<B, R>,
@@ -621,20 +525,21 @@ impl<B: Board> PlayedLevel<B> {
         ensures plain { R.meant rules.new.plain ≡ R.meant rules.old.plain }
         ensures late { R.meant rules.new.late ≡ R.meant rules.old.late }
     {
-        let mut spare = lent(alloc, spares, &*self.board, self.spare.take())?;
+        let mut spare = lent(alloc, spares, &*self.parts, game.names(), self.spare.take())?;
+        let parts = &mut *self.parts;
         let turned = counted_turn(
             game,
             rules,
             input,
             counting,
             picture,
-            &mut self.board,
-            &mut spare,
-            &mut self.frame,
+            &mut parts.board,
+            &mut spare.board,
+            &mut parts.frame,
         );
         put_back(&mut self.spare, spare);
         let turned = turned?;
-        self.keep_checkpoint(alloc, spares, counting, &turned)
+        self.keep_checkpoint(alloc, counting, &turned)
             .and(Ok(turned))
     }
 
@@ -643,7 +548,6 @@ impl<B: Board> PlayedLevel<B> {
     fn keep_checkpoint(
         &mut self,
         alloc: Global,
-        spares: &mut SpareBoards<B>,
         counting: Counting,
         turned: &Turned,
     ) -> Result<(), Memory>
@@ -656,44 +560,14 @@ impl<B: Board> PlayedLevel<B> {
         if !counting.counts(done) {
             return Ok(());
         }
-        self.restart_board = restart_board_behind(
+        let parts = &mut *self.parts;
+        parts.restart_board = restart_board_behind(
             alloc,
-            spares,
-            &*self.board,
-            &self.restart_board,
+            &*parts.board,
+            &parts.restart_board,
             done,
         )?;
         Ok(())
-    }
-
-    /// What the level behind a done turn needs beside the board that the turn came to: the text of that board's frame
-    /// in place of that of its own, and the board that a restart goes back to. The board tells in which rows the turn
-    /// has touched it.
-    ///
-    /// # Errors
-    ///
-    /// `Memory`.
-    fn behind(
-        &self,
-        alloc: Global,
-        spares: &mut SpareBoards<B>,
-        picture: &mut Picture<'_>,
-        board: &B,
-        frame: &mut Option<FrameText>,
-        done: &DoneTurn,
-    ) -> Result<Rc<Box<B>, Global>, Memory>
-        requires sides { HaveSameSides (B.grid board.now) self.now.board }
-        requires origin { B.origin board.now ≡ self.now.board }
-        requires table { B.table board.now ≡ self.now.basis.table }
-        requires frame { IsFrameOf picture.old self.now.board frame.old }
-        ensures picture { picture.new ≡ picture.old }
-        ensures frame { IsFrameOf picture.old (B.grid board.now) frame.new }
-        ensures grid { IfOk result (λ next. B.grid next.value.value
-            ≡ (if done.now.checkpoint then B.grid board.now else self.now.restart_board)) }
-        ensures table { IfOk result (λ next. B.table next.value.value ≡ B.table board.now) }
-    {
-        picture.redraw(frame, &*self.board, board, board.rows_touched())?;
-        restart_board_behind(alloc, spares, board, &self.restart_board, done)
     }
 
     /// Tries a turn with an input. The level stays as it is; where the turn is done, the level behind it has the board
@@ -707,7 +581,7 @@ impl<B: Board> PlayedLevel<B> {
     pub(crate) fn try_turn<R: Rules<B>>(
         &mut self,
         alloc: Global,
-        spares: &mut SpareBoards<B>,
+        spares: &mut SpareLevels<B>,
         picture: &mut Picture<'_>,
         game: &SessionGame<'_>,
         rules: &mut TurnRules<B, R>,
@@ -725,8 +599,9 @@ impl<B: Board> PlayedLevel<B> {
         ensures plain { R.meant rules.new.plain ≡ R.meant rules.old.plain }
         ensures late { R.meant rules.new.late ≡ R.meant rules.old.late }
     {
-        let mut spare = lent(alloc, spares, &*self.board, self.spare.take())?;
-        let done = match run_turn(game, rules, Some(input), &*self.board, &mut *spare) {
+        let mut spare = lent(alloc, spares, &*self.parts, game.names(), self.spare.take())?;
+        let parts = &mut *self.parts;
+        let done = match run_turn(game, rules, Some(input), &*parts.board, &mut *spare.board) {
             Ok(Turned::Done(done)) => done,
             Ok(Turned::Blocked(message)) => {
                 put_back(&mut self.spare, spare);
@@ -741,26 +616,21 @@ impl<B: Board> PlayedLevel<B> {
                 return Err(Memory);
             }
         };
-        recall_shape(&*self.board);
-        let rows = spare.rows_touched();
-        let mut frame = self.frame.take();
-        match self.behind(alloc, spares, picture, &*spare, &mut frame, &done) {
-            Ok(restart_board) => {
+        recall_shape(&*parts.board);
+        let rows = spare.board.rows_touched();
+        let names = game.names();
+        let frame = parts.frame.take();
+        match spare.follow(alloc, picture, names, parts, frame, rows, &done) {
+            Ok(()) => {
                 let next = PlayedLevel {
-                    entry: self.entry.copied(),
-                    board: spare,
+                    parts: spare,
                     spare: None,
-                    restart_board,
-                    room: self.room,
-                    frame,
-                    names: Snapshot::of(game.names()),
                 };
                 Ok(Tried::Done(next, done, rows))
             }
             Err(Memory) => {
                 drop(done);
-                drop(frame);
-                self.board.copy_into(&mut *spare);
+                parts.board.copy_into(&mut *spare.board);
                 put_back(&mut self.spare, spare);
                 Err(Memory)
             }

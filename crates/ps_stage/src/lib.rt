@@ -14,6 +14,7 @@ mod keys;
 mod levels;
 mod loading;
 mod locations;
+mod parts;
 mod sides;
 mod spares;
 mod stage;

@@ -11,7 +11,7 @@ ghost use Rattle.ps_stage.specs.Touched.{AreTouched};
 use crate::game::SessionGame;
 use crate::levels::PlayedLevel;
 use crate::sides::BoardSides;
-use crate::spares::SpareBoards;
+use crate::spares::SpareLevels;
 use ps_board::{Board, Columns};
 use ps_levels::Entry;
 use ps_model::{Memory, Room};
@@ -27,7 +27,7 @@ pub struct Stage<'g, B: Board> {
     /// Which levels its boards are for.
     pub(crate) sides: BoardSides,
     pub(crate) picture: Picture<'g>,
-    pub(crate) spares: SpareBoards<B>,
+    pub(crate) spares: SpareLevels<B>,
     pub(crate) text: OutputText,
 }
 
@@ -77,7 +77,7 @@ impl<'g, B: Board> Stage<'g, B> {
             game,
             sides,
             picture,
-            spares: SpareBoards::none(),
+            spares: SpareLevels::none(),
             text: OutputText::new(alloc),
         })
     }
