@@ -51,7 +51,7 @@ fn moves<B: Board, R: Rules<B>>(
     rules: &mut TurnRules<B, R>,
     level: &mut PlayedLevel<B>,
     input: Input,
-) -> Result<NextLevel<B>, Stop>
+) -> Result<Option<NextLevel<B>>, Stop>
     requires empty { stage.old.text ≡ [] }
     requires basis { level.old.basis ≡ basis_of B.table_for stage.old.game.names }
     ensures game { stage.new.game ≡ stage.old.game }
@@ -61,16 +61,16 @@ fn moves<B: Board, R: Rules<B>>(
     ensures came { IfOk result (λ next. (history : List Grid)
         → input_taken (script_for B.table_for stage.old.game (R.meant rules.old.plain) (R.meant rules.old.late))
         (play_of history level.old) input
-        ≡ next_step history (Playing level.old) (Some next) stage.new.text) }
+        ≡ next_step history (Playing level.old) next stage.new.text) }
     ensures stopped { IfErr result (λ stop. (history : List Grid)
         → IsStopped (script_for B.table_for stage.old.game (R.meant rules.old.plain) (R.meant rules.old.late)) stop
         (input_taken (script_for B.table_for stage.old.game (R.meant rules.old.plain) (R.meant rules.old.late))
         (play_of history level.old) input) stage.new.text) }
-    ensures basis { IfOk result (λ next. ComesOnBasis (basis_of B.table_for stage.old.game.names) next) }
-    ensures touched { IfOk result (λ next. ComesFrom level.old.board next) }
+    ensures basis { IfOk result (λ next. AnswersOnBasis (basis_of B.table_for stage.old.game.names) next) }
+    ensures touched { IfOk result (λ next. AnswersFrom (Playing level.old) next) }
 {
     let change = stage.take_input(rules, level, input)?;
-    Ok(next_of(change))
+    Ok(Some(next_of(change)))
 }
 
 /// The level at the latest board of the history, or as it is where there is none. A frame shows it.
@@ -172,10 +172,7 @@ pub fn key_in_level<B: Board, H: History<B>, R: Rules<B>>(
         return Ok(None);
     }
     match key {
-        Key::Move(input) => {
-            let next = moves(stage, rules, level, input)?;
-            Ok(Some(next))
-        }
+        Key::Move(input) => moves(stage, rules, level, input),
         Key::Undo => {
             let next = undoes(stage, level, history)?;
             Ok(Some(next))
