@@ -67,8 +67,8 @@ impl<W: ColumnWords> Scan for RowBoard<W> {
         self.rows_of(object.object.0)
     }
 
-    /// The rows of the motion's plane, by the index; for rest, and for a layer that the board doesn't have, all for which
-    /// a set has room, as that is no more than a word, and the answer cuts other rows.
+    /// The rows of the motion's plane, by the index; for rest, and for a layer that the board doesn't have, all that a
+    /// set has room for: these are known without the board, and only cut what else is known of the rows.
     fn rows_moving(&self, test: &MotionTest) -> Columns<W> {
         if self.layers() <= test.layer.0 {
             return Columns::all();
