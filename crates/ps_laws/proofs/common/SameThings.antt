@@ -1,6 +1,9 @@
--- Objects, motions, slots and cells: what passes a test for being the same is the same, and each is the same as itself.
+-- Texts, objects, motions, slots and cells: what passes a test for being the same is the same, and each is the same as
+-- itself.
 use Rattle.std.proofs.Common.{◌≡◌, ℕ, zero, suc, true, Option, Some, None, List, [], ◌∷◌, refl, sym, ◌∙◌, ap, ap₂}
+use Rattle.std.specs.Str.{bytes_eq}
 use Rattle.std.proofs.lemmas.Bool.{and_parts, eqb-true, eq-eqb, false≢true}
+use Rattle.std.proofs.lemmas.Slice.Eq.{bytes_eq-Decides}
 use Rattle.ps_model.specs.declared.pieces.Direction.TheVariants.{Up, Down, Left, Right}
 use Rattle.ps_model.specs.declared.pieces.Motion.{Motion}
 use Rattle.ps_model.specs.declared.pieces.Motion.TheVariants.{Still, Going, Acting}
@@ -13,6 +16,14 @@ use Rattle.ps_model.specs.board.Attempts.{same_slot, same_cell}
 use Rattle.ps_model.specs.board.Grid.{Grid}
 use Rattle.ps_model.specs.board.Movement.{is_number}
 use Rattle.ps_model.specs.board.Turns.{same_cells}
+use Rattle.ps_laws.proofs.common.Truths.{same_tests}
+
+-- two texts, whichever is asked about the other
+pub bytes_eq-sym : (xs ys : List ℕ) → bytes_eq xs ys ≡ bytes_eq ys xs
+bytes_eq-sym xs ys =
+    let forth = bytes_eq-Decides xs ys in
+    let back = bytes_eq-Decides ys xs in
+    same_tests (bytes_eq xs ys) (bytes_eq ys xs) (λ e. back.1 (sym (forth.0 e))) (λ e. forth.1 (sym (back.0 e)))
 
 -- numbers that may be absent
 pub is_number-true : (o : Option ℕ) (t : ℕ) → is_number o t ≡ true → o ≡ Some t
@@ -23,7 +34,7 @@ pub is_number-own : (o : Option ℕ) (t : ℕ) → o ≡ Some t → is_number o 
 is_number-own o t e = rw e (eq-eqb t t refl)
 
 -- objects
-abbrev object_of : ℕ → ObjectId
+abbrev pub object_of : ℕ → ObjectId
 object_of number = record { 0 = number }
 
 pub same_object-true : (first second : ObjectId) → same_object first second ≡ true → first ≡ second

@@ -10,14 +10,8 @@ use Rattle.ps_model.specs.names.Names.{Meaning}
 use Rattle.ps_model.specs.names.ObjectLines.{ObjectText}
 use Rattle.ps_model.specs.names.Meanings.{LegendName}
 use Rattle.ps_model.specs.names.NameFaults.{shares_layer}
-use Rattle.ps_laws.proofs.common.Truths.{equal_so}
+use Rattle.ps_laws.proofs.common.SameThings.{bytes_eq-sym}
 use Rattle.ps_names.specs.Wholes.{no_layers, declares, lines_of_name, faults_of_lines, shared_layers}
-
-pub bytes_eq-sym : (xs ys : List ℕ) → bytes_eq xs ys ≡ bytes_eq ys xs
-bytes_eq-sym [] [] = refl
-bytes_eq-sym [] (y ∷ ys) = refl
-bytes_eq-sym (x ∷ xs) [] = refl
-bytes_eq-sym (x ∷ xs) (y ∷ ys) = rw (equal_so x y _ _ refl refl, bytes_eq-sym xs ys) refl
 
 -- the line of a name that is the one given
 pub name-hit : (kind : FaultKind) (query : List ℕ) (name : LegendName) (legend : List LegendName) →
