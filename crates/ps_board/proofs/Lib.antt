@@ -5,7 +5,6 @@ mod SameRows
 pub mod ColumnLaws
 pub mod EmptySets
 pub mod Taken
-pub mod RowByRow
 pub mod WordBits
 pub mod Bits
 pub mod WordSteps

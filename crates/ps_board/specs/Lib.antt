@@ -1,7 +1,6 @@
 pub mod Rooms
 pub mod Runnable
 pub mod ColumnSets
-pub mod CellSets
 pub mod WordsOfColumns
 pub mod WordLists
 pub mod WordsOfLists

@@ -5,9 +5,10 @@ ghost use Rattle.ps_model.specs.board.Grid.{Grid, IsGrid, IsPlace, at_rest, empt
 ghost use Rattle.ps_model.specs.board.Grid.{motion_in, object_in, slot_at, slot_of};
 ghost use Rattle.ps_model.specs.board.Turns.{same_cells};
 ghost use Rattle.ps_model.specs.declared.limits.TheConstants.{LAYER_LIMIT, SIDE_LIMIT};
-ghost use Rattle.ps_model.specs.declared.pieces.Motion.TheVariants.{Still};
+ghost use Rattle.ps_model.specs.declared.pieces.Motion.TheVariants.{Going, Still};
 ghost use Rattle.ps_model.specs.declared.pieces.Slot.TheVariants.{Bare};
 ghost use Rattle.ps_model.specs.meaning.Compiled.{slot_holds};
+ghost use Rattle.ps_model.specs.meaning.Fitting.{same_motion};
 ghost use Rattle.ps_board.specs.Rooms.{HasRoom, HaveRoom, layer_numbers};
 ghost use Rattle.ps_board.specs.ColumnSets.{column_at};
 ghost use Rattle.ps_board.specs.RowsOfGrids.{MoveOnlyOn, PassOnlyOn, is_moving, row_holders, row_movers};
@@ -15,7 +16,7 @@ ghost use Rattle.ps_board.specs.Rows.{AreAlike, DifferOnlyIn, DifferOnlyOn};
 
 use crate::columns::Columns;
 use crate::words::ColumnWords;
-use ps_model::{LayerId, Memory, Motion, ObjectId};
+use ps_model::{Direction, LayerId, Memory, Motion, ObjectId};
 use std::alloc::Global;
 
 /// A board of cells in columns from the left, each column from the top. The cell in column `x` and row `y` has the
@@ -94,6 +95,11 @@ pub trait Board: Drop {
     fn motion(&self, cell: u32, layer: LayerId) -> Motion
         requires { IsPlace (grid self.now) cell layer.0 }
         ensures { result ≡ motion_in (slot_at (grid self.now) cell layer.0) };
+
+    /// Whether the object on a layer of a cell is about to go in a direction.
+    fn goes(&self, cell: u32, layer: LayerId, direction: Direction) -> bool
+        requires { IsPlace (grid self.now) cell layer.0 }
+        ensures { result ≡ same_motion (Going direction) (motion_in (slot_at (grid self.now) cell layer.0)) };
 
     /// Puts an object with its motion on a layer of a cell, in place of what stood there; or clears the layer there.
     fn put(&mut self, cell: u32, layer: LayerId, object: Option<ObjectId>, motion: Motion)

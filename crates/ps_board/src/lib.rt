@@ -5,7 +5,6 @@
 #![tactic(auto)]
 
 mod board;
-mod cell_sets;
 mod columns;
 mod history;
 mod list_board;
@@ -15,7 +14,6 @@ mod slots;
 mod words;
 
 pub use board::{Board, recall_shape};
-pub use cell_sets::CellSet;
 pub use columns::Columns;
 pub use history::History;
 pub use list_board::ListBoard;

@@ -10,7 +10,7 @@ use crate::board::Board;
 use crate::columns::Columns;
 use crate::many_words::{ManyWords, WORDS_LIMIT};
 use crate::slots::{is_moving, same_slots, slot_holds};
-use ps_model::{LayerId, Memory, Motion, ObjectId, Slot};
+use ps_model::{Direction, LayerId, Memory, Motion, ObjectId, Slot};
 use std::alloc::Global;
 use std::snapshot::Snapshot;
 
@@ -180,6 +180,16 @@ impl Board for ListBoard {
         match self.slot(cell, layer) {
             Slot::Bare => Motion::Still,
             Slot::Holds { motion, .. } => motion,
+        }
+    }
+
+    fn goes(&self, cell: u32, layer: LayerId, direction: Direction) -> bool {
+        match (self.motion(cell, layer), direction) {
+            (Motion::Going(Direction::Up), Direction::Up)
+            | (Motion::Going(Direction::Down), Direction::Down)
+            | (Motion::Going(Direction::Left), Direction::Left)
+            | (Motion::Going(Direction::Right), Direction::Right) => true,
+            _ => false,
         }
     }
 

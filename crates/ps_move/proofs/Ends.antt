@@ -1,4 +1,4 @@
--- The end of a pass, and the end of the movement: what slides is what went.
+-- The end of a layer, and the end of the movement: what slides is what went.
 use Rattle.std.proofs.Common.{◌≡◌, ℕ, zero, suc, ◌+◌, ◌*◌, ◌<◌, ◌≤◌, ◌⊎◌, inl, inr, Bool, true, false, Option, Some}
 use Rattle.std.proofs.Common.{None, List, [], length, map, get_or, refl, sym, ◌∙◌, ap, subst, arith}
 use Rattle.std.specs.List.{range_with_len}
@@ -20,7 +20,7 @@ use Rattle.ps_laws.proofs.common.Winners.{IsLink, link_of, winner-contends, slid
 use Rattle.ps_laws.proofs.common.Truths.{same_tests}
 use Rattle.ps_move.specs.Visits.{way}
 use Rattle.ps_move.specs.Midway.{IsMidway, motion_left}
-use Rattle.ps_move.specs.Order.{ComesBefore, IsInOrder}
+use Rattle.ps_move.specs.Order.{IsInOrder}
 use Rattle.ps_move.proofs.Steps.{bare_holds, landed_at}
 use Rattle.ps_move.proofs.Order.{aim_some, way_some, still_aims}
 
@@ -28,67 +28,35 @@ use Rattle.ps_move.proofs.Order.{aim_some, way_some, still_aims}
 off_board : (g : Grid) (layer cell : ℕ) → length g.cells ≤ cell → slot_at g cell layer ≡ Bare
 off_board g layer cell high = rw (get_or_past g.cells cell [] high) refl
 
-goes_within : (g : Grid) (layer cell to : ℕ) → IsGrid g → way g layer cell ≡ Some to → cell < g.width * g.height
-goes_within g layer cell to shape goes = elim (cell_or_past cell (length g.cells)) [
+pub aims_within : (g : Grid) (layer cell to : ℕ) → IsGrid g → target g layer cell ≡ Some to →
+    cell < g.width * g.height
+aims_within g layer cell to shape aims = elim (cell_or_past cell (length g.cells)) [
   | inl low ↦ omega (arith, shape.cells)
-  | inr high ↦ let found = aim_some g cell (slot_at g cell layer) to (way_some g layer (target g layer cell) to goes).0
-      in
+  | inr high ↦ let found = aim_some g cell (slot_at g cell layer) to aims in
       absurd (bare_holds found.0 (Going found.1) (sym (off_board g layer cell high) ∙ found.2))
 ] where
   cell_or_past : (a b : ℕ) → (a < b) ⊎ (b ≤ a)
   cell_or_past a b = elim (leb_tells b a) [ inl e ↦ inr e.1 | inr e ↦ inl (omega (arith, e.1)) ]
 
--- the next pass begins anew
-pub next_pass : (before now : Grid) (went : Bool) (layer cells : ℕ) → IsGrid now → cells ≡ now.width * now.height →
-    IsInOrder before now went layer cells → IsInOrder before now false layer 0
-next_pass before now went layer cells shape all o = record {
+pub goes_within : (g : Grid) (layer cell to : ℕ) → IsGrid g → way g layer cell ≡ Some to → cell < g.width * g.height
+goes_within g layer cell to shape goes =
+    aims_within g layer cell to shape (way_some g layer (target g layer cell) to goes).0
+
+-- where nothing of a layer can go the next layer begins, which is as it was
+pub next_layer : (before now : Grid) (layer : ℕ) → ((from to : ℕ) → way now layer from ≡ Some to → ⊥) →
+    IsInOrder before now layer None → IsInOrder before now (layer + 1) None
+next_layer before now layer none o = record {
   midway = o.midway;
   won = o.won;
-  time = record {
-    to_bare = λ from to goes bare. omega arith;
-    to_left = λ from to goes left.
-        let order : ComesBefore cells from to = o.time.to_left from to goes left in
-        let low = goes_within now layer from to shape goes in
-        let before_it : from < to = order.behind (omega arith) in
-        record {
-          behind = λ h. before_it;
-          over = λ h. absurd (omega arith);
-          ahead = λ h. before_it;
-        };
-    unmoved = λ e from to goes. omega arith;
-  };
-  below = o.below;
-  above = o.above;
-}
-
--- after a pass in which nothing went, nothing of the layer can go
-stuck : (before now : Grid) (layer cells : ℕ) → IsGrid now → cells ≡ now.width * now.height →
-    IsInOrder before now false layer cells → (from to : ℕ) → way now layer from ≡ Some to → ⊥
-stuck before now layer cells shape all o from to goes =
-    let low = goes_within now layer from to shape goes in
-    let high : cells ≤ from = o.time.unmoved refl from to goes in
-    omega arith
-
--- and the next layer begins, which is as it was
-pub next_layer : (before now : Grid) (layer cells : ℕ) → IsGrid now → cells ≡ now.width * now.height →
-    IsInOrder before now false layer cells → IsInOrder before now false (layer + 1) 0
-next_layer before now layer cells shape all o = record {
-  midway = o.midway;
-  won = o.won;
-  time = record {
-    to_bare = λ from to goes bare. omega arith;
-    to_left = λ from to goes left.
-        let bare : slot_at now to (layer + 1) ≡ Bare =
-        (way_some now (layer + 1) (target now (layer + 1) from) to goes).1 in
-        let free : is_bare before (layer + 1) to ≡ true =
-        ap is_bare_slot (sym (o.above (layer + 1) to (omega arith)) ∙ bare) in
-        absurd (cc);
-    unmoved = λ e from to goes. omega arith;
-  };
+  ways = λ from to goes.
+      let bare : slot_at now to (layer + 1) ≡ Bare =
+      (way_some now (layer + 1) (target now (layer + 1) from) to goes).1 in
+      inl (ap is_bare_slot (sym (o.above (layer + 1) to (omega arith)) ∙ bare));
+  left = λ cell e. absurd (cc);
   below = λ l from to low goes. elim (cases_lt l layer) [
     | inl under ↦ o.below l from to under goes
     | inr over ↦ let same : l ≡ layer = omega (arith, low, over) in
-        stuck before now layer cells shape all o from to (subst (λ (k : ℕ). way now k from ≡ Some to) same goes)
+        none from to (subst (λ (k : ℕ). way now k from ≡ Some to) same goes)
   ];
   above = λ l cell high. o.above l cell (omega (arith, high));
 }
@@ -103,12 +71,12 @@ lands_stays : (before : Grid) (goes : ℕ → ℕ → Bool) (layer from : ℕ) �
 lands_stays before goes layer from e = rw (e, landing) refl
 
 -- what stands in a cell by now was there, or is its winner, which went
-stands_from : (before now : Grid) (went : Bool) (l n : ℕ) → (o : IsInOrder before now went l n) →
+stands_from : (before now : Grid) (l : ℕ) (hole : Option ℕ) → (o : IsInOrder before now l hole) →
     (layer cell : ℕ) (object : ObjectId) (motion : Motion) →
     slot_at now cell layer ≡ Holds object motion →
     ((o.midway.goes layer cell ≡ false) × (was : Motion) × (slot_at before cell layer ≡ Holds object was)) ⊎
     ((from : ℕ) × (winner before layer cell ≡ Some from) × (o.midway.goes layer from ≡ true))
-stands_from before now went l n o layer cell object motion stands =
+stands_from before now l hole o layer cell object motion stands =
     by_going (o.midway.goes layer found.0) refl where
       found : (from : ℕ) × (was : Motion) × (slot_at before from layer ≡ Holds object was) ×
           (landing before o.midway.goes layer from ≡ cell)
@@ -131,20 +99,20 @@ stands_from before now went l n o layer cell object motion stands =
           )
 
 -- what slides went, where nothing can go
-slides_went : (before now : Grid) (went : Bool) (l n : ℕ) → (o : IsInOrder before now went l n) →
+slides_went : (before now : Grid) (l : ℕ) (hole : Option ℕ) → (o : IsInOrder before now l hole) →
     (layer : ℕ) →
     ((from to : ℕ) → way now layer from ≡ Some to → ⊥) →
     (links from : ℕ) → slides_within before layer links from ≡ true → o.midway.goes layer from ≡ true
-slides_went before now went l n o layer none zero from e = absurd (cc)
-slides_went before now went l n o layer none (suc links) from e =
-    by_going (λ to f. slides_went before now went l n o layer none links to f) (o.midway.goes layer from) refl where
+slides_went before now l hole o layer none zero from e = absurd (cc)
+slides_went before now l hole o layer none (suc links) from e =
+    by_going (λ to f. slides_went before now l hole o layer none links to f) (o.midway.goes layer from) refl where
       link : IsLink before layer links from
       link = link_of before layer links from e
 
       free : ((to : ℕ) → slides_within before layer links to ≡ true → o.midway.goes layer to ≡ true) →
           o.midway.goes layer from ≡ false → (slot : Slot) → slot_at now link.to layer ≡ slot → slot ≡ Bare
       free again f Bare s = refl
-      free again f (Holds object motion) s = elim (stands_from before now went l n o layer link.to object motion s) [
+      free again f (Holds object motion) s = elim (stands_from before now l hole o layer link.to object motion s) [
         | inl stays ↦ elim link.leads [
           | inl bare ↦ let taken : is_bare before layer link.to ≡ false = ap is_bare_slot stays.2 in absurd (cc)
           | inr further ↦ let left = again link.to further.1 in absurd (cc)
@@ -162,10 +130,10 @@ slides_went before now went l n o layer none (suc links) from e =
           (still_aims before now o.midway layer from link.to link.aims (free again f (slot_at now link.to layer) refl)))
 
 -- and what went slides
-went_slides : (before now : Grid) (went : Bool) (l n : ℕ) → (o : IsInOrder before now went l n) →
+went_slides : (before now : Grid) (l : ℕ) (hole : Option ℕ) → (o : IsInOrder before now l hole) →
     IsGrid now →
     (layer from : ℕ) → o.midway.goes layer from ≡ true → slides before layer from ≡ true
-went_slides before now went l n o shape layer from e =
+went_slides before now l hole o shape layer from e =
     let won = o.won layer from e in
     let all : cell_count before ≡ cell_count now = rw (o.midway.width, o.midway.height) refl in
     slides_within-more before layer won.links (cell_count before) from (omega (arith, shape.cells)) won.chain
@@ -263,7 +231,7 @@ same_grids : (a b : Grid) → a.width ≡ b.width → a.height ≡ b.height → 
 same_grids a b w h l c = same_fields a.width b.width a.height b.height a.layers b.layers a.cells b.cells w h l c
 
 -- where no layer has an object that can go the movement is at its end, and it is the exact one
-pub rest_exact : (before now : Grid) → IsGrid now → IsInOrder before now false now.layers 0 → at_rest now ≡ slid before
+pub rest_exact : (before now : Grid) → IsGrid now → IsInOrder before now now.layers None → at_rest now ≡ slid before
 rest_exact before now shape o = same_grids (at_rest now) (slid before) o.midway.width o.midway.height
     o.midway.layers
     (same_lists (map (map slot_at_rest) now.cells) (slid before).cells many (λ k d h. each k d h)) where
@@ -271,10 +239,10 @@ rest_exact before now shape o = same_grids (at_rest now) (slid before) o.midway.
       ended layer within = record {
         midway = o.midway;
         went = λ from. same_tests (o.midway.goes layer from) (slides before layer from)
-            (went_slides before now false now.layers 0 o shape layer from)
-            (slides_went before now false now.layers 0 o layer (λ from to goes. o.below layer from to within goes)
+            (went_slides before now now.layers None o shape layer from)
+            (slides_went before now now.layers None o layer (λ from to goes. o.below layer from to within goes)
             (cell_count before) from);
-        comes = stands_from before now false now.layers 0 o layer;
+        comes = stands_from before now now.layers None o layer;
       }
 
       slot_after : ℕ → ℕ → Slot

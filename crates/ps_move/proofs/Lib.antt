@@ -2,6 +2,6 @@ mod Steps
 mod Order
 mod Ends
 mod Parts
-mod StillCells
 mod Passes
 mod Movers
+mod Entering

@@ -1,9 +1,10 @@
--- The order of the visits: the object that goes is its target's winner.
-use Rattle.std.proofs.Common.{◌≡◌, ◌≢◌, ℕ, suc, ◌+◌, ◌<◌, ◌≤◌, ◌⊎◌, inl, inr, Bool, true, false, Option, Some, None}
+-- A movement goes on: the object that goes is its target's winner.
+use Rattle.std.proofs.Common.{◌≡◌, ◌≢◌, ℕ, suc, ◌<◌, ◌≤◌, ◌⊎◌, inl, inr, Bool, true, false, Option, Some, None}
 use Rattle.std.proofs.Common.{List, length, refl, sym, ◌∙◌, ap, subst, arith}
 use Rattle.std.specs.Prelude.{nat_eq, slice_index_or}
 use Rattle.std.proofs.lemmas.Bool.Decides.{eqb_tells}
 use Rattle.std.proofs.lemmas.List.{length-set}
+use Rattle.std.proofs.lemmas.Option.{same_Some}
 use Rattle.std.proofs.lemmas.List.Sums.{count_by-le-length}
 use Rattle.ps_model.specs.declared.pieces.ObjectId.{ObjectId}
 use Rattle.ps_model.specs.declared.pieces.Direction.{Direction}
@@ -11,13 +12,14 @@ use Rattle.ps_model.specs.declared.pieces.Motion.{Motion}
 use Rattle.ps_model.specs.declared.pieces.Motion.TheVariants.{Still, Going, Acting}
 use Rattle.ps_model.specs.declared.pieces.Slot.{Slot}
 use Rattle.ps_model.specs.declared.pieces.Slot.TheVariants.{Bare, Holds}
-use Rattle.ps_model.specs.board.Grid.{Grid, cell_count, slot_at, neighbour}
+use Rattle.ps_model.specs.board.Grid.{Grid, IsGrid, cell_count, slot_at, neighbour}
 use Rattle.ps_model.specs.board.Movement.{target, aim_of, is_bare, is_bare_slot, winner}
 use Rattle.ps_model.specs.board.WeakMovement.{landing}
 use Rattle.ps_laws.proofs.common.Winners.{slides_by, winner-of_bare, winner-of_left}
 use Rattle.ps_move.specs.Visits.{way, if_bare, is_going}
 use Rattle.ps_move.specs.Midway.{IsMidway, motion_left}
-use Rattle.ps_move.specs.Order.{ComesBefore, InTime, going_on, HasWon, IsInOrder}
+use Rattle.ps_move.specs.Entering.{IsFirst, IsNext}
+use Rattle.ps_move.specs.Order.{going_on, HasWon, IsInOrder}
 use Rattle.ps_move.proofs.Steps.{Goes, waits, stepped, entered, left_bare, beside, on_another_layer, step_midway}
 use Rattle.ps_move.proofs.Steps.{step_goes, step_going_on, step_going_on_other, neighbour-same, bare_holds, landed_at}
 
@@ -95,35 +97,6 @@ did_aim before now m layer from to aims =
     aims_from before layer from to found.0 found.1 w.stood
     (sym (neighbour-same now before found.1 from m.width m.height) ∙ found.3)
 
--- visits that went on by one cell
-comes_past : (cell from to : ℕ) → from ≢ cell → ComesBefore cell from to → ComesBefore (cell + 1) from to
-comes_past cell from to apart h = record {
-  behind = λ low. h.behind (omega arith);
-  over = λ low. let under = h.over (omega arith) in omega arith;
-  ahead = λ high. h.ahead (omega arith);
-}
-
--- the object of that cell can't go
-none_there : (now : Grid) (layer cell from to : ℕ) → way now layer cell ≡ None → way now layer from ≡ Some to →
-    from ≢ cell
-none_there now layer cell from to none goes f =
-    let same : way now layer cell ≡ Some to = rw (← f) goes in
-    cc
-
-past : (cell from : ℕ) → from ≢ cell → cell ≤ from → cell + 1 ≤ from
-past cell from apart h = omega (arith, apart)
-
--- a visit in which nothing went
-pub time_stays : (before now : Grid) (went : Bool) (layer cell : ℕ) → way now layer cell ≡ None →
-    InTime before now went layer cell → InTime before now went layer (cell + 1)
-time_stays before now went layer cell none t = record {
-  to_bare = λ from to goes bare. past cell from (none_there now layer cell from to none goes) (t.to_bare from to goes
-      bare);
-  to_left = λ from to goes left. comes_past cell from to (none_there now layer cell from to none goes)
-      (t.to_left from to goes left);
-  unmoved = λ e from to goes. past cell from (none_there now layer cell from to none goes) (t.unmoved e from to goes);
-}
-
 -- what can go after an object went
 aims_by : (g : Grid) (layer cell to : ℕ) (slot : Slot) → slot_at g cell layer ≡ slot → target g layer cell ≡ Some to →
     aim_of g cell slot ≡ Some to
@@ -198,15 +171,8 @@ way_after now layer cell object direction to h l from t goes = by_layer (eqb_tel
         λ (f : l ≡ layer). absurd (e.1 f),
       )
 
-comes_anew : (cell from : ℕ) → from ≢ cell → ComesBefore (cell + 1) from cell
-comes_anew cell from apart = record {
-  behind = λ low. omega (arith, apart);
-  over = λ low. omega arith;
-  ahead = λ high. absurd (omega arith);
-}
-
 -- what can go after an object of the layer went
-way_here : (now : Grid) (layer cell : ℕ) (object : ObjectId) (direction : Direction) (to : ℕ) →
+pub way_here : (now : Grid) (layer cell : ℕ) (object : ObjectId) (direction : Direction) (to : ℕ) →
     Goes now layer cell object direction to →
     (from t : ℕ) → way (stepped now layer cell object to) layer from ≡ Some t →
     ((way now layer from ≡ Some t) × (from ≢ cell)) ⊎ ((t ≡ cell) × (from ≢ cell))
@@ -216,22 +182,15 @@ way_here now layer cell object direction to h from t goes =
       | inr w ↦ inr (w.1, w.2)
     ]
 
--- a visit in which an object went
-time_goes : (before now : Grid) (went : Bool) (layer cell : ℕ) (object : ObjectId) (direction : Direction) (to : ℕ) →
+-- the target is no longer bare
+pub taken : (now : Grid) (layer cell : ℕ) (object : ObjectId) (direction : Direction) (to : ℕ) →
     Goes now layer cell object direction to →
-    is_bare before layer cell ≡ false → InTime before now went layer cell →
-    InTime before (stepped now layer cell object to) true layer (cell + 1)
-time_goes before now went layer cell object direction to h stood t = record {
-  to_bare = λ from at goes bare. elim (way_here now layer cell object direction to h from at goes) [
-    | inl w ↦ past cell from w.1 (t.to_bare from at w.0 bare)
-    | inr w ↦ let here : is_bare before layer cell ≡ true = rw (← w.0) bare in absurd (cc)
-  ];
-  to_left = λ from at goes left. elim (way_here now layer cell object direction to h from at goes) [
-    | inl w ↦ comes_past cell from at w.1 (t.to_left from at w.0 left)
-    | inr w ↦ rw w.0 (comes_anew cell from w.1)
-  ];
-  unmoved = λ e from at goes. absurd (cc);
-}
+    (from t : ℕ) → way (stepped now layer cell object to) layer from ≡ Some t → t ≡ to → ⊥
+taken now layer cell object direction to h from t goes e =
+    let after : Grid = stepped now layer cell object to in
+    let bare : slot_at after t layer ≡ Bare = (way_some after layer (target after layer from) t goes).1 in
+    bare_holds object Still (sym (subst (λ (c : ℕ). slot_at after c layer ≡ Bare) e bare)
+    ∙ entered now layer cell object direction to h)
 
 -- what left its cell went
 left_gone : (before now : Grid) (m : IsMidway before now) (layer cell : ℕ) → is_bare before layer cell ≡ false →
@@ -251,37 +210,40 @@ left_gone before now m layer cell stood bare = by_slot (slot_at before cell laye
   by_slot Bare e f = absurd (cc)
   by_slot (Holds object motion) e f = by_going object motion (m.goes layer cell) e refl
 
--- the object that goes has won its target
-step_wins : (before now : Grid) (went : Bool) (layer cell : ℕ) (object : ObjectId) (direction : Direction) (to : ℕ) →
-    (o : IsInOrder before now went layer cell) → Goes now layer cell object direction to →
-    target before layer cell ≡ Some to → winner before layer to ≡ Some cell
-step_wins before now went layer cell object direction to o h aims = by_bare (is_bare before layer to) refl where
-  within : cell < cell_count before
-  within = rw (← o.midway.width, ← o.midway.height) h.here.0
+-- the first that wants to enter a cell that was bare from the start wins it
+pub first_wins : (before now : Grid) (layer to from : ℕ) → IsInOrder before now layer None → IsGrid now →
+    slot_at now to layer ≡ Bare → IsFirst now layer to from → winner before layer to ≡ Some from
+first_wins before now layer to from o shape bare first =
+    let wide = o.midway.width in
+    let high = o.midway.height in
+    let within : from < cell_count before = rw (← wide, ← high) first.place in
+    let free : is_bare before layer to ≡ true =
+    elim (o.ways from to (way_is now layer from to first.aims bare)) [ inl b ↦ b | inr e ↦ absurd (cc) ] in
+    winner-of_bare before layer to from free within (did_aim before now o.midway layer from to first.aims)
+    (λ s a. first.least s (way_some now layer (target now layer s) to (still_aims before now o.midway layer s to a bare)).0)
 
-  goes : (s : ℕ) → target before layer s ≡ Some to → way now layer s ≡ Some to
-  goes s a = still_aims before now o.midway layer s to a h.bare
-
-  by_bare : (b : Bool) → is_bare before layer to ≡ b → winner before layer to ≡ Some cell
-  by_bare true e = winner-of_bare before layer to cell e within aims
-      (λ s a. o.time.to_bare s to (goes s a) e)
-  by_bare false e =
-      let order : (s : ℕ) → target before layer s ≡ Some to → ComesBefore cell s to =
-      λ (s : ℕ) (a : target before layer s ≡ Some to). o.time.to_left s to (goes s a) e in
-      winner-of_left before layer to cell e within aims (λ (f : cell ≡ to). h.apart (sym f)) (λ s a. (order s a).behind)
-      (λ s a. (order s a).over) (λ s a. (order s a).ahead)
+-- the next that wants to enter a cell that was left wins it
+pub next_wins : (before now : Grid) (layer to from : ℕ) → IsInOrder before now layer (Some to) → IsGrid now →
+    slot_at now to layer ≡ Bare → from ≢ to → IsNext now layer to from → winner before layer to ≡ Some from
+next_wins before now layer to from o shape bare apart next =
+    let wide = o.midway.width in
+    let high = o.midway.height in
+    let within : from < cell_count before = rw (← wide, ← high) next.place in
+    let aims_now : (s : ℕ) → target before layer s ≡ Some to → target now layer s ≡ Some to =
+    λ (s : ℕ) (a : target before layer s ≡ Some to).
+    (way_some now layer (target now layer s) to (still_aims before now o.midway layer s to a bare)).0 in
+    winner-of_left before layer to from (o.left to refl) within (did_aim before now o.midway layer from to next.aims)
+    apart (λ s a. next.behind s (aims_now s a)) (λ s a. next.over s (aims_now s a)) (λ s a. next.ahead s (aims_now s a))
 
 as_many_cells : (now : Grid) (layer cell : ℕ) (object : ObjectId) (to : ℕ) →
     length (stepped now layer cell object to).cells ≡ length now.cells
 as_many_cells now layer cell object to = simp length-set
 
-step_chain : (before now : Grid) (went : Bool) (layer cell : ℕ) (object : ObjectId) (direction : Direction) (to : ℕ) →
-    (o : IsInOrder before now went layer cell) → Goes now layer cell object direction to →
-    target before layer cell ≡ Some to → HasWon before (stepped now layer cell object to) layer cell
-step_chain before now went layer cell object direction to o h aims = by_bare (is_bare before layer to) refl where
-  wins : winner before layer to ≡ Some cell
-  wins = step_wins before now went layer cell object direction to o h aims
-
+step_chain : (before now : Grid) (layer cell : ℕ) (object : ObjectId) (direction : Direction) (to : ℕ) →
+    (m : IsMidway before now) → ((from : ℕ) → m.goes layer from ≡ true → HasWon before now layer from) →
+    Goes now layer cell object direction to → target before layer cell ≡ Some to →
+    winner before layer to ≡ Some cell → HasWon before (stepped now layer cell object to) layer cell
+step_chain before now layer cell object direction to m won h aims wins = by_bare (is_bare before layer to) refl where
   by_bare : (b : Bool) → is_bare before layer to ≡ b → HasWon before (stepped now layer cell object to) layer cell
   by_bare true e =
       let all = count_by-le-length (λ (c : List Slot). is_going (slice_index_or c layer Bare)) now.cells in
@@ -296,7 +258,7 @@ step_chain before now went layer cell object direction to o h aims = by_bare (is
             slides_by before layer 0 cell (record { to = to; aims = aims; wins = wins; leads = inl e });
       }
   by_bare false e =
-      let further = o.won layer to (left_gone before now o.midway layer to e h.bare) in
+      let further = won to (left_gone before now m layer to e h.bare) in
       let less = step_going_on now layer cell object direction to h in
       let cells = as_many_cells now layer cell object to in
       record {
@@ -330,23 +292,34 @@ none_below now layer cell object direction to h none l from t low goes =
       | inr w ↦ let same : l ≡ layer = w.0 in omega arith
     ]
 
--- one object goes
-pub step_order : (before now : Grid) (went : Bool) (layer cell : ℕ) (object : ObjectId) (direction : Direction)
-    (to : ℕ) → IsInOrder before now went layer cell → Goes now layer cell object direction to →
-    IsInOrder before (stepped now layer cell object to) true layer (cell + 1)
-step_order before now went layer cell object direction to o h =
+-- one object goes to its target, which it has won: its own cell is left. No other cell was
+pub step_order : (before now : Grid) (layer cell : ℕ) (object : ObjectId) (direction : Direction) (to : ℕ)
+    (hole : Option ℕ) → IsInOrder before now layer hole → Goes now layer cell object direction to →
+    winner before layer to ≡ Some cell → ((other : ℕ) → hole ≡ Some other → other ≡ to) →
+    IsInOrder before (stepped now layer cell object to) layer (Some cell)
+step_order before now layer cell object direction to hole o h wins filled =
     let w = waits before now layer cell object direction o.midway h.stands in
     let aims : target before layer cell ≡ Some to =
     did_aim before now o.midway layer cell to (aims_from now layer cell to object direction h.stands h.aims) in
     let own : HasWon before (stepped now layer cell object to) layer cell =
-    step_chain before now went layer cell object direction to o h aims in
+    step_chain before now layer cell object direction to o.midway (o.won layer) h aims wins in
+    let after : Grid = stepped now layer cell object to in
     record {
       midway = step_midway before now layer cell object direction to o.midway h;
       won = λ l from e. elim (step_goes before now layer cell object direction to o.midway h l from e) [
         | inl p ↦ rw (p.0, p.1) own
         | inr g ↦ won_still before now layer cell object direction to h l from (o.won l from g)
       ];
-      time = time_goes before now went layer cell object direction to h (ap is_bare_slot w.stood) o.time;
+      ways = λ from at goes. elim (way_here now layer cell object direction to h from at goes) [
+        | inl v ↦ elim (o.ways from at v.0) [
+          | inl bare ↦ inl bare
+          | inr e ↦ absurd (taken now layer cell object direction to h from at goes (filled at e))
+        ]
+        | inr v ↦ inr (ap Some (sym v.0))
+      ];
+      left = λ c e.
+          let same : c ≡ cell = sym (same_Some cell c e) in
+          rw same (ap is_bare_slot w.stood);
       below = none_below now layer cell object direction to h o.below;
       above = λ l c high. on_another_layer now layer cell object direction to h c l (omega (arith, high))
           ∙ o.above l c high;

@@ -1,173 +1,261 @@
--- The parts of a movement: a visit, one part after another, and the rest at the end.
-use Rattle.std.proofs.Common.{◌≡◌, ◌≢◌, ℕ, ◌+◌, ◌*◌, ◌<◌, ◌≤◌, ◌||◌, Bool, true, false, cond, Option, Some, None}
-use Rattle.std.proofs.Common.{is_some, List, length, get_or, refl, sym, ◌∙◌, ap, subst, arith}
-use Rattle.std.specs.Prelude.{nat_eq, count_by}
-use Rattle.std.proofs.lemmas.Bool.Decides.{nat_tests}
-use Rattle.std.proofs.Math.Bool.{or-false, or-true, or_assoc}
-use Rattle.std.proofs.Math.Nat.{mul-le-mul}
+-- The parts of a movement: a chain of objects, one part after another, and the rest at the end.
+use Rattle.std.proofs.Common.{◌≡◌, ℕ, ◌+◌, ◌*◌, ◌/◌, ◌%◌, ◌<◌, ◌≤◌, inl, inr, true, false, Some, None}
+use Rattle.std.proofs.Common.{List, length, get_or, refl, sym, ◌∙◌, ap, subst, arith}
+use Rattle.std.specs.Prelude.{count_by}
+use Rattle.std.proofs.Math.Nat.{mod-lt, mul-le-mul}
 use Rattle.std.proofs.lemmas.List.Sums.{sum_by-le, count_by-le-length}
-use Rattle.std.proofs.lemmas.Bool.{or_parts}
+use Rattle.std.proofs.lemmas.Nat.{div-add-mod', div_below}
+use Rattle.std.proofs.lemmas.Option.{same_Some}
 use Rattle.ps_model.specs.declared.pieces.ObjectId.{ObjectId}
 use Rattle.ps_model.specs.declared.pieces.Direction.{Direction}
+use Rattle.ps_model.specs.declared.pieces.Direction.TheVariants.{Up, Down, Left, Right}
 use Rattle.ps_model.specs.declared.pieces.Motion.{Motion}
-use Rattle.ps_model.specs.declared.pieces.Motion.TheVariants.{Still, Going, Acting}
+use Rattle.ps_model.specs.declared.pieces.Motion.TheVariants.{Still, Going}
 use Rattle.ps_model.specs.declared.pieces.Slot.{Slot}
 use Rattle.ps_model.specs.declared.pieces.Slot.TheVariants.{Bare, Holds}
 use Rattle.ps_model.specs.declared.limits.TheConstants.{SIDE_LIMIT, LAYER_LIMIT}
-use Rattle.ps_model.specs.board.Grid.{Grid, IsGrid, IsPlace, slot_at, slot_at_rest, at_rest, with_slot, neighbour}
-use Rattle.ps_model.specs.board.Movement.{target, aim_of, is_bare, is_bare_slot}
+use Rattle.ps_model.specs.board.Grid.{Grid, IsGrid, object_in, slot_at, slot_at_rest, slot_of, at_rest, with_slot}
+use Rattle.ps_model.specs.board.Movement.{target, is_bare_slot}
 use Rattle.ps_model.specs.board.WeakMovement.{IsWeaklySlid, landing}
-use Rattle.ps_laws.proofs.common.Slots.{slot_at-at_rest, slot_at-with_same, slot_at-with_other_cell}
-use Rattle.ps_laws.proofs.common.Slots.{slot_at-with_other_layer, IsGrid-with_slot}
+use Rattle.ps_laws.proofs.common.Slots.{slot_at-at_rest, IsGrid-with_slot}
 use Rattle.ps_laws.proofs.common.Counts.{count_of-at_rest}
 use Rattle.ps_laws.proofs.common.Neighbours.{neighbour-within}
 use Rattle.ps_board.specs.RowsOfGrids.{is_moving}
-use Rattle.ps_move.specs.Visits.{way, if_bare, gone, visited, is_going, going_count}
+use Rattle.ps_move.specs.Visits.{way, is_going, going_count}
 use Rattle.ps_move.specs.Midway.{IsMidway}
+use Rattle.ps_move.specs.Entering.{IsFirst, IsNext, IsWantedByNone}
 use Rattle.ps_move.specs.Order.{IsInOrder}
-use Rattle.ps_move.specs.Parts.{IsPart}
+use Rattle.ps_move.specs.Parts.{ArePasses, IsChain, IsPart, IsStuck, IsStuckRow}
 use Rattle.ps_move.proofs.Steps.{Goes, stepped, half_shape, step_fewer}
-use Rattle.ps_move.proofs.Order.{way_some, time_stays, step_order}
-
--- a slot that is still was put in place of another
-put_by : (g : Grid) (cell layer : ℕ) (slot : Slot) → IsGrid g → IsPlace g cell layer → is_moving slot ≡ false →
-    (c l : ℕ) (same_c same_l : Bool) →
-    nat_eq c cell ≡ same_c → nat_eq l layer ≡ same_l → is_moving (slot_at g c l) ≡ false →
-    is_moving (slot_at (with_slot g cell layer slot) c l) ≡ false
-put_by g cell layer slot shape place still c l true true a b was =
-    let e : c ≡ cell = grind (arith, nat_tests) in
-    let f : l ≡ layer = grind (arith, nat_tests) in
-    rw (e, f) (ap is_moving (slot_at-with_same g cell layer slot shape place) ∙ still)
-put_by g cell layer slot shape place still c l true false a b was =
-    let e : c ≡ cell = grind (arith, nat_tests) in
-    let f : l ≢ layer = grind (arith, nat_tests) in
-    let here : is_moving (slot_at g cell l) ≡ false = subst (λ (n : ℕ). is_moving (slot_at g n l) ≡ false) e was in
-    rw e (ap is_moving (slot_at-with_other_layer g cell layer l slot shape place f) ∙ here)
-put_by g cell layer slot shape place still c l false same a b was =
-    let e : c ≢ cell = grind (arith, nat_tests) in ap is_moving (slot_at-with_other_cell g cell layer c l slot e) ∙ was
-
-put_still : (g : Grid) (cell layer : ℕ) (slot : Slot) → IsGrid g → IsPlace g cell layer → is_moving slot ≡ false →
-    (c l : ℕ) →
-    is_moving (slot_at g c l) ≡ false → is_moving (slot_at (with_slot g cell layer slot) c l) ≡ false
-put_still g cell layer slot shape place still c l was =
-    put_by g cell layer slot shape place still c l (nat_eq c cell) (nat_eq l layer) refl refl was
+use Rattle.ps_move.proofs.Order.{aim_some, first_wins, next_wins, step_order, taken, way_here, way_some}
+use Rattle.ps_move.proofs.Ends.{goes_within, next_layer}
 
 -- nothing at all
-pub part_none : (g : Grid) (layer cell : ℕ) → IsPart false g g layer cell cell
-part_none g layer cell = record {
+pub part_none : (g : Grid) (layer : ℕ) → IsPart 0 g g layer
+part_none g layer = record {
   shape = λ shape. shape;
   width = refl;
   height = refl;
   layers = refl;
-  order = λ before moved o. subst (λ (b : Bool). IsInOrder before g b layer cell) (sym (or-false moved)) o;
+  order = λ before o. o;
+  ways = λ from to goes. goes;
   fewer = omega arith;
   same = λ e. refl;
-  still = λ cell layer still. still;
 }
 
-any_of : (a b : Bool) (m n o : ℕ) → n + cond a 1 0 ≤ m → o + cond b 1 0 ≤ n → o + cond (a || b) 1 0 ≤ m
-any_of true b m n o h k = omega arith
-any_of false b m n o h k = omega arith
-
--- one part after another
-pub part_then : (a b : Bool) (old now new : Grid) (layer first next last : ℕ) → IsPart a old now layer first next →
-    IsPart b now new layer next last → IsPart (a || b) old new layer first last
-part_then a b old now new layer first next last p q = record {
+-- one part after another, and the passes of the one that has more
+pub part_then : (first second both : ℕ) (old now new : Grid) (layer : ℕ) → first ≤ both → second ≤ both →
+    both ≤ first + second → IsPart first old now layer → IsPart second now new layer → IsPart both old new layer
+part_then first second both old now new layer one other few p q = record {
   shape = λ shape. q.shape (p.shape shape);
   width = q.width ∙ p.width;
   height = q.height ∙ p.height;
   layers = q.layers ∙ p.layers;
-  order = λ before moved o. subst (λ (c : Bool). IsInOrder before new c layer last) (or_assoc moved a b)
-      (q.order before (moved || a) (p.order before moved o));
-  fewer = any_of a b (going_count old) (going_count now) (going_count new) p.fewer q.fewer;
-  same = λ e. let none = or_parts a b e in q.same none.1 ∙ p.same none.0;
-  still = λ cell layer still. q.still cell layer (p.still cell layer still);
+  order = λ before o. q.order before (p.order before o);
+  ways = λ from to goes. p.ways from to (q.ways from to goes);
+  fewer =
+      let were : going_count now + first ≤ going_count old = p.fewer in
+      let less : going_count new + second ≤ going_count now = q.fewer in
+      omega arith;
+  same = λ none. q.same (omega (arith, none, other)) ∙ p.same (omega (arith, none, one));
 }
 
--- a visit in which nothing goes
-pub part_stays : (g : Grid) (layer cell : ℕ) → way g layer cell ≡ None →
-    IsPart false g g layer cell (cell + 1)
-part_stays g layer cell none = record {
+-- where an object can go
+pub goes_from : (g : Grid) (layer from to : ℕ) → IsGrid g → layer < g.layers → from < g.width * g.height →
+    target g layer from ≡ Some to → slot_at g to layer ≡ Bare →
+    (object : ObjectId) × (direction : Direction) × Goes g layer from object direction to
+goes_from g layer from to shape low place aims bare =
+    let found = aim_some g from (slot_at g from layer) to aims in
+    let near = neighbour-within g found.1 from to shape.some_row place found.3 in (
+      found.0,
+      found.1,
+      record {
+        shape = shape;
+        here = (place, low);
+        there = (near.0, low);
+        apart = near.1;
+        stands = found.2;
+        bare = bare;
+        aims =
+            found.3;
+      },
+    )
+
+-- what a board shows behind a shift
+pub shifted : (g : Grid) (layer from to : ℕ) (object : ObjectId) (direction : Direction) →
+    slot_at g from layer ≡ Holds object (Going direction) →
+    with_slot (with_slot g to layer (slot_of (object_in (slot_at g from layer)) Still)) from layer Bare
+    ≡ stepped g layer from object to
+shifted g layer from to object direction stands =
+    ap (λ (s : Slot). with_slot (with_slot g to layer (slot_of (object_in s) Still)) from layer Bare) stands
+
+step_shape : (g : Grid) (layer cell : ℕ) (object : ObjectId) (direction : Direction) (to : ℕ) →
+    Goes g layer cell object direction to → IsGrid (stepped g layer cell object to)
+step_shape g layer cell object direction to h =
+    IsGrid-with_slot (with_slot g to layer (Holds object Still)) cell layer Bare
+    (half_shape g layer cell object direction to h) h.here
+
+-- a cell that was just left
+pub chain_none : (g : Grid) (layer left : ℕ) → IsChain 0 g g layer left (Some left)
+chain_none g layer left = record {
   shape = λ shape. shape;
   width = refl;
   height = refl;
   layers = refl;
-  order = λ before moved o. subst (λ (b : Bool). IsInOrder before g b layer (cell + 1)) (sym (or-false moved))
-      (record {
-        midway = o.midway;
-        won = o.won;
-        time = time_stays before g moved layer cell none o.time;
-        below = o.below;
-        above = o.above;
-      });
+  order = λ before o. o;
+  ways = λ from to goes apart. (goes, λ e. apart (ap Some (sym e)));
   fewer = omega arith;
-  same = λ e. refl;
-  still = λ other l still. still;
 }
 
--- a visit in which one object goes
-part_goes : (g : Grid) (layer cell : ℕ) (object : ObjectId) (direction : Direction) (to : ℕ) →
-    Goes g layer cell object direction to →
-    IsPart true g (stepped g layer cell object to) layer cell (cell + 1)
-part_goes g layer cell object direction to h = record {
-  shape = λ shape. IsGrid-with_slot (with_slot g to layer (Holds object Still)) cell layer Bare
-      (half_shape g layer cell object direction to h) h.here;
-  width = refl;
-  height = refl;
-  layers = refl;
-  order = λ before moved o. subst (λ (b : Bool). IsInOrder before (stepped g layer cell object to) b layer (cell + 1))
-      (sym (or-true moved))
-      (step_order before g moved layer cell object direction to o h);
-  fewer = let less = step_fewer g layer cell object direction to h in omega arith;
-  same = λ e. absurd (cc);
-  still = λ other l still. put_still (with_slot g to layer (Holds object Still)) cell layer Bare
-      (half_shape g layer cell object direction to h) h.here refl other l
-      (put_still g to layer (Holds object Still) h.shape h.there refl other l still);
+-- the next one enters it
+pub chain_more : (passes more : ℕ) (old now : Grid) (layer left hole from : ℕ) (object : ObjectId)
+    (direction : Direction) → more ≤ passes + 1 → IsChain passes old now layer left (Some hole) →
+    Goes now layer from object direction hole → IsNext now layer hole from →
+    IsChain more old (stepped now layer from object hole) layer left (Some from)
+chain_more passes more old now layer left hole from object direction few p h next = record {
+  shape = λ shape. step_shape now layer from object direction hole h;
+  width = p.width;
+  height = p.height;
+  layers = p.layers;
+  order = λ before o.
+      let were = p.order before o in
+      step_order before now layer from object direction hole (Some hole) were h
+      (next_wins before now layer hole from were h.shape h.bare (λ e. h.apart (sym e)) next)
+      (λ other e. sym (same_Some hole other e));
+  ways = λ one to goes apart. elim (way_here now layer from object direction hole h one to goes) [
+    | inl w ↦ p.ways one to w.0 (λ e. taken now layer from object direction hole h one to goes
+        (sym (same_Some hole to e)))
+    | inr w ↦ absurd (apart (ap Some (sym w.0)))
+  ];
+  fewer =
+      let were : going_count now + passes ≤ going_count old = p.fewer in
+      let less = step_fewer now layer from object direction hole h in
+      omega (arith, few);
 }
 
--- what a visit does, by what stands there and where it can go
-part_gone : (g : Grid) (layer cell : ℕ) (slot : Slot) (to : Option ℕ) → IsGrid g → IsPlace g cell layer →
-    slot_at g cell layer ≡ slot → if_bare g layer (aim_of g cell slot) ≡ to →
-    IsPart (is_some to) g (gone g layer cell to) layer cell (cell + 1)
-part_gone g layer cell slot None shape place e w =
-    part_stays g layer cell (ap (λ (s : Slot). if_bare g layer (aim_of g cell s)) e ∙ w)
-part_gone g layer cell Bare (Some to) shape place e w = absurd (cc)
-part_gone g layer cell (Holds object Still) (Some to) shape place e w = absurd (cc)
-part_gone g layer cell (Holds object Acting) (Some to) shape place e w = absurd (cc)
-part_gone g layer cell (Holds object (Going direction)) (Some to) shape place e w =
-    let free = way_some g layer (neighbour g direction cell) to w in
-    let near = neighbour-within g direction cell to shape.some_row place.0 free.0 in
-    let h : Goes g layer cell object direction to =
-    record {
-      shape = shape;
-      here = place;
-      there = (near.0, place.1);
-      apart = near.1;
-      stands = e;
-      bare = free.1;
-      aims =
-          free.0;
-    } in
-    let P : Slot → Type 0 = λ s. IsPart true g (with_slot (with_slot g to layer (slot_at_rest s)) cell layer Bare)
-    layer cell (cell + 1) in
-    subst P (sym e) (part_goes g layer cell object direction to h)
+none_enters : (now : Grid) (layer hole : ℕ) → IsWantedByNone now layer hole → (from to : ℕ) →
+    way now layer from ≡ Some to → to ≡ hole → ⊥
+none_enters now layer hole none from to goes e =
+    none from (subst (λ (c : ℕ). target now layer from ≡ Some c) e
+    (way_some now layer (target now layer from) to goes).0)
 
--- a visit is a part
-pub part_visit : (g : Grid) (layer cell : ℕ) → IsGrid g → IsPlace g cell layer →
-    IsPart (is_some (way g layer cell)) g (visited g layer cell) layer cell (cell + 1)
-part_visit g layer cell shape place =
-    part_gone g layer cell (slot_at g cell layer) (way g layer cell) shape place refl refl
+-- none does
+pub chain_end : (passes : ℕ) (old now : Grid) (layer left hole : ℕ) → IsChain passes old now layer left (Some hole) →
+    IsWantedByNone now layer hole → IsChain passes old now layer left None
+chain_end passes old now layer left hole p none = record {
+  shape = p.shape;
+  width = p.width;
+  height = p.height;
+  layers = p.layers;
+  order = λ before o.
+      let were = p.order before o in
+      record {
+        midway = were.midway;
+        won = were.won;
+        ways = λ from to goes. elim (were.ways from to goes) [
+          | inl bare ↦ inl bare
+          | inr e ↦ absurd (none_enters now layer hole none from to goes (sym (same_Some hole to e)))
+        ];
+        left = λ cell e. absurd (cc);
+        below = were.below;
+        above = were.above;
+      };
+  ways = λ from to goes e. p.ways from to goes (λ f. none_enters now layer hole none from to goes
+      (sym (same_Some hole to f)));
+  fewer = p.fewer;
+}
 
--- a visit after a part
-pub part_then_visit : (went moved : Bool) (old now new : Grid) (layer first cell : ℕ) → IsGrid old →
-    IsPlace old cell layer → IsPart went old now layer first cell →
-    new ≡ visited now layer cell → moved ≡ is_some (way now layer cell) →
-    IsPart (went || moved) old new layer first (cell + 1)
-part_then_visit went moved old now new layer first cell shape place p grid told =
-    let place' : IsPlace now cell layer = rw (p.width, p.height, p.layers) place in
-    rw (grid, told)
-    (part_then went (is_some (way now layer cell)) old now (visited now layer cell) layer first cell (cell + 1) p
-    (part_visit now layer cell (p.shape shape) place'))
+-- an object went to a cell that was bare from the start, and behind it others
+pub part_goes : (passes : ℕ) (old new : Grid) (layer first : ℕ) (object : ObjectId) (direction : Direction) (to : ℕ) →
+    Goes old layer first object direction to → IsFirst old layer to first →
+    IsChain passes (stepped old layer first object to) new layer first None → IsPart (1 + passes) old new layer
+part_goes passes old new layer first object direction to h least p = record {
+  shape = λ shape. p.shape (step_shape old layer first object direction to h);
+  width = p.width;
+  height = p.height;
+  layers = p.layers;
+  order = λ before o. p.order before (step_order before old layer first object direction to None o h
+      (first_wins before old layer to first o h.shape h.bare least) (λ other e. absurd (cc)));
+  ways = λ from at goes.
+      let before = p.ways from at goes (λ e. (cc)) in
+      elim (way_here old layer first object direction to h from at before.0) [
+        | inl w ↦ w.0
+        | inr w ↦ absurd (before.1 w.0)
+      ];
+  fewer =
+      let were : going_count new + passes ≤ going_count (stepped old layer first object to) = p.fewer in
+      let less = step_fewer old layer first object direction to h in
+      omega arith;
+  same = λ none. absurd (omega (arith, none));
+}
+
+-- behind that nothing can go any more to the cell that was entered
+pub stuck_behind : (passes : ℕ) (old new : Grid) (layer first : ℕ) (object : ObjectId) (direction : Direction) (to : ℕ) →
+    Goes old layer first object direction to → IsChain passes (stepped old layer first object to) new layer first None →
+    (cell : ℕ) → way old layer cell ≡ Some to → IsStuck new layer cell
+stuck_behind passes old new layer first object direction to h p cell could = λ at goes.
+    let before = p.ways cell at goes (λ e. (cc)) in
+    elim (way_here old layer first object direction to h cell at before.0) [
+      | inl w ↦ taken old layer first object direction to h cell at before.0
+          (same_Some at to (sym w.0 ∙ could))
+      | inr w ↦ absurd (before.1 w.0)
+    ]
+
+going_moves : (object : ObjectId) (direction : Direction) → is_moving (Holds object (Going direction)) ≡ true
+going_moves object Up = refl
+going_moves object Down = refl
+going_moves object Left = refl
+going_moves object Right = refl
+
+-- what stays wants to go nowhere, and can't
+pub still_aims_nowhere : (g : Grid) (layer cell to : ℕ) → is_moving (slot_at g cell layer) ≡ false →
+    target g layer cell ≡ Some to → ⊥
+still_aims_nowhere g layer cell to still aims =
+    let found = aim_some g cell (slot_at g cell layer) to aims in
+    let moves : is_moving (slot_at g cell layer) ≡ true = ap is_moving found.2 ∙ going_moves found.0 found.1 in
+    let clash : true ≡ false = sym moves ∙ still in
+    absurd (cc)
+
+pub still_stuck : (g : Grid) (layer cell : ℕ) → is_moving (slot_at g cell layer) ≡ false → IsStuck g layer cell
+still_stuck g layer cell still = λ to goes.
+    still_aims_nowhere g layer cell to still (way_some g layer (target g layer cell) to goes).0
+
+-- what couldn't go before can't behind a part
+pub stuck_still : (passes : ℕ) (old new : Grid) (layer cell : ℕ) → IsPart passes old new layer → IsStuck old layer cell →
+    IsStuck new layer cell
+stuck_still passes old new layer cell p stuck = λ to goes. stuck to (p.ways cell to goes)
+
+pub stuck_row_still : (passes : ℕ) (old new : Grid) (layer row : ℕ) → IsPart passes old new layer →
+    IsStuckRow old layer row → IsStuckRow new layer row
+stuck_row_still passes old new layer row p stuck = λ column across.
+    let across' : column < old.width = rw (← p.width) across in
+    subst (λ (height : ℕ). IsStuck new layer (column * height + row)) (sym p.height)
+    (stuck_still passes old new layer (column * old.height + row) p (stuck column across'))
+
+-- where no row has an object that can go, none can
+pub all_stuck : (g : Grid) (layer : ℕ) → IsGrid g → ((row : ℕ) → row < g.height → IsStuckRow g layer row) →
+    (from to : ℕ) → way g layer from ≡ Some to → ⊥
+all_stuck g layer shape rows from to goes =
+    let within = goes_within g layer from to shape goes in
+    let column : ℕ = from / g.height in
+    let row : ℕ = from % g.height in
+    let across : column < g.width = div_below from g.height g.width shape.some_row within in
+    let down : row < g.height = mod-lt from shape.some_row in
+    let same : column * g.height + row ≡ from = div-add-mod' from g.height in
+    rows row down column across to (subst (λ (cell : ℕ). way g layer cell ≡ Some to) (sym same) goes)
+
+-- the passes of a layer
+pub passes_of_part : (passes : ℕ) (old new : Grid) (layer : ℕ) → IsGrid old → IsPart passes old new layer →
+    ((row : ℕ) → row < new.height → IsStuckRow new layer row) → ArePasses passes old new layer (layer + 1)
+passes_of_part passes old new layer shape p rows = record {
+  shape = p.shape;
+  width = p.width;
+  height = p.height;
+  layers = p.layers;
+  order = λ before o. next_layer before new layer (all_stuck new layer (p.shape shape) rows) (p.order before o);
+  fewer = p.fewer;
+  same = p.same;
+}
 
 -- how many objects there can be
 pub going_count-bound : (g : Grid) → IsGrid g → going_count g ≤ SIDE_LIMIT * SIDE_LIMIT * LAYER_LIMIT
@@ -195,23 +283,14 @@ midway_none g = record {
   as_often = λ layer object. refl;
 }
 
--- what can go has a bare target
-none_waits : (g : Grid) (layer from to : ℕ) → way g layer from ≡ Some to → is_bare g layer to ≡ false → ⊥
-none_waits g layer from to goes taken =
-    let free : is_bare g layer to ≡ true = ap is_bare_slot (way_some g layer (target g layer from) to goes).1 in
-    cc
-
--- at the start of the first pass
-pub order_none : (g : Grid) → IsInOrder g g false 0 0
+-- at the start
+pub order_none : (g : Grid) → IsInOrder g g 0 None
 unfolding midway_none
 order_none g = record {
   midway = midway_none g;
   won = λ layer from e. absurd (cc);
-  time = record {
-    to_bare = λ from to goes bare. omega arith;
-    to_left = λ from to goes left. absurd (none_waits g 0 from to goes left);
-    unmoved = λ e from to goes. omega arith;
-  };
+  ways = λ from to goes. inl (ap is_bare_slot (way_some g 0 (target g 0 from) to goes).1);
+  left = λ cell e. absurd (cc);
   below = λ l from to low goes. absurd (omega (arith, low));
   above = λ l cell high. refl;
 }

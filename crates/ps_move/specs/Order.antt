@@ -1,31 +1,11 @@
--- The order of the visits. One layer is taken after the other, the lowest first. A pass visits the cells of a layer in
--- the order of their numbers, and the next pass begins anew. So an object that can go is visited in time to enter its
--- target as its winner.
-use Rattle.std.specs.Prelude.{◌≡◌, ℕ, ◌+◌, ◌<◌, ◌≤◌, Bool, true, false, Some, length, count_by, slice_index_or}
+-- A movement under way. One layer is taken after the other, the lowest first, and on a layer whoever can go to a cell
+-- that was bare from the start. A cell that an object left is entered before anything else is looked at.
+use Rattle.std.specs.Prelude.{◌≡◌, ℕ, ◌+◌, ◌<◌, ◌≤◌, ◌⊎◌, true, false, Option, Some, length, count_by, slice_index_or}
 use Rattle.ps_model.specs.declared.pieces.Slot.TheVariants.{Bare}
 use Rattle.ps_model.specs.board.Grid.{Grid, slot_at}
 use Rattle.ps_model.specs.board.Movement.{is_bare, winner, slides_within}
 use Rattle.ps_move.specs.Visits.{way, is_going}
 use Rattle.ps_move.specs.Midway.{IsMidway}
-
--- visits that go on from cell `next` to the last one, and then from the first, come to cell `from` before cell `to`:
--- where `from` had its visit in this pass, `to` lies between it and the next; and where the visit of `to` is still to
--- come, `from` lies before it
-pub record ComesBefore (next from to : ℕ) : Type 0 where
-  pub behind : from < next → from < to
-  pub over : from < next → to < next
-  pub ahead : next ≤ to → from < to
-
--- when the objects of a layer that can go now have their visit: `now` is the grid `before` after some objects went,
--- `went` says whether any went in this pass, and the visits have come to the cell `next`
-pub record InTime (before now : Grid) (went : Bool) (layer next : ℕ) : Type 0 where
-  -- where the target was bare from the start, the visit is still to come in this pass
-  pub to_bare : (from to : ℕ) → way now layer from ≡ Some to → is_bare before layer to ≡ true → next ≤ from
-  -- where an object left the target, the visit comes before the target is visited again
-  pub to_left : (from to : ℕ) → way now layer from ≡ Some to → is_bare before layer to ≡ false →
-      ComesBefore next from to
-  -- while nothing went in this pass, what was visited in it can't go
-  pub unmoved : went ≡ false → (from to : ℕ) → way now layer from ≡ Some to → next ≤ from
 
 -- how many objects of a layer have a direction for motion
 abbrev pub going_on : Grid → ℕ → ℕ
@@ -40,11 +20,13 @@ pub record HasWon (before now : Grid) (layer from : ℕ) : Type 0 where
   pub few : links + going_on now layer ≤ length now.cells
   pub chain : slides_within before layer links from ≡ true
 
--- a movement that has begun, and has come to a cell of a layer: each object that went had won its target, and each that
--- can go now is visited in time. No object of the layers below can go, and those above are as they were
-pub record IsInOrder (before now : Grid) (went : Bool) (layer next : ℕ) : Type 0 where
+-- a movement that has come to a layer, on which one cell may have been left that none has entered yet, the hole: each
+-- object that went had won its target, and what can go now goes to a cell that was bare from the start, or to the hole.
+-- No object of the layers below can go, and those above are as they were
+pub record IsInOrder (before now : Grid) (layer : ℕ) (hole : Option ℕ) : Type 0 where
   pub midway : IsMidway before now
   pub won : (l from : ℕ) → midway.goes l from ≡ true → HasWon before now l from
-  pub time : InTime before now went layer next
+  pub ways : (from to : ℕ) → way now layer from ≡ Some to → (is_bare before layer to ≡ true) ⊎ (hole ≡ Some to)
+  pub left : (cell : ℕ) → hole ≡ Some cell → is_bare before layer cell ≡ false
   pub below : (l from to : ℕ) → l < layer → way now l from ≡ Some to → ⊥
   pub above : (l cell : ℕ) → layer < l → slot_at now cell l ≡ slot_at before cell l

@@ -1,23 +1,23 @@
 //! The movement of a turn: each object whose motion is a direction goes one cell on, where that cell is free.
 //!
-//! No layer has to do with another, and one is taken after the other. The cells of a layer are visited in the order of
-//! their numbers, in passes, until a pass moves nothing or nothing is left that is about to move. An object that has
-//! moved is at rest, so that it goes one cell at most, and an object that waits for another to leave goes in the same
-//! pass or in a later one. Of several that want to enter a cell, the visits come first to the one that may: the least,
-//! or, where an object left the cell, the next one after it, and after the last cell the first.
+//! No layer has to do with another, and one is taken after the other. An object that has moved is at rest, so that it
+//! goes one cell at most. Of several that want to enter a cell one may: the one in the cell of least number, or, where
+//! an object left the cell, the next one behind it, and behind the last cell the first. So it would be if all cells were
+//! visited in the order of their numbers, in passes, until one moves nothing. Here it is one visit to each object: where
+//! one can go, the cell that it leaves is entered at once by the one that waits for it and may, and so on. So a row of
+//! objects that push one another is gone through once, from its front.
 
-ghost use Rattle.std.specs.Prelude.{◌≡◌, ℕ, ◌+◌, ◌*◌, ◌^◌, ◌<◌, ◌≤◌, IfSome, false, is_some, true};
-ghost use Rattle.ps_model.specs.board.Grid.{IsGrid, IsPlace, at_rest, neighbour};
+ghost use Rattle.std.specs.Prelude.{◌≡◌, ℕ, ◌+◌, ◌*◌, ◌^◌, ◌<◌, ◌≤◌, IfSome, None};
+ghost use Rattle.ps_model.specs.declared.pieces.Slot.TheVariants.{Bare};
+ghost use Rattle.ps_model.specs.board.Grid.{IsGrid, IsPlace, at_rest, neighbour, slot_at};
 ghost use Rattle.ps_model.specs.board.Movement.{slid};
 ghost use Rattle.ps_model.specs.board.WeakMovement.{IsWeaklySlid};
-ghost use Rattle.ps_model.specs.declared.limits.TheConstants.{LAYER_LIMIT, SIDE_LIMIT};
-ghost use Rattle.ps_board.specs.ColumnSets.{column_at};
-ghost use Rattle.ps_board.specs.CellSets.{cell_in};
-ghost use Rattle.ps_board.specs.RowsOfGrids.{MoveOnlyOn};
-ghost use Rattle.ps_move.specs.Visits.{way, visited, going_count};
-ghost use Rattle.ps_move.specs.Parts.{ArePasses, IsBelow, IsPart, IsStillBeside, IsStillBetween, IsStillIn};
+ghost use Rattle.ps_board.specs.ColumnSets.{columns_below};
+ghost use Rattle.ps_move.specs.Entering.{Comes, IsFirst, IsNext, IsWantedByNone, opposite};
+ghost use Rattle.ps_move.specs.Parts.{ArePasses, IsChain, IsPart, IsStuck, IsStuckRow};
+ghost use Rattle.ps_move.specs.Visits.{way, going_count};
 
-use ps_board::{Board, CellSet, Columns, Direction, LayerId, Motion};
+use ps_board::{Board, Columns, Direction, LayerId, Motion};
 use std::marker::Model;
 
 /// How a movement went. A contract sees the number of its passes.
@@ -55,9 +55,8 @@ impl Slid {
 /// `exact` says where everything stands afterwards, and `slid` what that means for each object: it stands where it
 /// stood or in its target, and none is lost or made.
 ///
-/// `moving` is room for the cells in which something moves, where that is in many rows. Of what it had before nothing
-/// is used. No memory is taken.
-pub fn slide<B: Board>(board: &mut B, moving: &mut CellSet<B>) -> Slid
+/// No memory is taken.
+pub fn slide<B: Board>(board: &mut B) -> Slid
     ensures exact { B.grid board.new ≡ slid (B.grid board.old) }
     ensures slid { IsWeaklySlid (B.grid board.old) (B.grid board.new) }
     ensures some_pass { 0 < result }
@@ -68,10 +67,9 @@ pub fn slide<B: Board>(board: &mut B, moving: &mut CellSet<B>) -> Slid
 {
     let (_, height) = board.size();
     let rows = Columns::below(height);
-    let mut few = true;
     let mut passes = 1;
     for layer in 0..board.layers() {
-        let moved = slide_layer(board, LayerId(layer), rows, &mut few, moving);
+        let moved = slide_layer(board, LayerId(layer), rows);
         passes = most_passes(passes, moved);
     }
     board.clear_moves();
@@ -89,172 +87,170 @@ fn most_passes(passes: u32, moved: u32) -> u32
     passes.max(moved + 1)
 }
 
-/// Notes the cells in which something moves, if the rows of a layer are more than a few: then they are visited alone,
-/// and else all cells of the rows are sooner visited. Once noted they serve the layers above as well: in no other cell
-/// something moves later.
-fn note_cells<B: Board>(board: &B, rows: Columns<B::Words>, few: &mut bool, moving: &mut CellSet<B>)
-    requires { few.old ≡ false → IsStillBeside (B.grid board.now) moving.old }
-    ensures { few.new ≡ false → IsStillBeside (B.grid board.now) moving.new }
+/// The larger of two numbers of passes.
+fn most(first: u32, second: u32) -> u32
+    ensures first { first ≤ result }
+    ensures second { second ≤ result }
+    ensures sum { result ≤ first + second }
 {
-    if !*few | rows.has_few() {
-        return;
-    }
-    moving.set_moving(board);
-    *few = false;
+    first.max(second)
 }
 
-/// Lets the objects of a layer go, in passes until nothing on it is about to do something or one moves nothing, and
-/// answers how many moved some. Something moves on it in these rows alone, and where they aren't few in these cells
-/// alone. Of the rows those are visited that the board names for the layer, before each pass anew: as a rule there is
-/// none to begin with, and none behind the first pass.
-fn slide_layer<B: Board>(
-    board: &mut B,
-    layer: LayerId,
-    rows: Columns<B::Words>,
-    few: &mut bool,
-    moving: &mut CellSet<B>,
-) -> u32
+/// Lets the objects of a layer go, row by row of all these, and answers how many passes moved some.
+fn slide_layer<B: Board>(board: &mut B, layer: LayerId, rows: Columns<B::Words>) -> u32
     requires shape { IsGrid (B.grid board.old) }
     requires layer { layer.0 < (B.grid board.old).layers }
-    requires below { IsBelow (B.grid board.old).height rows }
-    requires outside { MoveOnlyOn (B.grid board.old) layer.0 rows }
-    requires beside { few.old ≡ false → IsStillBeside (B.grid board.old) moving.old }
+    requires rows { rows ≡ columns_below (B.grid board.old).height }
     ensures passes { ArePasses result (B.grid board.old) (B.grid board.new) layer.0 (layer.0 + 1) }
-    ensures beside { few.new ≡ false → IsStillBeside (B.grid board.new) moving.new }
     ensures table { B.table board.new ≡ B.table board.old }
     ensures origin { B.origin board.new ≡ B.origin board.old }
 {
     let mut left = rows.both(board.rows_moving_on(layer));
-    if left.is_empty() {
-        return 0;
-    }
-    note_cells(board, left, few, moving);
-    let mut passes = 0;
-    while pass(board, layer, left, *few, moving) {
-        passes += 1;
-        left = left.both(board.rows_moving_on(layer));
-        if left.is_empty() {
-            return passes;
-        }
+    let mut passes = 0u32;
+    while let Some(row) = left.take_first() {
+        let moved = slide_row(board, layer, row);
+        passes = most(passes, moved);
     }
     passes
 }
 
-/// Visits those cells of a layer in which an object may be about to do something, in the order of their numbers, and
-/// tells whether any object went. Columns without such a cell are passed over, and in each column other rows.
-fn pass<B: Board>(
-    board: &mut B,
-    layer: LayerId,
-    rows: Columns<B::Words>,
-    few: bool,
-    moving: &CellSet<B>,
-) -> bool
+/// Lets the objects of a row go, and those that can go since they went.
+fn slide_row<B: Board>(board: &mut B, layer: LayerId, row: u32) -> u32
     requires shape { IsGrid (B.grid board.old) }
     requires layer { layer.0 < (B.grid board.old).layers }
-    requires below { IsBelow (B.grid board.old).height rows }
-    requires outside { MoveOnlyOn (B.grid board.old) layer.0 rows }
-    requires beside { few ≡ false → IsStillBeside (B.grid board.old) moving.now }
-    ensures part { let old = B.grid board.old in
-        IsPart result old (B.grid board.new) layer.0 0 (old.width * old.height) }
-    ensures table { B.table board.new ≡ B.table board.old }
-    ensures origin { B.origin board.new ≡ B.origin board.old }
-{
-    let mut left = moving_columns(board, layer, rows);
-    let mut went = false;
-    while let Some(column) = left.take_first() {
-        let visited = rows_to_visit(column, rows, few, moving);
-        went |= visit_column(board, layer, column, visited);
-    }
-    went
-}
-
-/// The columns that have a cell in which the object of a layer is about to do something, by the rows that may have one.
-fn moving_columns<B: Board>(board: &B, layer: LayerId, rows: Columns<B::Words>) -> Columns<B::Words>
-    requires shape { IsGrid (B.grid board.now) }
-    requires layer { layer.0 < (B.grid board.now).layers }
-    requires below { IsBelow (B.grid board.now).height rows }
-    requires outside { MoveOnlyOn (B.grid board.now) layer.0 rows }
-    ensures narrow { IsBelow (B.grid board.now).width result }
-    ensures still { IsStillBetween (B.grid board.now) layer.0 result }
-{
-    let mut moving = Columns::none();
-    let mut left = rows;
-    while let Some(row) = left.take_first() {
-        moving = moving.either(board.movers(layer, row));
-    }
-    moving
-}
-
-/// The rows of a set that are visited in a column: few are all visited, and of many those whose cell is one of these.
-fn rows_to_visit<B: Board>(
-    column: u32,
-    rows: Columns<B::Words>,
-    few: bool,
-    moving: &CellSet<B>,
-) -> Columns<B::Words>
-    ensures within { (row : ℕ) → row < SIDE_LIMIT → column_at rows row ≡ false → column_at result row ≡ false }
-    ensures others { (row : ℕ) → row < SIDE_LIMIT → column_at result row ≡ false → column_at rows row ≡ true →
-        (few ≡ false) × (cell_in moving.now column row ≡ false) }
-{
-    if few {
-        return rows;
-    }
-    rows_in(column, rows, moving)
-}
-
-/// The rows of a set whose cell in a column is one of these.
-fn rows_in<B: Board>(column: u32, rows: Columns<B::Words>, moving: &CellSet<B>) -> Columns<B::Words>
-    ensures within { (row : ℕ) → row < SIDE_LIMIT → column_at rows row ≡ false → column_at result row ≡ false }
-    ensures others { (row : ℕ) → row < SIDE_LIMIT → column_at result row ≡ false → column_at rows row ≡ true →
-        cell_in moving.now column row ≡ false }
-{
-    let mut found = Columns::none();
-    let mut left = rows;
-    while let Some(row) = left.take_first() {
-        found = found.with(row, moving.has(column, row));
-    }
-    found
-}
-
-/// Visits the cells of a column in these rows, from the top, and tells whether any object went.
-fn visit_column<B: Board>(
-    board: &mut B,
-    layer: LayerId,
-    column: u32,
-    rows: Columns<B::Words>,
-) -> bool
-    requires shape { IsGrid (B.grid board.old) }
-    requires layer { layer.0 < (B.grid board.old).layers }
-    requires column { column < (B.grid board.old).width }
-    requires below { IsBelow (B.grid board.old).height rows }
-    requires still { IsStillIn (B.grid board.old) layer.0 column rows }
-    ensures part { let old = B.grid board.old in
-        IsPart result old (B.grid board.new) layer.0 (column * old.height) ((column + 1) * old.height) }
+    requires row { row < (B.grid board.old).height }
+    ensures part { IsPart result (B.grid board.old) (B.grid board.new) layer.0 }
+    ensures stuck { IsStuckRow (B.grid board.new) layer.0 row }
     ensures table { B.table board.new ≡ B.table board.old }
     ensures origin { B.origin board.new ≡ B.origin board.old }
 {
     let (_, height) = board.size();
-    let mut left = rows;
-    let mut went = false;
-    while let Some(row) = left.take_first() {
-        went |= visit(board, column * height + row, layer);
+    let mut left = board.movers(layer, row);
+    let mut passes = 0u32;
+    while let Some(column) = left.take_first() {
+        let moved = visit(board, column * height + row, layer);
+        passes = most(passes, moved);
     }
-    went
+    passes
 }
 
-/// Lets the object on a layer of a cell go, if it can go at once, and tells whether it went.
-fn visit<B: Board>(board: &mut B, cell: u32, layer: LayerId) -> bool
-    requires { IsPlace (B.grid board.old) cell layer.0 }
-    ensures grid { B.grid board.new ≡ visited (B.grid board.old) layer.0 cell }
-    ensures went { result ≡ is_some (way (B.grid board.old) layer.0 cell) }
+/// Lets an object go to the cell that the object of a cell can go to at once, if there is one: the first that wants to
+/// enter it. Then those go that wait for one another.
+fn visit<B: Board>(board: &mut B, cell: u32, layer: LayerId) -> u32
+    requires shape { IsGrid (B.grid board.old) }
+    requires place { IsPlace (B.grid board.old) cell layer.0 }
+    ensures part { IsPart result (B.grid board.old) (B.grid board.new) layer.0 }
+    ensures stuck { IsStuck (B.grid board.new) layer.0 cell }
     ensures table { B.table board.new ≡ B.table board.old }
     ensures origin { B.origin board.new ≡ B.origin board.old }
 {
     let Some(to) = way(board, cell, layer) else {
-        return false;
+        return 0;
     };
-    board.shift(cell, to, layer);
-    true
+    let Some(first) = first_to_enter(board, to, layer) else {
+        return 0;
+    };
+    board.shift(first, to, layer);
+    1 + follow(board, first, layer)
+}
+
+/// Lets the object go that enters a cell which another has left, and so on with the cell that it leaves. Answers how
+/// many passes that takes, beside the one in which the first cell was left: the next one comes in the same pass, where
+/// it stands behind, and else in a pass more.
+fn follow<B: Board>(board: &mut B, left: u32, layer: LayerId) -> u32
+    requires shape { IsGrid (B.grid board.old) }
+    requires place { IsPlace (B.grid board.old) left layer.0 }
+    requires bare { slot_at (B.grid board.old) left layer.0 ≡ Bare }
+    ensures chain { IsChain result (B.grid board.old) (B.grid board.new) layer.0 left None }
+    ensures table { B.table board.new ≡ B.table board.old }
+    ensures origin { B.origin board.new ≡ B.origin board.old }
+{
+    let mut hole = left;
+    let mut passes = 0u32;
+    while let Some(from) = next_to_enter(board, hole, layer) {
+        board.shift(from, hole, layer);
+        passes += passes_more(from, hole);
+        hole = from;
+    }
+    passes
+}
+
+/// How many passes later than a cell was left the object comes that enters it: it comes in the same one, if it stands
+/// behind that cell.
+fn passes_more(from: u32, left: u32) -> u32
+    ensures { result ≤ 1 }
+{
+    if left < from { 0 } else { 1 }
+}
+
+/// The cell of least number whose object wants to enter this one.
+fn first_to_enter<B: Board>(board: &B, to: u32, layer: LayerId) -> Option<u32>
+    requires shape { IsGrid (B.grid board.now) }
+    requires place { IsPlace (B.grid board.now) to layer.0 }
+    ensures some { IfSome result (λ from. IsFirst (B.grid board.now) layer.0 to from) }
+    ensures none { result ≡ None → IsWantedByNone (B.grid board.now) layer.0 to }
+{
+    if let Some(from) = comer(board, to, layer, Direction::Right) {
+        return Some(from);
+    }
+    if let Some(from) = comer(board, to, layer, Direction::Down) {
+        return Some(from);
+    }
+    if let Some(from) = comer(board, to, layer, Direction::Up) {
+        return Some(from);
+    }
+    comer(board, to, layer, Direction::Left)
+}
+
+/// The cell whose object enters this one, which was left: the next one behind it whose object wants to, or else the
+/// first. Where nothing on the layer is about to move there is none.
+fn next_to_enter<B: Board>(board: &B, to: u32, layer: LayerId) -> Option<u32>
+    requires shape { IsGrid (B.grid board.now) }
+    requires place { IsPlace (B.grid board.now) to layer.0 }
+    ensures some { IfSome result (λ from. IsNext (B.grid board.now) layer.0 to from) }
+    ensures none { result ≡ None → IsWantedByNone (B.grid board.now) layer.0 to }
+{
+    if board.rows_moving_on(layer).is_empty() {
+        return None;
+    }
+    if let Some(from) = comer(board, to, layer, Direction::Up) {
+        return Some(from);
+    }
+    if let Some(from) = comer(board, to, layer, Direction::Left) {
+        return Some(from);
+    }
+    if let Some(from) = comer(board, to, layer, Direction::Right) {
+        return Some(from);
+    }
+    comer(board, to, layer, Direction::Down)
+}
+
+/// The cell whose object goes to this one in a direction, if one does.
+fn comer<B: Board>(board: &B, to: u32, layer: LayerId, direction: Direction) -> Option<u32>
+    requires shape { IsGrid (B.grid board.now) }
+    requires place { IsPlace (B.grid board.now) to layer.0 }
+    ensures some { IfSome result (λ from. Comes (B.grid board.now) layer.0 to direction from) }
+    ensures none { result ≡ None → (from : ℕ) → Comes (B.grid board.now) layer.0 to direction from → ⊥ }
+{
+    let Some(from) = neighbour(board, opposite(direction), to) else {
+        return None;
+    };
+    if board.goes(from, layer, direction) {
+        return Some(from);
+    }
+    None
+}
+
+/// The direction back.
+fn opposite(direction: Direction) -> Direction
+    ensures { result ≡ opposite direction }
+{
+    match direction {
+        Direction::Up => Direction::Down,
+        Direction::Down => Direction::Up,
+        Direction::Left => Direction::Right,
+        Direction::Right => Direction::Left,
+    }
 }
 
 /// The cell that the object on a layer of a cell can go to at once: the one that it wants to go to, if nothing stands

@@ -26,7 +26,7 @@ use crate::planes::Planes;
 use crate::row_differences::{RowDifference, change_rows, differences, reach};
 use crate::sameness::{differing_row, same_planes, same_planes_on, unlike_row};
 use ps_board::{Board, ColumnWords, Columns};
-use ps_model::{LayerId, LayeredObject, Memory, Motion, MotionTest, ObjectId};
+use ps_model::{Direction, LayerId, LayeredObject, Memory, Motion, MotionTest, ObjectId};
 use ps_program::CellWrite;
 use std::alloc::Global;
 use std::snapshot::Snapshot;
@@ -503,6 +503,15 @@ impl<W: ColumnWords> Board for RowBoard<W> {
     fn motion(&self, cell: u32, layer: LayerId) -> Motion {
         let first = self.motions_from(layer.0);
         first_motion(&self.planes, cell, first)
+    }
+
+    fn goes(&self, cell: u32, layer: LayerId, direction: Direction) -> bool {
+        let test = MotionTest {
+            layer,
+            motion: Motion::Going(direction),
+        };
+        let height = self.planes.height;
+        self.motion_row(&test, cell % height).has(cell / height)
     }
 
     /// The row of the cell is noted.

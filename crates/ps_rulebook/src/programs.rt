@@ -3,7 +3,6 @@
 ghost use Rattle.std.specs.Prelude.{◌≡◌, IfOk};
 
 use crate::game_rules::GameRules;
-use ps_board::CellSet;
 use ps_engine::Scan;
 use ps_model::Memory;
 use ps_program::CompiledSection;
@@ -20,13 +19,12 @@ pub fn rules_of_sections<'p, 'r, B: Scan>(
     alloc: Global,
     plain: &'p [CompiledSection<'r>],
     late: &'p [CompiledSection<'r>],
-) -> Result<TurnRules<B, GameRules<'p, 'r, B>>, Memory>
+) -> Result<TurnRules<GameRules<'p, 'r, B>>, Memory>
     ensures plain { IfOk result (λ rules. rules.plain ≡ plain.entry.now) }
     ensures late { IfOk result (λ rules. rules.late ≡ late.entry.now) }
 {
     Ok(TurnRules {
         plain: GameRules::try_new(alloc, plain)?,
         late: GameRules::try_new(alloc, late)?,
-        moving: CellSet::try_new(alloc)?,
     })
 }

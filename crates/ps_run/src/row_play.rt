@@ -18,7 +18,7 @@ use std::marker::Model;
 /// A session on boards whose rows are kept by words of this kind, with the rules of a game on such boards.
 pub struct RowPlay<'g, V: ColumnWords> {
     session: Session<'g, RowBoard<V>, RowHistory<V>>,
-    rules: TurnRules<RowBoard<V>, GameRules<'g, 'g, RowBoard<V>>>,
+    rules: TurnRules<GameRules<'g, 'g, RowBoard<V>>>,
 }
 
 /// Written out, so that who owns a game in play calls this on each way out, instead of dropping its parts there.

@@ -48,7 +48,7 @@ pub fn quits<B: Board>(stage: &mut Stage<'_, B>) -> Result<NextLevel<B>, Memory>
 /// `Memory` or `Elsewhere`, and the level is as before.
 fn moves<B: Board, R: Rules<B>>(
     stage: &mut Stage<'_, B>,
-    rules: &mut TurnRules<B, R>,
+    rules: &mut TurnRules<R>,
     level: &mut PlayedLevel<B>,
     input: Input,
 ) -> Result<Option<NextLevel<B>>, Stop>
@@ -116,7 +116,7 @@ fn undoes<B: Board, H: History<B>>(
 /// `Memory`.
 fn restarts<B: Board, R: Rules<B>>(
     stage: &mut Stage<'_, B>,
-    rules: &mut TurnRules<B, R>,
+    rules: &mut TurnRules<R>,
     level: &mut PlayedLevel<B>,
 ) -> Result<NextLevel<B>, Memory>
     requires empty { stage.old.text ≡ [] }
@@ -144,7 +144,7 @@ fn restarts<B: Board, R: Rules<B>>(
 /// as before.
 pub fn key_in_level<B: Board, H: History<B>, R: Rules<B>>(
     stage: &mut Stage<'_, B>,
-    rules: &mut TurnRules<B, R>,
+    rules: &mut TurnRules<R>,
     level: &mut PlayedLevel<B>,
     history: &H,
     key: Key,

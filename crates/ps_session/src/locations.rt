@@ -26,7 +26,7 @@ use ps_turn::{Rules, TurnRules};
 /// `Memory`, or `Elsewhere` where the key leads to a level for other boards; the location is as before.
 pub fn next_at<B: Board, H: History<B>, R: Rules<B>>(
     stage: &mut Stage<'_, B>,
-    rules: &mut TurnRules<B, R>,
+    rules: &mut TurnRules<R>,
     location: &mut Location<PlayedLevel<B>>,
     history: &H,
     key: Key,

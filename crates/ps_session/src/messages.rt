@@ -26,7 +26,7 @@ use ps_turn::{Rules, TurnRules};
 /// `Memory`, or `Elsewhere` where the level is done and the next entry is a level for other boards.
 pub fn key_at_level_message<B: Board, R: Rules<B>>(
     stage: &mut Stage<'_, B>,
-    rules: &mut TurnRules<B, R>,
+    rules: &mut TurnRules<R>,
     level: &mut PlayedLevel<B>,
     pending: Pending,
     key: Key,
@@ -68,7 +68,7 @@ pub fn key_at_level_message<B: Board, R: Rules<B>>(
 /// `Memory`, or `Elsewhere` where the next entry is a level for other boards.
 pub fn key_at_entry<B: Board, R: Rules<B>>(
     stage: &mut Stage<'_, B>,
-    rules: &mut TurnRules<B, R>,
+    rules: &mut TurnRules<R>,
     entry: &EntryNumber,
     key: Key,
 ) -> Result<Option<NextLevel<B>>, Stop>

@@ -96,7 +96,7 @@ pub fn tell_stop<B: Board>(stage: &mut Stage<'_, B>, stop: Stop, output: &mut Ou
 /// `Memory`, and the output is as before.
 pub fn begin<B: Board, R: Rules<B>>(
     stage: &mut Stage<'_, B>,
-    rules: &mut TurnRules<B, R>,
+    rules: &mut TurnRules<R>,
     entry: usize,
     output: &mut OutputText,
 ) -> Result<Location<PlayedLevel<B>>, Memory>

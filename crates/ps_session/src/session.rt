@@ -74,7 +74,7 @@ impl<'g, B: Board, H: History<B>> Session<'g, B, H> {
         alloc: Global,
         game: SessionGame<'g>,
         sides: BoardSides,
-        rules: &mut TurnRules<B, R>,
+        rules: &mut TurnRules<R>,
         entry: usize,
         output: &mut OutputText,
     ) -> Result<Session<'g, B, H>, Memory>
@@ -112,7 +112,7 @@ impl<'g, B: Board, H: History<B>> Session<'g, B, H> {
     /// writes before that entry begins.
     pub fn key<R: Rules<B>>(
         &mut self,
-        rules: &mut TurnRules<B, R>,
+        rules: &mut TurnRules<R>,
         key: Key,
         output: &mut OutputText,
     ) -> Result<Phase, Stop>

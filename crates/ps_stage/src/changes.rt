@@ -64,7 +64,7 @@ impl<'g, B: Board> Stage<'g, B> {
     /// A level is done: the next entry begins, and the history is empty.
     fn end_level<R: Rules<B>>(
         &mut self,
-        rules: &mut TurnRules<B, R>,
+        rules: &mut TurnRules<R>,
         level: &PlayedLevel<B>,
     ) -> Result<LevelChange<B>, Stop>
         ensures game { self.new.game ≡ self.old.game }
@@ -91,7 +91,7 @@ impl<'g, B: Board> Stage<'g, B> {
     #[inline(always)]
     fn finish_key<R: Rules<B>>(
         &mut self,
-        rules: &mut TurnRules<B, R>,
+        rules: &mut TurnRules<R>,
         mut level: PlayedLevel<B>,
         end: KeyEnd,
         history_change: HistoryChange,
@@ -136,7 +136,7 @@ impl<'g, B: Board> Stage<'g, B> {
     /// that follow.
     fn end_key<R: Rules<B>>(
         &mut self,
-        rules: &mut TurnRules<B, R>,
+        rules: &mut TurnRules<R>,
         level: &mut PlayedLevel<B>,
         done: &DoneTurn,
     ) -> Result<KeyEnd, Memory>
@@ -165,7 +165,7 @@ impl<'g, B: Board> Stage<'g, B> {
     /// again turns. If memory is wanting, the boards of the level are spare.
     fn follow_key<R: Rules<B>>(
         &mut self,
-        rules: &mut TurnRules<B, R>,
+        rules: &mut TurnRules<R>,
         mut level: PlayedLevel<B>,
         done: &DoneTurn,
         rows: Columns<B::Words>,
@@ -207,7 +207,7 @@ impl<'g, B: Board> Stage<'g, B> {
     /// Tries a turn of a level with an input. The level stays as it is.
     fn try_turn<R: Rules<B>>(
         &mut self,
-        rules: &mut TurnRules<B, R>,
+        rules: &mut TurnRules<R>,
         level: &mut PlayedLevel<B>,
         input: Input,
     ) -> Result<TriedTurn<B>, Memory>
@@ -235,7 +235,7 @@ impl<'g, B: Board> Stage<'g, B> {
     /// What follows a turn that was tried on a level.
     fn follow_tried<R: Rules<B>>(
         &mut self,
-        rules: &mut TurnRules<B, R>,
+        rules: &mut TurnRules<R>,
         level: &mut PlayedLevel<B>,
         tried: TriedTurn<B>,
     ) -> Result<LevelChange<B>, Stop>
@@ -286,7 +286,7 @@ impl<'g, B: Board> Stage<'g, B> {
     /// level for other boards, and what comes before it was made.
     pub fn take_input<R: Rules<B>>(
         &mut self,
-        rules: &mut TurnRules<B, R>,
+        rules: &mut TurnRules<R>,
         level: &mut PlayedLevel<B>,
         input: Input,
     ) -> Result<LevelChange<B>, Stop>
@@ -325,7 +325,7 @@ impl<'g, B: Board> Stage<'g, B> {
     /// The again turns of a key that are left come behind a message.
     fn go_on_with_key<R: Rules<B>>(
         &mut self,
-        rules: &mut TurnRules<B, R>,
+        rules: &mut TurnRules<R>,
         level: &mut PlayedLevel<B>,
         left: u32,
     ) -> Result<LevelChange<B>, Stop>
@@ -355,7 +355,7 @@ impl<'g, B: Board> Stage<'g, B> {
     /// The again turns of a start that are left come behind a message.
     fn go_on_with_start<R: Rules<B>>(
         &mut self,
-        rules: &mut TurnRules<B, R>,
+        rules: &mut TurnRules<R>,
         level: &mut PlayedLevel<B>,
         left: u32,
     ) -> Result<LevelChange<B>, Stop>
@@ -391,7 +391,7 @@ impl<'g, B: Board> Stage<'g, B> {
     /// level for other boards, and what comes before it was made.
     pub fn go_on<R: Rules<B>>(
         &mut self,
-        rules: &mut TurnRules<B, R>,
+        rules: &mut TurnRules<R>,
         level: &mut PlayedLevel<B>,
         pending: Pending,
     ) -> Result<LevelChange<B>, Stop>

@@ -79,7 +79,7 @@ impl<'g, B: Board> Stage<'g, B> {
     /// A level begins: its line, and its start.
     fn enter_level<R: Rules<B>>(
         &mut self,
-        rules: &mut TurnRules<B, R>,
+        rules: &mut TurnRules<R>,
         number: usize,
         entry: EntryNumber,
         level: &Level,
@@ -116,7 +116,7 @@ impl<'g, B: Board> Stage<'g, B> {
     /// `Memory`, and a part of the text may have been made.
     pub fn begin<R: Rules<B>>(
         &mut self,
-        rules: &mut TurnRules<B, R>,
+        rules: &mut TurnRules<R>,
         entry: usize,
     ) -> Result<Location<PlayedLevel<B>>, Memory>
         requires { side_at self.old.game.entries entry ≤ B.Words.limit }
@@ -153,7 +153,7 @@ impl<'g, B: Board> Stage<'g, B> {
     /// `Memory`, and a part of the text may have been made; `Elsewhere`, and nothing was made.
     pub fn enter<R: Rules<B>>(
         &mut self,
-        rules: &mut TurnRules<B, R>,
+        rules: &mut TurnRules<R>,
         entry: usize,
     ) -> Result<Location<PlayedLevel<B>>, Stop>
         ensures game { self.new.game ≡ self.old.game }
@@ -183,7 +183,7 @@ impl<'g, B: Board> Stage<'g, B> {
     /// `Memory`, and a part of the text may have been made; `Elsewhere`, and the closing line was.
     pub fn level_done<R: Rules<B>>(
         &mut self,
-        rules: &mut TurnRules<B, R>,
+        rules: &mut TurnRules<R>,
         level: &PlayedLevel<B>,
     ) -> Result<Location<PlayedLevel<B>>, Stop>
         ensures game { self.new.game ≡ self.old.game }
@@ -214,7 +214,7 @@ impl<'g, B: Board> Stage<'g, B> {
     /// `Memory`, and a part of the text may have been made.
     pub fn restart<R: Rules<B>>(
         &mut self,
-        rules: &mut TurnRules<B, R>,
+        rules: &mut TurnRules<R>,
         level: &mut PlayedLevel<B>,
         message: Option<Text>,
     ) -> Result<Location<PlayedLevel<B>>, Memory>

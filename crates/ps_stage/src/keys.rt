@@ -115,7 +115,7 @@ impl<'g, B: Board> Stage<'g, B> {
     /// them; so does a restart.
     fn key_turn<R: Rules<B>>(
         &mut self,
-        rules: &mut TurnRules<B, R>,
+        rules: &mut TurnRules<R>,
         level: &mut PlayedLevel<B>,
         left: u32,
     ) -> Result<KeyTold, Memory>
@@ -139,7 +139,7 @@ impl<'g, B: Board> Stage<'g, B> {
     /// The again turns of a key, so many at most.
     pub(crate) fn key_turns<R: Rules<B>>(
         &mut self,
-        rules: &mut TurnRules<B, R>,
+        rules: &mut TurnRules<R>,
         level: &mut PlayedLevel<B>,
         most: u32,
     ) -> Result<KeyEnd, Memory>
@@ -168,7 +168,7 @@ impl<'g, B: Board> Stage<'g, B> {
     /// The again turns of a key, as many as there may be.
     pub(crate) fn all_key_turns<R: Rules<B>>(
         &mut self,
-        rules: &mut TurnRules<B, R>,
+        rules: &mut TurnRules<R>,
         level: &mut PlayedLevel<B>,
     ) -> Result<KeyEnd, Memory>
         requires { level.old.basis ≡ basis_of B.table_for self.old.game.names }

@@ -120,7 +120,7 @@ pub type LevelChange<B> = Change<PlayedLevel<B>, Columns<<B as Board>::Words>>;
 /// `Memory`, and the second board is equal to the first again.
 fn run_turn<B: Board, R: Rules<B>>(
     game: &SessionGame<'_>,
-    rules: &mut TurnRules<B, R>,
+    rules: &mut TurnRules<R>,
     input: Option<Input>,
     before: &B,
     after: &mut B,
@@ -152,7 +152,7 @@ fn run_turn<B: Board, R: Rules<B>>(
 /// `Memory`, and the board is as before, or as the turn left it.
 fn counted_turn<B: Board, R: Rules<B>>(
     game: &SessionGame<'_>,
-    rules: &mut TurnRules<B, R>,
+    rules: &mut TurnRules<R>,
     input: Option<Input>,
     counting: Counting,
     picture: &mut Picture<'_>,
@@ -509,7 +509,7 @@ impl<B: Board> PlayedLevel<B> {
         spares: &mut SpareLevels<B>,
         picture: &mut Picture<'_>,
         game: &SessionGame<'_>,
-        rules: &mut TurnRules<B, R>,
+        rules: &mut TurnRules<R>,
         input: Option<Input>,
         counting: Counting,
     ) -> Result<Turned, Memory>
@@ -584,7 +584,7 @@ impl<B: Board> PlayedLevel<B> {
         spares: &mut SpareLevels<B>,
         picture: &mut Picture<'_>,
         game: &SessionGame<'_>,
-        rules: &mut TurnRules<B, R>,
+        rules: &mut TurnRules<R>,
         input: Input,
     ) -> Result<TriedTurn<B>, Memory>
         requires basis { self.old.basis ≡ basis_of B.table_for game.now.names }

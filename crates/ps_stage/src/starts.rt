@@ -132,7 +132,7 @@ impl<'g, B: Board> Stage<'g, B> {
     /// A turn of a level without an input. Where it is done and counts, the level has its board.
     pub(crate) fn take_turn<R: Rules<B>>(
         &mut self,
-        rules: &mut TurnRules<B, R>,
+        rules: &mut TurnRules<R>,
         level: &mut PlayedLevel<B>,
         counting: Counting,
     ) -> Result<Turned, Memory>
@@ -182,7 +182,7 @@ impl<'g, B: Board> Stage<'g, B> {
     /// One again turn of a start: one that leaves the board as it was is as if not run, and ends them.
     fn start_turn<R: Rules<B>>(
         &mut self,
-        rules: &mut TurnRules<B, R>,
+        rules: &mut TurnRules<R>,
         level: &mut PlayedLevel<B>,
         left: u32,
     ) -> Result<StartTold, Memory>
@@ -207,7 +207,7 @@ impl<'g, B: Board> Stage<'g, B> {
     /// The again turns of a start, so many at most.
     pub(crate) fn start_turns<R: Rules<B>>(
         &mut self,
-        rules: &mut TurnRules<B, R>,
+        rules: &mut TurnRules<R>,
         level: &mut PlayedLevel<B>,
         most: u32,
     ) -> Result<Option<Pending>, Memory>
@@ -236,7 +236,7 @@ impl<'g, B: Board> Stage<'g, B> {
     /// The again turns of a start, as many as there may be.
     fn all_start_turns<R: Rules<B>>(
         &mut self,
-        rules: &mut TurnRules<B, R>,
+        rules: &mut TurnRules<R>,
         level: &mut PlayedLevel<B>,
     ) -> Result<Option<Pending>, Memory>
         requires { level.old.basis ≡ basis_of B.table_for self.old.game.names }
@@ -257,7 +257,7 @@ impl<'g, B: Board> Stage<'g, B> {
     /// A level from its first frame on, with a message or without one, and with again turns or without.
     fn started<R: Rules<B>>(
         &mut self,
-        rules: &mut TurnRules<B, R>,
+        rules: &mut TurnRules<R>,
         level: &mut PlayedLevel<B>,
         message: &Option<Text>,
         again: bool,
@@ -284,7 +284,7 @@ impl<'g, B: Board> Stage<'g, B> {
     /// comes first; its message comes before one from before.
     fn start_with<R: Rules<B>>(
         &mut self,
-        rules: &mut TurnRules<B, R>,
+        rules: &mut TurnRules<R>,
         level: &mut PlayedLevel<B>,
         message: &Option<Text>,
     ) -> Result<Option<Pending>, Memory>
@@ -312,7 +312,7 @@ impl<'g, B: Board> Stage<'g, B> {
     /// The start of a level, with a message from before or without one.
     pub(crate) fn start_step<R: Rules<B>>(
         &mut self,
-        rules: &mut TurnRules<B, R>,
+        rules: &mut TurnRules<R>,
         level: &mut PlayedLevel<B>,
         message: Option<Text>,
     ) -> Result<Option<Pending>, Memory>

@@ -3,7 +3,7 @@
 ghost use Rattle.std.specs.Prelude.{◌<◌, ◌≤◌};
 ghost use Rattle.ps_model.specs.declared.limits.TheConstants.{LAYER_LIMIT, SIDE_LIMIT};
 
-use ps_board::{Board, CellSet, Direction, LayerId, ListBoard, Motion, ObjectId};
+use ps_board::{Board, Direction, LayerId, ListBoard, Motion, ObjectId};
 use ps_move::slide;
 use std::alloc::Global;
 use std::process::Abort;
@@ -79,8 +79,7 @@ fn check(
             }
         }
     }
-    let mut moving = CellSet::try_new(alloc)?;
-    let slid = slide(&mut board, &mut moving);
+    let slid = slide(&mut board);
     for layer in 0..layers {
         for y in 0..height {
             for x in 0..width {

@@ -48,7 +48,7 @@ fn is_refused(alloc: Global) -> bool {
 fn expect_session_again<'g, R: Rules<RowBoard<OneWord>> + Drop>(
     rt: &(impl Abort + AllocGlobal),
     session: &mut Session<'g, RowBoard<OneWord>, RowHistory<OneWord>>,
-    rules: &mut TurnRules<RowBoard<OneWord>, R>,
+    rules: &mut TurnRules<R>,
     output: &mut OutputText,
     opening: &str,
     steps: &[Step<'_>],

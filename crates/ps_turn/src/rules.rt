@@ -5,7 +5,7 @@ ghost use Rattle.ps_model.specs.board.Programs.{Section, program_run};
 ghost use Rattle.ps_turn.specs.States.{queue_shown, state_of};
 
 use crate::queue::Queue;
-use ps_board::{Board, CellSet};
+use ps_board::Board;
 use ps_model::Memory;
 
 /// The rules of one part of a turn, with what their runs need besides the board.
@@ -30,20 +30,17 @@ pub trait Rules<B: Board> {
 }
 
 /// The rules of a game's turns: those before the movement, and those behind it.
-pub struct TurnRules<B: Board, R> {
+pub struct TurnRules<R> {
     pub plain: R,
     pub late: R,
-    /// Room for the cells of a movement in which something moves.
-    pub moving: CellSet<B>,
 }
 
 /// Written out, so that who owns rules calls this on each way out, instead of dropping their parts there.
-impl<B: Board, R: Drop> Drop for TurnRules<B, R> {
+impl<R: Drop> Drop for TurnRules<R> {
     fn drop(self) {
         let TurnRules {
             plain: _plain,
             late: _late,
-            moving: _moving,
         } = self;
     }
 }

@@ -99,7 +99,7 @@ fn prepare<B: Board>(game: &TurnGame<'_>, input: Option<Input>, board: &mut B)
 /// `Memory`, and a part of the changes may have been made.
 fn play<B: Board, R: Rules<B>>(
     game: &TurnGame<'_>,
-    rules: &mut TurnRules<B, R>,
+    rules: &mut TurnRules<R>,
     input: Option<Input>,
     board: &mut B,
 ) -> Result<Queue, Memory>
@@ -115,7 +115,7 @@ fn play<B: Board, R: Rules<B>>(
     let mut queue = Queue::new();
     prepare(game, input, board);
     rules.plain.run(board, &mut queue)?;
-    let _ = slide(board, &mut rules.moving);
+    let _ = slide(board);
     rules.late.run(board, &mut queue)?;
     Ok(queue)
 }
@@ -201,7 +201,7 @@ fn outcome<B: Board>(
 /// `Memory`: the first board stands, and the second is equal to it again.
 pub fn turn<B: Board, R: Rules<B>>(
     game: &TurnGame<'_>,
-    rules: &mut TurnRules<B, R>,
+    rules: &mut TurnRules<R>,
     input: Option<Input>,
     before: &B,
     after: &mut B,

@@ -1,4 +1,4 @@
-use Rattle.std.proofs.Common.{◌≡◌, ◌∙◌, ℕ, ◌+◌, ◌*◌, ◌≤◌, false, subst, arith, refl, ap}
+use Rattle.std.proofs.Common.{◌≡◌, ◌∙◌, ℕ, ◌+◌, ◌*◌, ◌≤◌, None, subst, arith, refl, ap, sym}
 use Rattle.ps_model.specs.declared.limits.TheConstants.{SIDE_LIMIT, LAYER_LIMIT}
 use Rattle.ps_model.specs.board.Grid.{Grid, at_rest}
 use Rattle.ps_model.specs.board.WeakMovement.{IsWeaklySlid}
@@ -8,8 +8,6 @@ use Rattle.ps_move.specs.Order.{IsInOrder}
 use Rattle.ps_move.proofs.Parts.{going_count-bound, order_none, rest_slides}
 use Rattle.ps_move.proofs.Passes.{passes_none, passes_then}
 use Rattle.ps_move.proofs.Ends.{rest_exact}
-use Rattle.ps_move.proofs.Movers.{all_below, moves_in_all}
-use Rattle.ps_move.proofs.StillCells.{outside_then}
 use Rattle.ps_move.proofs.movement.slide.Goals as goal
 
 pub loop-layer-init : goal.loop-layer-init
@@ -20,7 +18,6 @@ loop-layer-init g c = (
     few = omega arith;
     none = λ _. refl;
     passes = passes_none (g.B.Board.grid c.args.board.now) 0;
-    beside = λ many. absurd (cc);
     table = refl;
     origin = refl;
   },
@@ -34,25 +31,10 @@ pub slide_layer-moved-requires-clause-layer : goal.slide_layer-moved-requires-cl
 slide_layer-moved-requires-clause-layer g c =
     rw (c.loop-layer.invariant.1.passes.layers, ← c.layers-layer-end.ensures) c.loop-layer-test.true
 
-pub slide_layer-moved-requires-clause-below : goal.slide_layer-moved-requires-clause-below
-slide_layer-moved-requires-clause-below g c =
-    let old : Grid = g.B.Board.grid c.args.board.now in
-    let below : c.below-rows.result ≡ columns_below old.height =
-    c.below-rows.ensures ∙ ap columns_below c.size-height.ensures.height in
-    rw c.loop-layer.invariant.1.passes.height (all_below old.height c.below-rows.result below)
-
-pub slide_layer-moved-requires-clause-outside : goal.slide_layer-moved-requires-clause-outside
-slide_layer-moved-requires-clause-outside g c =
-    let old : Grid = g.B.Board.grid c.args.board.now in
-    let was = c.loop-layer.invariant.1.passes in
-    let below : c.below-rows.result ≡ columns_below old.height =
-    c.below-rows.ensures ∙ ap columns_below c.size-height.ensures.height in
-    let layer : ℕ = c.loop-layer.layer in
-    outside_then old (g.B.Board.grid c.loop-layer.board) layer c.below-rows.result was.width was.height was.still
-    (moves_in_all old layer c.below-rows.result c.size-height.ensures.shape below)
-
-pub slide_layer-moved-requires-clause-beside : goal.slide_layer-moved-requires-clause-beside
-slide_layer-moved-requires-clause-beside g c = c.loop-layer.invariant.1.beside
+pub slide_layer-moved-requires-clause-rows : goal.slide_layer-moved-requires-clause-rows
+slide_layer-moved-requires-clause-rows g c =
+    c.below-rows.ensures
+    ∙ ap columns_below (c.size-height.ensures.height ∙ sym c.loop-layer.invariant.1.passes.height)
 
 pub most_passes-passes-requires-clause-some : goal.most_passes-passes-requires-clause-some
 most_passes-passes-requires-clause-some g c = c.loop-layer.invariant.1.some
@@ -81,7 +63,6 @@ loop-layer-preserved g c =
         passes = passes_then moved c.slide_layer-moved.result (g.B.Board.grid c.args.board.now)
             (g.B.Board.grid c.loop-layer.board) (g.B.Board.grid c.slide_layer-moved.new.board) 0 c.loop-layer.layer
             (c.loop-layer.layer + 1) was.passes c.slide_layer-moved.ensures.passes;
-        beside = c.slide_layer-moved.ensures.beside;
         table = c.slide_layer-moved.ensures.table ∙ was.table;
         origin = c.slide_layer-moved.ensures.origin ∙ was.origin;
       },
@@ -96,8 +77,8 @@ returns-clause-exact g c =
     let high = c.loop-layer.auto.layer-end in
     let all : c.layers-layer-end.result ≡ start.layers = c.layers-layer-end.ensures in
     let end : c.loop-layer.layer ≡ now.layers = omega (arith, was.layers) in
-    let order : IsInOrder start now false now.layers 0 =
-    subst (λ (layer : ℕ). IsInOrder start now false layer 0) end (was.order start (order_none start)) in
+    let order : IsInOrder start now now.layers None =
+    subst (λ (layer : ℕ). IsInOrder start now layer None) end (was.order start (order_none start)) in
     c.clear_moves.ensures.grid ∙ rest_exact start now (was.shape c.size-height.ensures.shape) order
 
 pub returns-clause-slid : goal.returns-clause-slid

@@ -1,5 +1,5 @@
-use Rattle.std.proofs.Common.{◌≡◌, ◌≤◌, ◌+◌, ℕ, false}
-use Rattle.ps_move.specs.Parts.{ArePasses, IsStillBeside}
+use Rattle.std.proofs.Common.{◌≡◌, ◌≤◌, ◌+◌, ℕ}
+use Rattle.ps_move.specs.Parts.{ArePasses}
 use Rattle.ps_move.proofs.movement.slide.Given as goal
 
 -- the layers before some one have had their passes, of which those of one layer are counted
@@ -10,7 +10,6 @@ invariant-loop-layer g l =
       few : l.passes ≤ moved + 1;
       none : l.passes ≡ 1 → moved ≡ 0;
       passes : ArePasses moved (g.B.Board.grid l.fn.board) (g.B.Board.grid l.board) 0 l.layer;
-      beside : l.few ≡ false → IsStillBeside (g.B.Board.grid l.board) l.moving;
       table : g.B.Board.table l.board ≡ g.B.Board.table l.fn.board;
       origin : g.B.Board.origin l.board ≡ g.B.Board.origin l.fn.board;
     })

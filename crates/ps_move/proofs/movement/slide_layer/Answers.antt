@@ -1,112 +1,83 @@
-use Rattle.std.proofs.Common.{◌≡◌, ◌∙◌, ℕ, ◌*◌, ◌+◌, ◌≤◌, Bool, true, subst, arith, refl}
-use Rattle.ps_model.specs.declared.limits.TheConstants.{SIDE_LIMIT, LAYER_LIMIT}
-use Rattle.ps_model.specs.board.Grid.{Grid, IsGrid}
-use Rattle.ps_move.specs.Visits.{going_count}
-use Rattle.ps_move.specs.Parts.{ArePasses, IsPart}
-use Rattle.ps_move.proofs.Parts.{going_count-bound}
-use Rattle.ps_move.proofs.Movers.{below_both, moves_in_both}
-use Rattle.ps_move.proofs.Passes.{passes_end, passes_more, passes_none, passes_still, passes_then}
-use Rattle.ps_move.proofs.StillCells.{beside_then, outside_then}
+use Rattle.std.proofs.Common.{◌≡◌, ◌∙◌, ℕ, ◌<◌, ◌||◌, inl, inr, Bool, List, [], refl, sym, ap, arith, subst}
+use Rattle.std.proofs.lemmas.Bool.{cases_eq, ne_eqb}
+use Rattle.ps_model.specs.declared.limits.TheConstants.{SIDE_LIMIT}
+use Rattle.ps_model.specs.board.Grid.{Grid}
+use Rattle.ps_board.specs.ColumnSets.{column_at, set_columns}
+use Rattle.ps_board.proofs.ColumnLaws.{none_in}
+use Rattle.ps_board.proofs.Taken.{below-more, taken_below, taken_out}
+use Rattle.ps_move.specs.Parts.{IsStuckRow}
+use Rattle.ps_move.proofs.Movers.{all_below, below_both, moves_in_all, moves_in_both, stuck_beside}
+use Rattle.ps_move.proofs.Parts.{part_none, part_then, passes_of_part, stuck_row_still}
 use Rattle.ps_move.proofs.movement.slide_layer.Goals as goal
 
-pub returns-then-is_empty-clause-passes : goal.returns-then-is_empty-clause-passes
-returns-then-is_empty-clause-passes g c =
+pub loop-row-init : goal.loop-row-init
+loop-row-init g c =
     let old : Grid = g.B.Board.grid c.args.board.now in
     let layer : ℕ = (c.args.layer).0 in
-    passes_still old layer c.both-left.result c.requires.shape
-    (moves_in_both old layer c.args.rows c.rows_moving_on.result c.both-left.result c.requires.shape
-    c.both-left.ensures c.requires.outside c.rows_moving_on.ensures) (c.is_empty.ensures.none c.if-is_empty.true)
-
-pub loop-layer-init : goal.loop-layer-init
-loop-layer-init g c =
-    let old : Grid = g.B.Board.grid c.args.board.now in
-    let layer : ℕ = (c.args.layer).0 in
+    let both : List Bool = c.both-left.result in
     record {
-      passes = passes_none old layer;
-      below = below_both old.height c.args.rows c.rows_moving_on.result c.both-left.result c.both-left.ensures
-          c.requires.below;
-      outside = moves_in_both old layer c.args.rows c.rows_moving_on.result c.both-left.result c.requires.shape
-          c.both-left.ensures c.requires.outside c.rows_moving_on.ensures;
-      beside = c.note_cells.ensures;
+      part = part_none old layer;
+      below = record {
+        at = below_both old.height c.args.rows c.rows_moving_on.result both c.both-left.ensures
+            (all_below old.height c.args.rows c.requires.rows);
+      };
+      stuck = stuck_beside old layer both (moves_in_both old layer c.args.rows c.rows_moving_on.result both
+          c.requires.shape c.both-left.ensures (moves_in_all old layer c.args.rows c.requires.shape c.requires.rows)
+          c.rows_moving_on.ensures);
       table = refl;
       origin = refl;
     }
 
-pub pass-requires-clause-shape : goal.pass-requires-clause-shape
-pass-requires-clause-shape g c = c.loop-layer.invariant.passes.shape c.requires.shape
+pub slide_row-moved-requires-clause-shape : goal.slide_row-moved-requires-clause-shape
+slide_row-moved-requires-clause-shape g c = c.loop-row.invariant.part.shape c.requires.shape
 
-pub pass-requires-clause-layer : goal.pass-requires-clause-layer
-pass-requires-clause-layer g c = rw c.loop-layer.invariant.passes.layers c.requires.layer
+pub slide_row-moved-requires-clause-layer : goal.slide_row-moved-requires-clause-layer
+slide_row-moved-requires-clause-layer g c = rw c.loop-row.invariant.part.layers c.requires.layer
 
-pub pass-requires-clause-below : goal.pass-requires-clause-below
-pass-requires-clause-below g c = c.loop-layer.invariant.below
-
-pub pass-requires-clause-outside : goal.pass-requires-clause-outside
-pass-requires-clause-outside g c = c.loop-layer.invariant.outside
-
-pub pass-requires-clause-beside : goal.pass-requires-clause-beside
-pass-requires-clause-beside g c = c.loop-layer.invariant.beside
-
-pub overflow_add-passes : goal.overflow_add-passes
-overflow_add-passes g c =
-    let few = c.loop-layer.invariant.passes.fewer in
-    let all : going_count (g.B.Board.grid c.args.board.now) ≤ SIDE_LIMIT * SIDE_LIMIT * LAYER_LIMIT =
-    going_count-bound (g.B.Board.grid c.args.board.now) c.requires.shape in
-    omega (arith, few, all)
-
-pub loop-layer-preserved : goal.loop-layer-preserved
-loop-layer-preserved g c =
-    let now : Grid = g.B.Board.grid c.loop-layer.board in
-    let new : Grid = g.B.Board.grid c.pass.new.board in
-    let layer : ℕ = (c.args.layer).0 in
-    let was = c.loop-layer.invariant in
-    let P : Bool → Type 0 = λ went. IsPart went now new layer 0 (now.width * now.height) in
-    let part : P true = subst P c.loop-layer-test.true c.pass.ensures.part in
-    let shape : IsGrid new = part.shape (was.passes.shape c.requires.shape) in
-    record {
-      passes = passes_more c.loop-layer.passes (g.B.Board.grid c.args.board.now) now new layer layer c.requires.shape
-          was.passes part;
-      below = rw part.height (below_both now.height c.loop-layer.left c.rows_moving_on-in-loop-layer.result
-          c.both-left-in-loop-layer.result c.both-left-in-loop-layer.ensures was.below);
-      outside = moves_in_both new layer c.loop-layer.left c.rows_moving_on-in-loop-layer.result
-          c.both-left-in-loop-layer.result shape c.both-left-in-loop-layer.ensures
-          (outside_then now new layer c.loop-layer.left part.width part.height part.still was.outside)
-          c.rows_moving_on-in-loop-layer.ensures;
-      beside = λ many. beside_then now new c.note_cells.new.moving part.width part.height part.still
-          (was.beside many);
-      table = c.pass.ensures.table ∙ was.table;
-      origin = c.pass.ensures.origin ∙ was.origin;
-    }
-
--- behind a pass after which nothing on the layer is about to do something, another one would change nothing
-pub returns-then-is_empty-2-clause-passes : goal.returns-then-is_empty-2-clause-passes
-returns-then-is_empty-2-clause-passes g c =
+pub slide_row-moved-requires-clause-row : goal.slide_row-moved-requires-clause-row
+slide_row-moved-requires-clause-row g c =
     let old : Grid = g.B.Board.grid c.args.board.now in
-    let now : Grid = g.B.Board.grid c.loop-layer.board in
-    let new : Grid = g.B.Board.grid c.pass.new.board in
+    let was = c.loop-row.invariant in
+    let down : c.in-Some.row < old.height =
+    taken_below c.loop-row.left c.take_first.new.self old.height c.in-Some.row c.in-Some.ensures.some was.below in
+    rw was.part.height down
+
+pub loop-row-preserved : goal.loop-row-preserved
+loop-row-preserved g c =
+    let old : Grid = g.B.Board.grid c.args.board.now in
+    let now : Grid = g.B.Board.grid c.loop-row.board in
+    let new : Grid = g.B.Board.grid c.slide_row-moved.new.board in
     let layer : ℕ = (c.args.layer).0 in
-    let was = c.loop-layer.invariant in
-    let P : Bool → Type 0 = λ went. IsPart went now new layer 0 (now.width * now.height) in
-    let part : P true = subst P c.loop-layer-test.true c.pass.ensures.part in
-    let moved : ℕ = c.loop-layer.passes + 1 in
-    let so_far : ArePasses moved old new layer layer =
-    passes_more c.loop-layer.passes old now new layer layer c.requires.shape was.passes part in
-    let still : ArePasses 0 new new layer (layer + 1) =
-    passes_still new layer c.both-left-in-loop-layer.result (so_far.shape c.requires.shape)
-    (moves_in_both new layer c.loop-layer.left c.rows_moving_on-in-loop-layer.result c.both-left-in-loop-layer.result
-    (so_far.shape c.requires.shape) c.both-left-in-loop-layer.ensures
-    (outside_then now new layer c.loop-layer.left part.width part.height part.still was.outside)
-    c.rows_moving_on-in-loop-layer.ensures)
-    (c.is_empty-in-loop-layer.ensures.none c.if-is_empty-2.true) in
-    let all : moved + 0 ≡ moved = omega arith in
-    subst (λ (n : ℕ). ArePasses n old new layer (layer + 1)) all
-    (passes_then moved 0 old new new layer layer (layer + 1) so_far still)
+    let set : List Bool = c.loop-row.left in
+    let left : List Bool = c.take_first.new.self in
+    let row : ℕ = c.in-Some.row in
+    let was = c.loop-row.invariant in
+    let some = c.in-Some.ensures.some in
+    record {
+      part = part_then c.loop-row.passes c.slide_row-moved.result c.most-passes.result old now new layer
+          c.most-passes.ensures.first c.most-passes.ensures.second c.most-passes.ensures.sum was.part
+          c.slide_row-moved.ensures.part;
+      below = below-more set left old.height row some was.below;
+      stuck = λ other down out. elim (cases_eq other row) [
+        | inl e ↦ subst (IsStuckRow new layer) (sym e) c.slide_row-moved.ensures.stuck
+        | inr apart ↦
+            let narrow : other < SIDE_LIMIT = omega (arith, down, c.requires.shape.rows) in
+            stuck_row_still c.slide_row-moved.result now new layer other c.slide_row-moved.ensures.part
+            (was.stuck other down (taken_out set left row other some narrow
+            ∙ ap (λ (b : Bool). b || column_at left other) (ne_eqb other row apart) ∙ out))
+      ];
+      table = c.slide_row-moved.ensures.table ∙ was.table;
+      origin = c.slide_row-moved.ensures.origin ∙ was.origin;
+    }
 
 pub returns-clause-passes : goal.returns-clause-passes
 returns-clause-passes g c =
-    let old : Grid = g.B.Board.grid c.loop-layer.board in
-    let new : Grid = g.B.Board.grid c.pass.new.board in
-    let layer : ℕ = (c.args.layer).0 in
-    let P : Bool → Type 0 = λ went. IsPart went old new layer 0 (old.width * old.height) in
-    passes_end c.loop-layer.passes (g.B.Board.grid c.args.board.now) old new layer layer c.requires.shape
-    c.loop-layer.invariant.passes (subst P c.loop-layer-test.false c.pass.ensures.part)
+    let old : Grid = g.B.Board.grid c.args.board.now in
+    let now : Grid = g.B.Board.grid c.loop-row.board in
+    let was = c.loop-row.invariant in
+    let empty : set_columns c.loop-row.left ≡ [] = c.in_default.ensures.none refl in
+    passes_of_part c.loop-row.passes old now (c.args.layer).0 c.requires.shape was.part
+    (λ row down.
+    let down' : row < old.height = rw (← was.part.height) down in
+    let narrow : row < SIDE_LIMIT = omega (arith, down', c.requires.shape.rows) in
+    was.stuck row down' (none_in c.loop-row.left row empty narrow))
