@@ -3,7 +3,8 @@
 use Rattle.std.specs.Prelude.{◌≡◌, ◌<◌, ℕ, ◌+◌, ◌*◌, Bool, false, not, List}
 use Rattle.std.specs.List.{list_any}
 use Rattle.ps_model.specs.declared.pieces.ObjectId.{ObjectId}
-use Rattle.ps_model.specs.declared.pieces.Motion.TheVariants.{Still}
+use Rattle.ps_model.specs.declared.pieces.Direction.{Direction}
+use Rattle.ps_model.specs.declared.pieces.Motion.TheVariants.{Going, Still}
 use Rattle.ps_model.specs.declared.pieces.Slot.{Slot}
 use Rattle.ps_model.specs.board.Grid.{Grid, cell_at, motion_in, slot_at}
 use Rattle.ps_model.specs.meaning.Compiled.{slot_holds}
@@ -13,6 +14,15 @@ use Rattle.ps_board.specs.ColumnSets.{column_at, columns_where}
 -- the object of the slot is about to do something
 abbrev pub is_moving : Slot → Bool
 is_moving slot = not (same_motion Still (motion_in slot))
+
+-- the object of the slot is about to go in a direction
+abbrev pub goes_in : Direction → Slot → Bool
+goes_in direction slot = same_motion (Going direction) (motion_in slot)
+
+-- no object of a layer is about to go in a direction
+abbrev pub NoneGoes : Grid → ℕ → Direction → Type 0
+NoneGoes g layer direction =
+    (cell : ℕ) → cell < g.width * g.height → goes_in direction (slot_at g cell layer) ≡ false
 
 -- the columns of a row in which the slot of a layer passes a test
 abbrev pub row_slots : (Slot → Bool) → Grid → ℕ → ℕ → List Bool

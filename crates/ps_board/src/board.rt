@@ -1,17 +1,17 @@
 //! What any board can do.
 
-ghost use Rattle.std.specs.Prelude.{◌≡◌, ℕ, ◌+◌, ◌*◌, ◌<◌, ◌≤◌, IfOk, IfSome, IsSome, List, None, Option, true};
+ghost use Rattle.std.specs.Prelude.{◌≡◌, ℕ, ◌+◌, ◌*◌, ◌<◌, ◌≤◌, IfOk, IfSome, IsSome, List, None, Option, false, true};
 ghost use Rattle.ps_model.specs.board.Grid.{Grid, IsGrid, IsPlace, at_rest, empty_grid, with_slot};
 ghost use Rattle.ps_model.specs.board.Grid.{motion_in, object_in, slot_at, slot_of};
 ghost use Rattle.ps_model.specs.board.Turns.{same_cells};
 ghost use Rattle.ps_model.specs.declared.limits.TheConstants.{LAYER_LIMIT, SIDE_LIMIT};
-ghost use Rattle.ps_model.specs.declared.pieces.Motion.TheVariants.{Going, Still};
+ghost use Rattle.ps_model.specs.declared.pieces.Motion.TheVariants.{Still};
 ghost use Rattle.ps_model.specs.declared.pieces.Slot.TheVariants.{Bare};
 ghost use Rattle.ps_model.specs.meaning.Compiled.{slot_holds};
-ghost use Rattle.ps_model.specs.meaning.Fitting.{same_motion};
 ghost use Rattle.ps_board.specs.Rooms.{HasRoom, HaveRoom, layer_numbers};
 ghost use Rattle.ps_board.specs.ColumnSets.{column_at};
-ghost use Rattle.ps_board.specs.RowsOfGrids.{MoveOnlyOn, PassOnlyOn, is_moving, row_holders, row_movers};
+ghost use Rattle.ps_board.specs.RowsOfGrids.{MoveOnlyOn, NoneGoes, PassOnlyOn};
+ghost use Rattle.ps_board.specs.RowsOfGrids.{goes_in, is_moving, row_holders, row_movers};
 ghost use Rattle.ps_board.specs.Rows.{AreAlike, DifferOnlyIn, DifferOnlyOn};
 
 use crate::columns::Columns;
@@ -96,10 +96,16 @@ pub trait Board: Drop {
         requires { IsPlace (grid self.now) cell layer.0 }
         ensures { result ≡ motion_in (slot_at (grid self.now) cell layer.0) };
 
+    /// Whether an object of a layer may be about to go in a direction. It may be told where none is, as a board needn't
+    /// look for it.
+    fn may_go(&self, layer: LayerId, direction: Direction) -> bool
+        requires { layer.0 < (grid self.now).layers }
+        ensures { result ≡ false → NoneGoes (grid self.now) layer.0 direction };
+
     /// Whether the object on a layer of a cell is about to go in a direction.
     fn goes(&self, cell: u32, layer: LayerId, direction: Direction) -> bool
         requires { IsPlace (grid self.now) cell layer.0 }
-        ensures { result ≡ same_motion (Going direction) (motion_in (slot_at (grid self.now) cell layer.0)) };
+        ensures { result ≡ goes_in direction (slot_at (grid self.now) cell layer.0) };
 
     /// Puts an object with its motion on a layer of a cell, in place of what stood there; or clears the layer there.
     fn put(&mut self, cell: u32, layer: LayerId, object: Option<ObjectId>, motion: Motion)

@@ -183,6 +183,10 @@ impl Board for ListBoard {
         }
     }
 
+    fn may_go(&self, _layer: LayerId, _direction: Direction) -> bool {
+        true
+    }
+
     fn goes(&self, cell: u32, layer: LayerId, direction: Direction) -> bool {
         match (self.motion(cell, layer), direction) {
             (Motion::Going(Direction::Up), Direction::Up)

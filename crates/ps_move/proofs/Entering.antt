@@ -52,9 +52,8 @@ neighbour_back g Left a b shape within e =
     let low : a % g.height < g.height = mod-lt a shape.some_row in
     let column : ℕ = a / g.height - 1 in
     let one : a / g.height ≡ column + 1 = omega (arith, test) in
-    let wide : a / g.height * g.height ≡ column * g.height + g.height =
-    ap (λ (n : ℕ). n * g.height) one ∙ (let all : (column + 1) * g.height ≡ column * g.height + g.height = omega arith in
-    all) in
+    let next : (column + 1) * g.height ≡ column * g.height + g.height = omega arith in
+    let wide : a / g.height * g.height ≡ column * g.height + g.height = ap (λ (n : ℕ). n * g.height) one ∙ next in
     let at : b ≡ column * g.height + a % g.height = omega (arith, found.1, split, wide) in
     let rest : b / g.height ≡ column = ap (λ (n : ℕ). n / g.height) at
     ∙ div-mul-add column g.height (a % g.height) low in
@@ -211,8 +210,10 @@ module _ (g : Grid) (layer to from : ℕ) (shape : IsGrid g) where
       let at = own Up c in
       let row = shape.some_row in
       next_by Up c (for_each g layer to shape IsLater
-      (λ s d. let e = other Up s d in (λ h. omega (arith, at, e), λ h. omega (arith, at), λ h. absurd (omega (arith, at))))
-      (λ s d. let e = other Down s d in (λ h. omega (arith, e), λ h. omega (arith, at), λ h. absurd (omega (arith, at))))
+      (λ s d. let e = other Up s d in
+      (λ h. omega (arith, at, e), λ h. omega (arith, at), λ h. absurd (omega (arith, at))))
+      (λ s d. let e = other Down s d in
+      (λ h. omega (arith, e), λ h. omega (arith, at), λ h. absurd (omega (arith, at))))
       (λ s d. let e = other Left s d in
       (λ h. absurd (omega (arith, at, e, row)), λ h. omega (arith, at), λ h. absurd (omega (arith, at))))
       (λ s d. let e = other Right s d in

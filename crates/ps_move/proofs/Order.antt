@@ -220,7 +220,8 @@ first_wins before now layer to from o shape bare first =
     let free : is_bare before layer to ≡ true =
     elim (o.ways from to (way_is now layer from to first.aims bare)) [ inl b ↦ b | inr e ↦ absurd (cc) ] in
     winner-of_bare before layer to from free within (did_aim before now o.midway layer from to first.aims)
-    (λ s a. first.least s (way_some now layer (target now layer s) to (still_aims before now o.midway layer s to a bare)).0)
+    (λ s a. first.least s
+    (way_some now layer (target now layer s) to (still_aims before now o.midway layer s to a bare)).0)
 
 -- the next that wants to enter a cell that was left wins it
 pub next_wins : (before now : Grid) (layer to from : ℕ) → IsInOrder before now layer (Some to) → IsGrid now →

@@ -190,8 +190,9 @@ part_goes passes old new layer first object direction to h least p = record {
 }
 
 -- behind that nothing can go any more to the cell that was entered
-pub stuck_behind : (passes : ℕ) (old new : Grid) (layer first : ℕ) (object : ObjectId) (direction : Direction) (to : ℕ) →
-    Goes old layer first object direction to → IsChain passes (stepped old layer first object to) new layer first None →
+pub stuck_behind : (passes : ℕ) (old new : Grid) (layer first : ℕ) (object : ObjectId) (direction : Direction)
+    (to : ℕ) → Goes old layer first object direction to →
+    IsChain passes (stepped old layer first object to) new layer first None →
     (cell : ℕ) → way old layer cell ≡ Some to → IsStuck new layer cell
 stuck_behind passes old new layer first object direction to h p cell could = λ at goes.
     let before = p.ways cell at goes (λ e. (cc)) in
@@ -221,8 +222,8 @@ still_stuck g layer cell still = λ to goes.
     still_aims_nowhere g layer cell to still (way_some g layer (target g layer cell) to goes).0
 
 -- what couldn't go before can't behind a part
-pub stuck_still : (passes : ℕ) (old new : Grid) (layer cell : ℕ) → IsPart passes old new layer → IsStuck old layer cell →
-    IsStuck new layer cell
+pub stuck_still : (passes : ℕ) (old new : Grid) (layer cell : ℕ) → IsPart passes old new layer →
+    IsStuck old layer cell → IsStuck new layer cell
 stuck_still passes old new layer cell p stuck = λ to goes. stuck to (p.ways cell to goes)
 
 pub stuck_row_still : (passes : ℕ) (old new : Grid) (layer row : ℕ) → IsPart passes old new layer →

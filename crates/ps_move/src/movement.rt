@@ -2,10 +2,10 @@
 //!
 //! No layer has to do with another, and one is taken after the other. An object that has moved is at rest, so that it
 //! goes one cell at most. Of several that want to enter a cell one may: the one in the cell of least number, or, where
-//! an object left the cell, the next one behind it, and behind the last cell the first. So it would be if all cells were
-//! visited in the order of their numbers, in passes, until one moves nothing. Here it is one visit to each object: where
-//! one can go, the cell that it leaves is entered at once by the one that waits for it and may, and so on. So a row of
-//! objects that push one another is gone through once, from its front.
+//! an object left the cell, the next one behind it, and behind the last cell the first. So it would be if all cells
+//! were visited in the order of their numbers, in passes, until one moves nothing. Here it is one visit to each object:
+//! where one can go, the cell that it leaves is entered at once by the one that waits for it and may, and so on. So a
+//! row of objects that push one another is gone through once, from its front.
 
 ghost use Rattle.std.specs.Prelude.{◌≡◌, ℕ, ◌+◌, ◌*◌, ◌^◌, ◌<◌, ◌≤◌, IfSome, None};
 ghost use Rattle.ps_model.specs.declared.pieces.Slot.TheVariants.{Bare};
@@ -232,6 +232,9 @@ fn comer<B: Board>(board: &B, to: u32, layer: LayerId, direction: Direction) -> 
     ensures some { IfSome result (λ from. Comes (B.grid board.now) layer.0 to direction from) }
     ensures none { result ≡ None → (from : ℕ) → Comes (B.grid board.now) layer.0 to direction from → ⊥ }
 {
+    if !board.may_go(layer, direction) {
+        return None;
+    }
     let Some(from) = neighbour(board, opposite(direction), to) else {
         return None;
     };

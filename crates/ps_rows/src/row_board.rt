@@ -26,6 +26,7 @@ use crate::planes::Planes;
 use crate::row_differences::{RowDifference, change_rows, differences, reach};
 use crate::sameness::{differing_row, same_planes, same_planes_on, unlike_row};
 use ps_board::{Board, ColumnWords, Columns};
+use ps_match::Scan;
 use ps_model::{Direction, LayerId, LayeredObject, Memory, Motion, MotionTest, ObjectId};
 use ps_program::CellWrite;
 use std::alloc::Global;
@@ -503,6 +504,15 @@ impl<W: ColumnWords> Board for RowBoard<W> {
     fn motion(&self, cell: u32, layer: LayerId) -> Motion {
         let first = self.motions_from(layer.0);
         first_motion(&self.planes, cell, first)
+    }
+
+    /// Whether the motion's plane has a row in the index.
+    fn may_go(&self, layer: LayerId, direction: Direction) -> bool {
+        let test = MotionTest {
+            layer,
+            motion: Motion::Going(direction),
+        };
+        !self.rows_moving(&test).is_empty()
     }
 
     fn goes(&self, cell: u32, layer: LayerId, direction: Direction) -> bool {

@@ -9,6 +9,14 @@ use Rattle.ps_move.specs.Entering.{opposite}
 use Rattle.ps_move.proofs.Entering.{goes_there, going_is_own, neighbour_back, opposite_twice}
 use Rattle.ps_move.proofs.movement.comer.Goals as goal
 
+pub returns-then-not-may_go-clause-none : goal.returns-then-not-may_go-clause-none
+returns-then-not-may_go-clause-none g c = λ _ from comes.
+    let grid : Grid = g.B.Board.grid c.args.board.now in
+    let goes : same_motion (Going c.args.direction) (motion_in (slot_at grid from (c.args.layer).0)) ≡ true =
+    going_is_own comes.1.0 c.args.direction (slot_at grid from (c.args.layer).0) comes.1.1 in
+    let clash : true ≡ false = sym goes ∙ c.may_go.ensures c.if-not-may_go.true from comes.0 in
+    absurd (cc)
+
 pub returns-in_default-clause-none : goal.returns-in_default-clause-none
 returns-in_default-clause-none g c = λ _ from comes.
     let grid : Grid = g.B.Board.grid c.args.board.now in

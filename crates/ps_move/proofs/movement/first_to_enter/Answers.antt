@@ -18,14 +18,16 @@ returns-in-Some-comer-clause-some g c =
 pub returns-in-Some-comer-2-clause-some : goal.returns-in-Some-comer-2-clause-some
 returns-in-Some-comer-2-clause-some g c =
     first_up (g.B.Board.grid c.args.board.now) (c.args.layer).0 c.args.to c.in-Some-comer-2.from
-    c.requires.shape (c.in_default.ensures.none refl) (c.in_default-comer.ensures.none refl) c.in-Some-comer-2.ensures.some
+    c.requires.shape
+    (c.in_default.ensures.none refl) (c.in_default-comer.ensures.none refl) c.in-Some-comer-2.ensures.some
 
 pub returns-clause-some : goal.returns-clause-some
 returns-clause-some g c =
     let grid : Grid = g.B.Board.grid c.args.board.now in
     let layer : ℕ = (c.args.layer).0 in
     if_some (Comes grid layer c.args.to Left) (IsFirst grid layer c.args.to)
-    (λ from. first_left grid layer c.args.to from c.requires.shape (c.in_default.ensures.none refl) (c.in_default-comer.ensures.none refl) (c.in_default-comer-2.ensures.none refl))
+    (λ from. first_left grid layer c.args.to from c.requires.shape
+    (c.in_default.ensures.none refl) (c.in_default-comer.ensures.none refl) (c.in_default-comer-2.ensures.none refl))
     c.comer-4.result c.comer-4.ensures.some
 
 pub returns-clause-none : goal.returns-clause-none

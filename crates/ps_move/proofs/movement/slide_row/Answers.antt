@@ -22,7 +22,8 @@ loop-column-init g c =
     let same : set ≡ movers = c.movers-left.ensures in
     record {
       part = part_none old layer;
-      below = subst (AreBelow old.width) (sym same) (record { at = movers_below old layer c.args.row c.requires.shape });
+      below = subst (AreBelow old.width) (sym same)
+          (record { at = movers_below old layer c.args.row c.requires.shape });
       stuck = λ column across out. still_stuck old layer (column * old.height + c.args.row)
           (movers_beside old layer c.args.row c.requires.shape column across
           (ap (λ (columns : List Bool). column_at columns column) (sym same) ∙ out));

@@ -1,4 +1,4 @@
-use Rattle.std.proofs.Common.{◌≡◌, ◌∙◌, ℕ, ◌+◌, ◌*◌, ◌/◌, ◌%◌, ap}
+use Rattle.std.proofs.Common.{◌∙◌, ℕ, ◌/◌, ap}
 use Rattle.std.proofs.lemmas.Nat.{div-add-mod', div_below}
 use Rattle.ps_model.specs.declared.pieces.Motion.TheVariants.{Going}
 use Rattle.ps_model.specs.board.Grid.{Grid, motion_in, slot_at}
