@@ -13,9 +13,10 @@ use Rattle.ps_model.specs.declared.pieces.Slot.{Slot}
 use Rattle.ps_model.specs.declared.pieces.Slot.TheVariants.{Bare, Holds}
 use Rattle.ps_model.specs.board.Grid.{Grid, IsGrid, motion_in, neighbour, slot_at}
 use Rattle.ps_model.specs.board.Movement.{target}
+use Rattle.ps_model.specs.meaning.Directions.{opposite}
 use Rattle.ps_model.specs.meaning.Fitting.{same_motion}
 use Rattle.ps_laws.proofs.common.Neighbours.{given-some}
-use Rattle.ps_move.specs.Entering.{Comes, IsFirst, IsNext, IsWantedByNone, opposite}
+use Rattle.ps_move.specs.Entering.{Comes, IsFirst, IsNext, IsWantedByNone}
 use Rattle.ps_move.proofs.Order.{aim_some, aims_from}
 use Rattle.ps_move.proofs.Ends.{aims_within}
 
@@ -74,11 +75,12 @@ neighbour_back g Right a b shape within e =
     let back : b - g.height ≡ a = omega (arith, found.1) in
     rw (room, back) refl
 
-pub opposite_twice : (direction : Direction) → opposite (opposite direction) ≡ direction
-opposite_twice Up = refl
-opposite_twice Down = refl
-opposite_twice Left = refl
-opposite_twice Right = refl
+pub neighbour_on : (g : Grid) (direction : Direction) (a b : ℕ) → IsGrid g → a < g.width * g.height →
+    neighbour g (opposite direction) a ≡ Some b → neighbour g direction b ≡ Some a
+neighbour_on g Up a b shape within e = neighbour_back g Down a b shape within e
+neighbour_on g Down a b shape within e = neighbour_back g Up a b shape within e
+neighbour_on g Left a b shape within e = neighbour_back g Right a b shape within e
+neighbour_on g Right a b shape within e = neighbour_back g Left a b shape within e
 
 -- where an object comes from that goes in a direction
 abbrev pub IsFrom : ℕ → Direction → ℕ → ℕ → Type 0

@@ -1,19 +1,11 @@
 -- Who enters a cell of a layer.
 use Rattle.std.specs.Prelude.{◌≡◌, ℕ, ◌*◌, ◌<◌, ◌≤◌, Some}
 use Rattle.ps_model.specs.declared.pieces.Direction.{Direction}
-use Rattle.ps_model.specs.declared.pieces.Direction.TheVariants.{Up, Down, Left, Right}
 use Rattle.ps_model.specs.declared.pieces.Motion.TheVariants.{Going}
 use Rattle.ps_model.specs.declared.pieces.ObjectId.{ObjectId}
 use Rattle.ps_model.specs.declared.pieces.Slot.TheVariants.{Holds}
 use Rattle.ps_model.specs.board.Grid.{Grid, neighbour, slot_at}
 use Rattle.ps_model.specs.board.Movement.{target}
-
--- the direction back
-abbrev pub opposite : Direction → Direction
-opposite Up = Down
-opposite Down = Up
-opposite Left = Right
-opposite Right = Left
 
 -- the object of a cell goes in a direction, and that is to another cell
 abbrev pub Comes : Grid → ℕ → ℕ → Direction → ℕ → Type 0

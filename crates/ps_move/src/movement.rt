@@ -12,8 +12,9 @@ ghost use Rattle.ps_model.specs.declared.pieces.Slot.TheVariants.{Bare};
 ghost use Rattle.ps_model.specs.board.Grid.{IsGrid, IsPlace, at_rest, neighbour, slot_at};
 ghost use Rattle.ps_model.specs.board.Movement.{slid};
 ghost use Rattle.ps_model.specs.board.WeakMovement.{IsWeaklySlid};
+ghost use Rattle.ps_model.specs.meaning.Directions.{opposite};
 ghost use Rattle.ps_board.specs.ColumnSets.{columns_below};
-ghost use Rattle.ps_move.specs.Entering.{Comes, IsFirst, IsNext, IsWantedByNone, opposite};
+ghost use Rattle.ps_move.specs.Entering.{Comes, IsFirst, IsNext, IsWantedByNone};
 ghost use Rattle.ps_move.specs.Parts.{ArePasses, IsChain, IsPart, IsStuck, IsStuckRow};
 ghost use Rattle.ps_move.specs.Visits.{way, going_count};
 

@@ -3,10 +3,10 @@ use Rattle.std.proofs.lemmas.Option.{same_Some}
 use Rattle.ps_model.specs.declared.pieces.Direction.{Direction}
 use Rattle.ps_model.specs.declared.pieces.Motion.TheVariants.{Going}
 use Rattle.ps_model.specs.board.Grid.{Grid, motion_in, neighbour, slot_at}
+use Rattle.ps_model.specs.meaning.Directions.{opposite}
 use Rattle.ps_model.specs.meaning.Fitting.{same_motion}
 use Rattle.ps_laws.proofs.common.SameThings.{same_motion-true}
-use Rattle.ps_move.specs.Entering.{opposite}
-use Rattle.ps_move.proofs.Entering.{goes_there, going_is_own, neighbour_back, opposite_twice}
+use Rattle.ps_move.proofs.Entering.{goes_there, going_is_own, neighbour_back, neighbour_on}
 use Rattle.ps_move.proofs.movement.comer.Goals as goal
 
 pub returns-then-not-may_go-clause-none : goal.returns-then-not-may_go-clause-none
@@ -36,8 +36,7 @@ returns-then-goes-clause-some g c =
     let near : neighbour grid (opposite direction) c.args.to ≡ Some from =
     sym (c.in-Some.ensures.value ∙ ap (λ (d : Direction). neighbour grid d c.args.to) c.opposite.ensures) in
     let back : neighbour grid direction from ≡ Some c.args.to =
-    ap (λ (d : Direction). neighbour grid d from) (sym (opposite_twice direction))
-    ∙ neighbour_back grid (opposite direction) c.args.to from c.requires.shape c.requires.place.0 near in (
+    neighbour_on grid direction c.args.to from c.requires.shape c.requires.place.0 near in (
       c.in-Some.ensures.within,
       (found.0, found.1, back),
     )
