@@ -1,10 +1,10 @@
--- One visit of a movement: the object that stands on a layer of a cell goes to its target, if that is bare now. It is
--- at rest as soon as it went, so that it goes one cell at most.
+-- What can go: the object that stands on a layer of a cell goes to its target, if that is bare now. It is at rest as
+-- soon as it went, so that it goes one cell at most.
 use Rattle.std.specs.Prelude.{ℕ, Bool, true, false, Option, Some, None, count_by, sum_by}
 use Rattle.ps_model.specs.declared.pieces.Motion.TheVariants.{Still, Going, Acting}
 use Rattle.ps_model.specs.declared.pieces.Slot.{Slot}
 use Rattle.ps_model.specs.declared.pieces.Slot.TheVariants.{Bare, Holds}
-use Rattle.ps_model.specs.board.Grid.{Grid, slot_at, slot_at_rest, with_slot}
+use Rattle.ps_model.specs.board.Grid.{Grid}
 use Rattle.ps_model.specs.board.Movement.{target, is_bare}
 
 -- the cell, if its layer is bare
@@ -15,15 +15,6 @@ if_bare g layer (Some to) = elim (is_bare g layer to) [ true ↦ Some to | false
 -- where the object on a layer of a cell can go at once
 abbrev pub way : Grid → ℕ → ℕ → Option ℕ
 way g layer cell = if_bare g layer (target g layer cell)
-
--- the grid after the object on a layer of a cell went there, if it goes anywhere
-abbrev pub gone : Grid → ℕ → ℕ → Option ℕ → Grid
-gone g layer cell None = g
-gone g layer cell (Some to) = with_slot (with_slot g to layer (slot_at_rest (slot_at g cell layer))) cell layer Bare
-
--- the grid after a visit to a layer of a cell
-abbrev pub visited : Grid → ℕ → ℕ → Grid
-visited g layer cell = gone g layer cell (way g layer cell)
 
 -- whether the motion of a slot's object is a direction
 abbrev pub is_going : Slot → Bool

@@ -36,9 +36,8 @@ impl Model for Slid {
 }
 
 impl Slid {
-    /// How many passes over all cells there are, each of them over all layers, until one moves nothing; that one
-    /// counts, too, also where it isn't made, as nothing is left that is about to move. So they are those of the layer
-    /// that has the most.
+    /// How many passes over all cells, each of them over all layers, it would take until one moves nothing, that one
+    /// counted, too. So they are those of the layer that has the most.
     pub fn passes_used(&self) -> u32
         ensures { result ≡ self.now }
     {
@@ -115,7 +114,7 @@ fn slide_layer<B: Board>(board: &mut B, layer: LayerId, rows: Columns<B::Words>)
     passes
 }
 
-/// Lets the objects of a row go, and those that can go since they went.
+/// Lets the objects of a row go, and those that wait for them. Answers how many passes moved some.
 fn slide_row<B: Board>(board: &mut B, layer: LayerId, row: u32) -> u32
     requires shape { IsGrid (B.grid board.old) }
     requires layer { layer.0 < (B.grid board.old).layers }
@@ -136,7 +135,8 @@ fn slide_row<B: Board>(board: &mut B, layer: LayerId, row: u32) -> u32
 }
 
 /// Lets an object go to the cell that the object of a cell can go to at once, if there is one: the first that wants to
-/// enter it. Then those go that wait for one another.
+/// enter it. Then those go that wait for one another. Answers how many passes moved some: none, or the first one, and
+/// those that the others take.
 fn visit<B: Board>(board: &mut B, cell: u32, layer: LayerId) -> u32
     requires shape { IsGrid (B.grid board.old) }
     requires place { IsPlace (B.grid board.old) cell layer.0 }
