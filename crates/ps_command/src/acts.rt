@@ -11,10 +11,12 @@ ghost use Rattle.ps_command.specs.declared.stops.Stop.TheVariants as Stop;
 ghost use Rattle.ps_devices.specs.Devices.{Grows};
 
 use crate::command::{Asked, read_command};
+use crate::descriptions::describe_game;
 use crate::details::{Detail, show_detail};
 use crate::explanations::explanation;
 use crate::files::{STANDARD_INPUT, read_game_file, read_input, read_text};
 use crate::playing::play_asked;
+use crate::showing::show_asked;
 use crate::stops::{Stop, stop_for, tell};
 use ps_check::{check, check_named};
 use ps_devices::{ByteReader, ByteWriter, Player, RunFault};
@@ -62,6 +64,8 @@ fn act<R: Env + Files + AllocGlobal + Print + Eprint, P: Player, I: ByteReader, 
         Asked::CheckWhy(path) => check_text(rt, path, Detail::Why, keys, screen),
         Asked::CheckAll(paths) => check_texts(rt, &paths, Detail::Line, keys, screen),
         Asked::CheckAllWhy(paths) => check_texts(rt, &paths, Detail::Why, keys, screen),
+        Asked::Description(path) => describe_game(rt, path, keys, screen),
+        Asked::Show(asked) => show_asked(rt, asked, keys, screen),
         Asked::Play(asked) => play_asked(rt, player, asked, keys, screen),
     }
 }
@@ -95,7 +99,7 @@ fn check_text<R: Files + AllocGlobal, I: ByteReader, O: ByteWriter>(
 }
 
 /// Says of a text on the screen whether it is a game, and answers that.
-fn check_alone<O: ByteWriter>(
+pub fn check_alone<O: ByteWriter>(
     alloc: Global,
     text: &[u8],
     detail: Detail,

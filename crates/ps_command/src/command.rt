@@ -1,5 +1,6 @@
 //! The command line.
 
+use crate::files::STANDARD_INPUT;
 use crate::sizes::size_of;
 use crate::stops::Stop;
 use clap::{Arg, ArgAction, ArgMatches, Command};
@@ -16,6 +17,19 @@ pub struct Play<'w> {
     pub keys: Option<&'w str>,
     /// The size of the terminal on which the board is to stay in place, if it is.
     pub size: Option<Size>,
+    /// The file that tells the size from then on, if one does.
+    pub sizes: Option<&'w str>,
+}
+
+/// The output of a run that is to be shown.
+#[derive(Clone, Copy)]
+pub struct Show<'w> {
+    /// The file with the game's text, or `-` for standard input.
+    pub game: &'w str,
+    /// The file with the output, or `-` for standard input.
+    pub output: &'w str,
+    /// The size of the terminal.
+    pub size: Size,
     /// The file that tells the size from then on, if one does.
     pub sizes: Option<&'w str>,
 }
@@ -44,6 +58,10 @@ pub enum Asked<'w> {
     CheckAllWhy(Vec<&'w str>),
     /// What the fault of this code is.
     Explanation(&'w str),
+    /// What a front end needs to know of the game in this file.
+    Description(&'w str),
+    /// That the output of a run be shown as a view shows it.
+    Show(Show<'w>),
 }
 
 /// What the words of a command line ask for, of which the first is the program's own name.
@@ -59,6 +77,8 @@ pub fn read_command<'w, S: AsStr>(alloc: Global, words: &'w [S]) -> Result<Asked
         .arg(keys_option(alloc))?
         .arg(view_option(alloc))?
         .arg(sizes_option(alloc)?)?
+        .arg(show_option(alloc)?)?
+        .arg(describe_option(alloc)?)?
         .arg(explain_option(alloc)?)?;
     let matches = command.try_get_matches_from(words)?;
     asked_by(alloc, &matches)
@@ -79,12 +99,43 @@ fn asked_by<'w>(alloc: Global, matches: &ArgMatches<'w>) -> Result<Asked<'w>, St
     if matches.get_flag("check") {
         return asked_check(alloc, matches, path);
     }
-    Ok(Asked::Play(Play {
+    if matches.get_flag("describe") {
+        return Ok(Asked::Description(path));
+    }
+    Ok(asked_play(matches, path, size))
+}
+
+/// What the matches of a command line ask for that plays a game, or shows the output of a run: `--show` comes with a size.
+fn asked_play<'w>(matches: &ArgMatches<'w>, path: &'w str, size: Option<Size>) -> Asked<'w> {
+    let sizes = matches.get_str("sizes");
+    if let (Some(output), Some(size)) = (matches.get_str("show"), size) {
+        return Asked::Show(Show {
+            game: path,
+            output,
+            size,
+            sizes,
+        });
+    }
+    Asked::Play(Play {
         game: path,
-        keys: matches.get_str("keys"),
+        keys: keys_named(matches.get_str("keys")),
         size,
-        sizes: matches.get_str("sizes"),
-    }))
+        sizes,
+    })
+}
+
+/// The file with the keys; none where it is standard input, from which they come anyway.
+fn keys_named<'w>(word: Option<&'w str>) -> Option<&'w str> {
+    match word {
+        Some(path) => {
+            if path == STANDARD_INPUT {
+                None
+            } else {
+                Some(path)
+            }
+        }
+        None => None,
+    }
 }
 
 /// What the matches of a command line ask for that checks texts, the first of which is in this file.
@@ -168,7 +219,7 @@ fn keys_option(alloc: Global) -> Arg<'static> {
     Arg::new(alloc, "keys")
         .long("keys")
         .value_name("FILE")
-        .help("Takes the keys from a file in place of standard input")
+        .help("Takes the keys from a file in place of standard input, which is -")
         .action(ArgAction::Set)
 }
 
@@ -191,6 +242,26 @@ fn sizes_option(alloc: Global) -> Result<Arg<'static>, AllocError> {
         .requires_arg("view")
 }
 
+/// `--show FILE`.
+fn show_option(alloc: Global) -> Result<Arg<'static>, AllocError> {
+    Arg::new(alloc, "show")
+        .long("show")
+        .value_name("FILE")
+        .help("With --view, shows the output of a run that a file has, or - for standard input; plays nothing")
+        .action(ArgAction::Set)
+        .requires_arg("view")?
+        .conflicts_with_all(&["check", "keys"])
+}
+
+/// `--describe`.
+fn describe_option(alloc: Global) -> Result<Arg<'static>, AllocError> {
+    Arg::new(alloc, "describe")
+        .long("describe")
+        .help("Says in a line of JSON what a front end needs to know of the game; plays nothing")
+        .action(ArgAction::SetTrue)
+        .conflicts_with_all(&["FURTHER", "check", "keys", "view", "show"])
+}
+
 /// `--explain CODE`.
 fn explain_option(alloc: Global) -> Result<Arg<'static>, AllocError> {
     Arg::new(alloc, "explain")
@@ -198,5 +269,7 @@ fn explain_option(alloc: Global) -> Result<Arg<'static>, AllocError> {
         .value_name("CODE")
         .help("Says in a sentence what the fault of this code is, as RU7")
         .action(ArgAction::Set)
-        .conflicts_with_all(&["GAME", "FURTHER", "check", "why", "keys", "view", "sizes"])
+        .conflicts_with_all(&[
+            "GAME", "FURTHER", "check", "why", "keys", "view", "sizes", "show", "describe",
+        ])
 }

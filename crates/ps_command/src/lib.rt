@@ -6,10 +6,12 @@
 
 mod acts;
 mod command;
+mod descriptions;
 mod details;
 mod explanations;
 mod files;
 mod playing;
+mod showing;
 mod sizes;
 mod stops;
 

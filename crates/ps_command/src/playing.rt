@@ -33,28 +33,39 @@ pub fn play_asked<R: Files + AllocGlobal, P: Player, I: ByteReader, O: ByteWrite
     match asked.size {
         None => play_from(rt, player, &text, asked.keys, keys, screen),
         Some(size) => {
+            let game = viewed_game(rt.alloc(), &text)?;
             let sizes = FileSizes::new(rt, asked.sizes);
-            play_in_view(rt, player, &text, asked.keys, size, sizes, keys, screen)
+            let mut view = Viewed::new(rt.alloc(), game, size, sizes, Lent::new(screen));
+            play_in_view(rt, player, &text, asked.keys, keys, &mut view)
         }
     }
 }
 
+/// What a view is told of the game of a text. Of a text with a fault nothing is: no run of it writes anything.
+pub fn viewed_game(alloc: Global, text: &[u8]) -> Result<ViewedGame, Stop> {
+    let Some(facts) = facts_of(alloc, text)? else {
+        return Ok(ViewedGame {
+            players: Vec::new(alloc),
+        });
+    };
+    Ok(ViewedGame {
+        players: facts.players,
+    })
+}
+
 /// Plays a game in a view.
-fn play_in_view<R: Files + AllocGlobal, P: Player, S: SizeTeller, I: ByteReader, O: ByteWriter>(
+fn play_in_view<R: Files + AllocGlobal, P: Player, I: ByteReader, O: ByteWriter, S: SizeTeller>(
     rt: &R,
     player: &P,
     text: &[u8],
     file: Option<&str>,
-    size: Size,
-    sizes: S,
     keys: &mut I,
-    screen: &mut O,
+    view: &mut Viewed<O, S>,
 ) -> Result<(), Stop>
     requires heard { (I.state keys.old).has_failed ≡ false }
-    requires well { (O.state screen.old).has_failed ≡ false }
+    requires well { (Viewed.ByteWriter.state view.old).has_failed ≡ false }
 {
-    let mut view = Viewed::new(rt.alloc(), size, sizes, Lent::new(screen));
-    let played = play_from(rt, player, text, file, keys, &mut view);
+    let played = play_from(rt, player, text, file, keys, view);
     if view.wants_memory() {
         return Err(Stop::Run(RunFault::Memory));
     }

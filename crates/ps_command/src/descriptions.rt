@@ -1,0 +1,49 @@
+//! What a front end is told of a game before it is played.
+
+ghost use Rattle.std.specs.Prelude.{◌≡◌, false, IfErr, OnOk, codes};
+ghost use Rattle.ps_command.specs.Told.{TellsOfDescribed, TellsOfRefused};
+ghost use Rattle.ps_command.specs.declared.details.Detail.TheVariants as Detail;
+ghost use Rattle.ps_command.specs.declared.stops.Stop.TheVariants as Stop;
+
+use crate::acts::check_alone;
+use crate::details::Detail;
+use crate::files::read_text;
+use crate::stops::Stop;
+use ps_describe::{Refusal, describe};
+use ps_devices::{ByteReader, ByteWriter, RunFault, write_whole};
+use std::alloc::Global;
+use std::rt::Files;
+
+/// Says on the screen, in a line of JSON, what a front end needs to know of the game in a file. Where its text has a fault
+/// that is told as a check tells it, with what is to be mended.
+pub fn describe_game<R: Files + AllocGlobal, I: ByteReader, O: ByteWriter>(
+    rt: &R,
+    path: &str,
+    input: &mut I,
+    screen: &mut O,
+) -> Result<(), Stop>
+    requires heard { (I.state input.old).has_failed ≡ false }
+    requires well { (O.state screen.old).has_failed ≡ false }
+    ensures told { OnOk result (TellsOfDescribed (O.state screen.old).contents (O.state screen.new).contents) }
+{
+    let text = read_text(rt, path, input)?;
+    describe_text(rt.alloc(), &text, screen)
+}
+
+/// The same of a text.
+fn describe_text<O: ByteWriter>(alloc: Global, text: &[u8], screen: &mut O) -> Result<(), Stop>
+    requires well { (O.state screen.old).has_failed ≡ false }
+    ensures told { OnOk result (TellsOfDescribed (O.state screen.old).contents (O.state screen.new).contents) }
+{
+    match describe(alloc, text) {
+        Ok(line) => match write_whole(line.as_bytes(), screen) {
+            Ok(()) => Ok(()),
+            Err(_) => Err(Stop::Run(RunFault::Write)),
+        },
+        Err(Refusal::Memory) => Err(Stop::Run(RunFault::Memory)),
+        Err(Refusal::Refused(_)) => {
+            check_alone(alloc, text, Detail::Why, screen)?;
+            Err(Stop::NotAccepted)
+        }
+    }
+}

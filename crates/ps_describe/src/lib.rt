@@ -1,0 +1,13 @@
+//! What a front end asks of a game before it is played: its title, how many levels it has, which keys it ignores, what
+//! each glyph stands for, and which glyphs show a Player.
+#![tactic(auto)]
+
+mod described;
+mod facts;
+mod glyphs;
+mod object_names;
+mod players;
+
+pub use described::describe;
+pub use facts::{GameFacts, facts_of};
+pub use ps_model::{Fault, Memory, Options, Refusal};
