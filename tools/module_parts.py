@@ -1,19 +1,33 @@
 """Cuts the text of an LLVM module into parts that compilers can work on side by side.
 
-The program is a tree of calls by dominance: what only one function can lead to stands below it. A part is such a subtree, large
-enough to be worth a compiler of its own, so that parts call one another through few functions, and what is called often stands
-together. Small functions that several parts call stand in each of them, where they can be put in line.
+By its calls a program is a tree of dominators: below a function stands what it alone leads to. A part is a subtree that is large
+enough to be worth a compiler of its own, so parts call one another through few functions. Functions of a moderate size that
+several parts call stand in each of them, where they can be put in line.
 """
+import dataclasses
 import re
 
-# Lines of the module: a subtree from so many on is a part; a function of at most so many stands in each part that calls it.
+# A subtree of at least so many lines is a part.
 LEAST_PART = 45_000
+# Functions of at most so many lines stand in each part that calls them: of a part that plays keys, and of another one. With fewer a
+# key costs up to a half more; parts that read texts or tell faults gain nothing by more.
+MOST_COPIED_AT_PLAY = 600
 MOST_COPIED = 150
+# The crates of which no function is called for a key, or for the first frame of a level.
+NOT_AT_PLAY = re.compile(r'"(clap|ps_(causes|check|compile|describe|game|levels|names|rules|why)|ps_command::(acts|command|details))::')
 ROOT = "main"
 NAME = re.compile(r'@("[^"]*"|[\w.$-]+)')
 # A function, or a value, that a module keeps to itself, and a value that changes.
 OWN = re.compile(r"^(define|@[^=]* =) (?:internal|private) ")
 CHANGES = re.compile(r"^@[^=]* = (?:\w+ )*?global ")
+
+
+@dataclasses.dataclass
+class Part:
+    """The lines of a part, and whether it plays keys."""
+
+    lines: list
+    plays: bool
 
 
 class Piece:
@@ -124,20 +138,26 @@ def heads_of(pieces, order, above):
     return head
 
 
-def is_copied(piece):
-    """Whether each part that mentions a piece gets it for itself."""
-    return not piece.changes() and len(piece.lines) <= MOST_COPIED and bool(OWN.match(piece.lines[0]))
+def is_copied(piece, most):
+    """Whether each part that mentions a piece gets it for itself, where it has at most so many lines."""
+    return not piece.changes() and len(piece.lines) <= most and bool(OWN.match(piece.lines[0]))
 
 
-def members_of(pieces, head, own):
+def plays(top):
+    """Whether the part with that head plays keys."""
+    return not NOT_AT_PLAY.match(top)
+
+
+def members_of(pieces, head, top, own):
     """What a part has: its own pieces, copies, and those of other parts that it mentions."""
+    most = MOST_COPIED_AT_PLAY if plays(top) else MOST_COPIED
     copies, named = set(), set()
     walk = [other for name in own for other in pieces[name].mentions]
     while walk:
         name = walk.pop()
         if name in own or name in copies or name in named:
             continue
-        if head[name] != name and is_copied(pieces[name]):
+        if head[name] != name and is_copied(pieces[name], most):
             copies.add(name)
             walk.extend(pieces[name].mentions)
         else:
@@ -146,19 +166,20 @@ def members_of(pieces, head, own):
 
 
 def cut(lines):
-    """The parts of a module, each as its lines, the largest first."""
+    """The parts of a module, the largest first."""
     pieces, others = read_pieces(lines)
     order = finished_order(pieces)
     head = heads_of(pieces, order, dominators(pieces, order))
     owned = {}
     for name in order:
         owned.setdefault(head[name], set()).add(name)
-    members = {top: (own, *members_of(pieces, head, own)) for top, own in owned.items()}
+    members = {top: (own, *members_of(pieces, head, top, own)) for top, own in owned.items()}
     exported = {name for _, _, named in members.values() for name in named}
-    return sorted((part_of(pieces, others, exported, *sets) for sets in members.values()), key=len, reverse=True)
+    parts = [Part(lines_of(pieces, others, exported, *sets), plays(top)) for top, sets in members.items()]
+    return sorted(parts, key=lambda part: -len(part.lines))
 
 
-def part_of(pieces, others, exported, own, copies, named):
+def lines_of(pieces, others, exported, own, copies, named):
     """The lines of a part."""
     lines = list(others)
     for name in sorted(own):

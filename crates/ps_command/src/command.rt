@@ -77,6 +77,8 @@ pub fn read_command<'w, S: AsStr>(alloc: Global, words: &'w [S]) -> Result<Asked
         .arg(keys_option(alloc))?
         .arg(view_option(alloc))?
         .arg(sizes_option(alloc)?)?
+        .arg(plain_option(alloc))?
+        .arg(fresh_option(alloc))?
         .arg(show_option(alloc)?)?
         .arg(describe_option(alloc)?)?
         .arg(explain_option(alloc)?)?;
@@ -240,6 +242,22 @@ fn sizes_option(alloc: Global) -> Result<Arg<'static>, AllocError> {
         .help("With --view, takes the size anew from a file, as often as something is drawn")
         .action(ArgAction::Set)
         .requires_arg("view")
+}
+
+/// `--plain`, which is as this program always plays without `--view`: it stands here as at `play`.
+fn plain_option(alloc: Global) -> Arg<'static> {
+    Arg::new(alloc, "plain")
+        .long("plain")
+        .help("Writes each frame below the last one, which is so without --view")
+        .action(ArgAction::SetTrue)
+}
+
+/// `--fresh`, which is as this program always plays without `--level`: it stands here as at `play`.
+fn fresh_option(alloc: Global) -> Arg<'static> {
+    Arg::new(alloc, "fresh")
+        .long("fresh")
+        .help("Begins at the first level, which is so without --level")
+        .action(ArgAction::SetTrue)
 }
 
 /// `--show FILE`.
