@@ -49,6 +49,18 @@ delete = refl
 begins_an_order_by_itself : harmless 155 ≡ 183
 begins_an_order_by_itself = refl
 
+turns_the_direction : harmless 8238 ≡ 183
+turns_the_direction = refl
+
+keeps_the_direction : harmless 8239 ≡ 8239
+keeps_the_direction = refl
+
+turns_a_part : harmless 8294 ≡ 183
+turns_a_part = refl
+
+ends_a_part : harmless 8297 ≡ 183
+ends_a_part = refl
+
 blank : harmless 32 ≡ 32
 blank = refl
 
