@@ -80,13 +80,29 @@ wide_text : fitting 3 (codes "漢漢") ≡ 1
 unfolding unicode_width
 wide_text = refl
 
-wrapped_text : wrapped 4 (codes "abcde") ≡ codes "abcd" ∷ codes "e" ∷ []
+-- a row ends after the last blank that fits; one that doesn't fit isn't shown; a word is broken that is longer than a row
+wrapped_text : wrapped 6 (codes "a bc def gh") ≡ codes "a bc " ∷ codes "def gh" ∷ []
 unfolding unicode_width
 wrapped_text = refl
+
+wrapped_at_blank : wrapped 4 (codes "a bc def") ≡ codes "a bc" ∷ codes "def" ∷ []
+unfolding unicode_width
+wrapped_at_blank = refl
+
+wrapped_at_blanks : wrapped 4 (codes "abcd  e") ≡ codes "abcd" ∷ codes " e" ∷ []
+unfolding unicode_width
+wrapped_at_blanks = refl
+
+wrapped_within_word : wrapped 4 (codes "a bcdefg") ≡ codes "a " ∷ codes "bcde" ∷ codes "fg" ∷ []
+unfolding unicode_width
+wrapped_within_word = refl
 
 wrapped_wide_text : wrapped 3 (codes "漢漢a") ≡ codes "漢" ∷ codes "漢a" ∷ []
 unfolding unicode_width
 wrapped_wide_text = refl
+
+wrapped_nothing : wrapped 4 [] ≡ [] ∷ []
+wrapped_nothing = refl
 
 shortened_text : shortened 3 (codes "a" ∷ codes "b" ∷ codes "c" ∷ codes "d" ∷ [])
     ≡ codes "a" ∷ codes "…" ∷ codes "d" ∷ []
