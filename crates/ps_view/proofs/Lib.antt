@@ -7,3 +7,4 @@ pub mod Heights
 pub mod Widths
 mod ViewRows
 pub mod OneSize
+pub mod Sight
