@@ -10,7 +10,7 @@ use crate::files::read_text;
 use crate::sizes::FileSizes;
 use crate::stops::{Stop, stop_for};
 use ps_devices::{ByteReader, ByteWriter, FromStd, Player, RunFault};
-use ps_view::{Lent, Size, SizeTeller, Viewed};
+use ps_view::{Lent, Size, SizeTeller, Viewed, ViewedGame};
 use std::alloc::Global;
 use std::fs;
 use std::rt::Files;
@@ -53,7 +53,10 @@ fn play_in_view<R: Files + AllocGlobal, P: Player, S: SizeTeller, I: ByteReader,
     requires heard { (I.state keys.old).has_failed ≡ false }
     requires well { (O.state screen.old).has_failed ≡ false }
 {
-    let mut view = Viewed::new(rt.alloc(), size, sizes, Lent::new(screen));
+    let game = ViewedGame {
+        players: Vec::new(rt.alloc()),
+    };
+    let mut view = Viewed::new(rt.alloc(), game, size, sizes, Lent::new(screen));
     let played = play_from(rt, player, text, file, keys, &mut view);
     if view.wants_memory() {
         return Err(Stop::Run(RunFault::Memory));

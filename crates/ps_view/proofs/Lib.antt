@@ -8,3 +8,4 @@ pub mod Widths
 pub mod WordRows
 mod ViewRows
 pub mod OneSize
+pub mod Sight

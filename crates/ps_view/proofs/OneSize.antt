@@ -73,4 +73,4 @@ as_whole size view (piece ∷ pieces) e all =
     ∙ sym (handed_on-append view piece.bytes (output_of pieces))
 
 pub one_size_is_as_the_whole : OneSizeIsAsTheWhole
-one_size_is_as_the_whole size pieces all = as_whole size (blank_view size) pieces refl all
+one_size_is_as_the_whole game size pieces all = as_whole size (blank_view game size) pieces refl all
