@@ -9,8 +9,9 @@ use crate::command::Play;
 use crate::files::read_text;
 use crate::sizes::FileSizes;
 use crate::stops::{Stop, stop_for};
+use ps_describe::facts_of;
 use ps_devices::{ByteReader, ByteWriter, FromStd, Player, RunFault};
-use ps_view::{Lent, Size, SizeTeller, Viewed};
+use ps_view::{Lent, Size, Viewed, ViewedGame};
 use std::alloc::Global;
 use std::fs;
 use std::rt::Files;
@@ -32,12 +33,7 @@ pub fn play_asked<R: Files + AllocGlobal, P: Player, I: ByteReader, O: ByteWrite
     let text = read_text(rt, asked.game, keys)?;
     match asked.size {
         None => play_from(rt, player, &text, asked.keys, keys, screen),
-        Some(size) => {
-            let game = viewed_game(rt.alloc(), &text)?;
-            let sizes = FileSizes::new(rt, asked.sizes);
-            let mut view = Viewed::new(rt.alloc(), game, size, sizes, Lent::new(screen));
-            play_in_view(rt, player, &text, asked.keys, keys, &mut view)
-        }
+        Some(size) => play_in_view(rt, player, &text, asked, size, keys, screen),
     }
 }
 
@@ -53,19 +49,23 @@ pub fn viewed_game(alloc: Global, text: &[u8]) -> Result<ViewedGame, Stop> {
     })
 }
 
-/// Plays a game in a view.
-fn play_in_view<R: Files + AllocGlobal, P: Player, I: ByteReader, O: ByteWriter, S: SizeTeller>(
+/// Plays a game in a view of that size.
+fn play_in_view<R: Files + AllocGlobal, P: Player, I: ByteReader, O: ByteWriter>(
     rt: &R,
     player: &P,
     text: &[u8],
-    file: Option<&str>,
+    asked: Play<'_>,
+    size: Size,
     keys: &mut I,
-    view: &mut Viewed<O, S>,
+    screen: &mut O,
 ) -> Result<(), Stop>
     requires heard { (I.state keys.old).has_failed ≡ false }
-    requires well { (Viewed.ByteWriter.state view.old).has_failed ≡ false }
+    requires well { (O.state screen.old).has_failed ≡ false }
 {
-    let played = play_from(rt, player, text, file, keys, view);
+    let game = viewed_game(rt.alloc(), text)?;
+    let sizes = FileSizes::new(rt, asked.sizes);
+    let mut view = Viewed::new(rt.alloc(), game, size, sizes, Lent::new(screen));
+    let played = play_from(rt, player, text, asked.keys, keys, &mut view);
     if view.wants_memory() {
         return Err(Stop::Run(RunFault::Memory));
     }

@@ -1,17 +1,18 @@
 -- Rows without orders: of which all others are made.
-use Rattle.std.proofs.Common.{◌≡◌, ℕ, ◌-◌, ◌==◌, Bool, true, false, cond, List, [], ◌∷◌, ◌++◌, length, take}
+use Rattle.std.proofs.Common.{◌≡◌, ℕ, zero, suc, ◌-◌, ◌==◌, Bool, min, true, false, cond, List, [], ◌∷◌, ◌++◌, length, take}
 use Rattle.std.proofs.Common.{drop}
 use Rattle.std.proofs.Common.{refl, get_or}
-use Rattle.std.specs.Prelude.{All, nat_le}
+use Rattle.std.specs.Prelude.{nat_le}
 use Rattle.std.specs.Str.{chars}
 use Rattle.std.specs.Str.Lossy.{utf8_lossy}
 use Rattle.std.proofs.lemmas.List.Elements.{All-nil, All-cons, All-append, All-take, All-drop, All-map}
-use Rattle.ps_view.specs.HarmlessTexts.{is_order, harmless, harmless_text, columns_of}
-use Rattle.ps_view.specs.Rows.{more_mark, fitting, cut, wrapped, wrapped_behind, shortened}
+use Rattle.ps_view.specs.HarmlessTexts.{is_order, harmless, harmless_text}
+use Rattle.ps_view.specs.Rows.{more_mark, fitting, cut, break_of, row_before_break, rows_of_words, wrapped}
+use Rattle.ps_view.specs.Rows.{shortened}
 use Rattle.ps_view.specs.Corners.{part_from, frame_part, room_across}
 use Rattle.ps_view.specs.declared.corners.Corner.{Corner}
 use Rattle.ps_view.specs.Bounds.{IsHarmlessRow, AreHarmlessRows}
-use Rattle.ps_view.proofs.Such.{first_of, others_of, either, part_is_such}
+use Rattle.ps_view.proofs.Such.{either, part_is_such}
 
 -- a character that was made harmless is
 made_harmless : (c : ℕ) (b : Bool) → is_order c ≡ b → is_order (cond b 183 c) ≡ false
@@ -42,26 +43,25 @@ cut_is_harmless columns text is =
     (All-take (λ (c : ℕ). is_order c ≡ false) (fitting (columns - 1) text) text is) mark_alone)
 
 -- a text that goes on in the next row
-behind_is_harmless : (columns left : ℕ) (row text : List ℕ) → IsHarmlessRow row → IsHarmlessRow text →
-    AreHarmlessRows (wrapped_behind columns left row text)
-behind_is_harmless columns left row [] begun is = All-cons IsHarmlessRow row [] begun (All-nil IsHarmlessRow)
-behind_is_harmless columns left row (c ∷ text) begun is =
+words_are_harmless : (most columns : ℕ) (text : List ℕ) → IsHarmlessRow text →
+    AreHarmlessRows (rows_of_words most columns text)
+words_are_harmless zero columns text is = All-nil IsHarmlessRow
+words_are_harmless (suc most) columns text is =
     let P : ℕ → Type 0 = λ c. is_order c ≡ false in
-    let first : P c = first_of P c text is in
-    let others : All P text = others_of P c text is in
-    let alone : All P (c ∷ []) = All-cons P c [] first (All-nil P) in
-    elim (nat_le (columns_of c) left) as (λ fits. AreHarmlessRows (elim fits [
-      | true ↦ wrapped_behind columns (left - columns_of c) (row ++ c ∷ []) text
-      | false ↦ row ∷ wrapped_behind columns (columns - columns_of c) (c ∷ []) text
+    let place : ℕ = break_of columns text in
+    let row : List ℕ = row_before_break columns text in
+    let others : List (List ℕ) = rows_of_words most columns (drop place text) in
+    elim (fitting columns text == length text) as (λ fits. AreHarmlessRows (elim fits [
+      | true ↦ text ∷ []
+      | false ↦ row ∷ others
     ])) [
-      | true ↦ behind_is_harmless columns (left - columns_of c) (row ++ c ∷ []) text
-          (All-append P row (c ∷ []) begun alone) others
-      | false ↦ All-cons IsHarmlessRow row (wrapped_behind columns (columns - columns_of c) (c ∷ []) text) begun
-          (behind_is_harmless columns (columns - columns_of c) (c ∷ []) text alone others)
+      | true ↦ All-cons IsHarmlessRow text [] is (All-nil IsHarmlessRow)
+      | false ↦ All-cons IsHarmlessRow row others (All-take P (min (fitting columns text) place) text is)
+          (words_are_harmless most columns (drop place text) (All-drop P place text is))
     ]
 
 pub wrapped_is_harmless : (columns : ℕ) (text : List ℕ) → IsHarmlessRow text → AreHarmlessRows (wrapped columns text)
-wrapped_is_harmless columns text is = behind_is_harmless columns columns [] text none_alone is
+wrapped_is_harmless columns text is = words_are_harmless (suc (length text)) columns text is
 
 -- rows that are shortened
 pub shortened_are_harmless : (most : ℕ) (rows : List (List ℕ)) → AreHarmlessRows rows →

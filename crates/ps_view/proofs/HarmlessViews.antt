@@ -10,6 +10,7 @@ use Rattle.ps_view.specs.HarmlessTexts.{harmless_text}
 use Rattle.ps_view.specs.LineKinds.{kind_of}
 use Rattle.ps_view.specs.Rows.{cut, wrapped}
 use Rattle.ps_view.specs.Corners.{frame_part}
+use Rattle.ps_view.specs.Games.{KnownGame}
 use Rattle.ps_view.specs.Screens.{LinesBelow, keys_line, news_rows, rows_below, screen_of}
 use Rattle.ps_view.specs.Views.{View, Step, blank_view, quietly, drawn, with_news}
 use Rattle.ps_view.specs.Views.{with_frame}
@@ -109,11 +110,12 @@ bytes_keep_harmless view [] is = is
 bytes_keep_harmless view (byte ∷ bytes) is =
     bytes_keep_harmless (byte_step view byte).view bytes (byte_keeps_harmless view byte is)
 
-none : (size : Size) → IsHarmless (blank_view size)
-none size = record { frame = no_rows; begun = no_rows; screen = no_rows }
+none : (game : KnownGame) (size : Size) → IsHarmless (blank_view game size)
+none game size = record { frame = no_rows; begun = no_rows; screen = no_rows }
 
 pub screens_are_harmless : ScreensAreHarmless
-screens_are_harmless size output = (bytes_keep_harmless (blank_view size) output (none size)).screen
+screens_are_harmless game size output =
+    (bytes_keep_harmless (blank_view game size) output (none game size)).screen
 
 -- another size
 anew_is_harmless : (view : View) (size : Size) → IsHarmless view → IsHarmless (anew view size).view
@@ -145,4 +147,5 @@ pieces_keep_harmless view (piece ∷ pieces) is =
     (bytes_keep_harmless (told_step view piece.told).view piece.bytes (told_keeps_harmless view piece.told is))
 
 pub screens_of_pieces_are_harmless : ScreensOfPiecesAreHarmless
-screens_of_pieces_are_harmless size pieces = (pieces_keep_harmless (blank_view size) pieces (none size)).screen
+screens_of_pieces_are_harmless game size pieces =
+    (pieces_keep_harmless (blank_view game size) pieces (none game size)).screen

@@ -5,5 +5,7 @@ pub mod HarmlessRows
 pub mod HarmlessViews
 pub mod Heights
 pub mod Widths
+pub mod WordRows
 mod ViewRows
 pub mod OneSize
+pub mod Sight

@@ -6,7 +6,7 @@ use Rattle.ps_view.specs.declared.line_kinds.LineKind.TheVariants.{Title, Level,
 use Rattle.ps_view.specs.declared.sizes.Size.{Size}
 use Rattle.ps_view.specs.LineKinds.{kind_of}
 use Rattle.ps_view.specs.Views.{View, Step, blank_view, quietly, with_byte, line_told, byte_step, view_behind}
-use Rattle.ps_view.specs.Views.{handed_on, is_size, anew, told_step, piece_step}
+use Rattle.ps_view.specs.Views.{handed_on, is_size, anew, told_step}
 use Rattle.ps_view.specs.Pieces.{Piece, handed_on_pieces, output_of, HasSize, OneSizeIsAsTheWhole}
 use Rattle.ps_view.proofs.Steps.{handed_on-append}
 use Rattle.ps_view.proofs.Such.{first_of, others_of}
@@ -73,4 +73,4 @@ as_whole size view (piece ∷ pieces) e all =
     ∙ sym (handed_on-append view piece.bytes (output_of pieces))
 
 pub one_size_is_as_the_whole : OneSizeIsAsTheWhole
-one_size_is_as_the_whole size pieces all = as_whole size (blank_view size) pieces refl all
+one_size_is_as_the_whole game size pieces all = as_whole size (blank_view game size) pieces refl all

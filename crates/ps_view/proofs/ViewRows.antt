@@ -1,5 +1,5 @@
 -- Examples of views, evaluated: both sides of each compute to the same.
-use Rattle.std.proofs.Common.{◌≡◌, ℕ, [], ◌∷◌, ◌++◌, refl}
+use Rattle.std.proofs.Common.{◌≡◌, ℕ, [], ◌∷◌, ◌++◌, Some, None, refl}
 use Rattle.std.specs.Prelude.{codes, encode_utf8}
 use Rattle.std.specs.List.{flat_map}
 use Rattle.ps_view.specs.declared.line_kinds.LineKind.TheVariants.{Title, Level, Message, LevelDone, Ending, Empty, Row}
@@ -7,7 +7,8 @@ use Rattle.ps_view.specs.HarmlessTexts.{harmless}
 use Rattle.ps_view.specs.LineKinds.{kind_of}
 use Rattle.ps_view.specs.Orders.{drawn_row}
 use Rattle.ps_view.specs.Rows.{fitting, cut, wrapped, shortened}
-use Rattle.ps_view.specs.Corners.{corner_moved, frame_part, moved, part_from}
+use Rattle.ps_view.specs.Players.{first_player}
+use Rattle.ps_view.specs.Corners.{corner_following, first_changed, frame_part, kept_in, moved, part_from}
 use Rattle.ps_view.specs.Screens.{changes}
 use Rattle.unicode_width.proofs.Computing.{unicode_width}
 
@@ -49,6 +50,18 @@ delete = refl
 begins_an_order_by_itself : harmless 155 ≡ 183
 begins_an_order_by_itself = refl
 
+turns_the_direction : harmless 8238 ≡ 183
+turns_the_direction = refl
+
+keeps_the_direction : harmless 8239 ≡ 8239
+keeps_the_direction = refl
+
+turns_a_part : harmless 8294 ≡ 183
+turns_a_part = refl
+
+ends_a_part : harmless 8297 ≡ 183
+ends_a_part = refl
+
 blank : harmless 32 ≡ 32
 blank = refl
 
@@ -68,13 +81,29 @@ wide_text : fitting 3 (codes "漢漢") ≡ 1
 unfolding unicode_width
 wide_text = refl
 
-wrapped_text : wrapped 4 (codes "abcde") ≡ codes "abcd" ∷ codes "e" ∷ []
+-- a row ends after the last blank that fits; one that doesn't fit isn't shown; a word is broken that is longer than a row
+wrapped_text : wrapped 6 (codes "a bc def gh") ≡ codes "a bc " ∷ codes "def gh" ∷ []
 unfolding unicode_width
 wrapped_text = refl
+
+wrapped_at_blank : wrapped 4 (codes "a bc def") ≡ codes "a bc" ∷ codes "def" ∷ []
+unfolding unicode_width
+wrapped_at_blank = refl
+
+wrapped_at_blanks : wrapped 4 (codes "abcd  e") ≡ codes "abcd" ∷ codes " e" ∷ []
+unfolding unicode_width
+wrapped_at_blanks = refl
+
+wrapped_within_word : wrapped 4 (codes "a bcdefg") ≡ codes "a " ∷ codes "bcde" ∷ codes "fg" ∷ []
+unfolding unicode_width
+wrapped_within_word = refl
 
 wrapped_wide_text : wrapped 3 (codes "漢漢a") ≡ codes "漢" ∷ codes "漢a" ∷ []
 unfolding unicode_width
 wrapped_wide_text = refl
+
+wrapped_nothing : wrapped 4 [] ≡ [] ∷ []
+wrapped_nothing = refl
 
 shortened_text : shortened 3 (codes "a" ∷ codes "b" ∷ codes "c" ∷ codes "d" ∷ [])
     ≡ codes "a" ∷ codes "…" ∷ codes "d" ∷ []
@@ -105,10 +134,52 @@ not_moved = refl
 moved_on : moved 3 5 8 ≡ 6
 moved_on = refl
 
--- a frame of two rows of six in four rows of five columns: the fourth cell of its second row is the first that changed
-part_of_frame : frame_part 4 5 (corner_moved 4 5 (record { top = 0; left = 0 })
-    (codes "......" ∷ codes "....P." ∷ []) (codes "......" ∷ codes "...P.." ∷ []))
-    (codes "......" ∷ codes "...P.." ∷ []) ≡ codes "…...…" ∷ codes "…..P…" ∷ []
+-- eight of twenty items from the sixth on; a quarter of eight are two. The sixth to the thirteenth are shown, and the
+-- part stays where the eighth to the eleventh is followed
+kept_back : kept_in 10 20 5 6 ≡ 4
+kept_back = refl
+
+kept_at_two : kept_in 10 20 5 7 ≡ 5
+kept_at_two = refl
+
+kept_at_eleven : kept_in 10 20 5 10 ≡ 5
+kept_at_eleven = refl
+
+kept_on : kept_in 10 20 5 11 ≡ 6
+kept_on = refl
+
+kept_at_left : kept_in 10 20 5 1 ≡ 0
+kept_at_left = refl
+
+kept_at_right : kept_in 10 20 5 18 ≡ 12
+kept_at_right = refl
+
+-- of less room for more items, where the part has begun too far to the right
+kept_in_less : kept_in 5 8 7 1 ≡ 1
+kept_in_less = refl
+
+-- the leftmost column that has a player, and there the topmost; `Q` shows a player on something else
+first_of_players : first_player (codes "PQ") (codes "...P" ∷ codes "..Q." ∷ codes "..P." ∷ [])
+    ≡ Some (record { row = 1; column = 2 })
+first_of_players = refl
+
+no_player : first_player (codes "PQ") (codes "...." ∷ codes "..p." ∷ []) ≡ None
+no_player = refl
+
+-- a frame of two rows of twelve in four rows of ten columns: the player is in the eighth column, and shown are the third
+-- to the tenth
+part_with_player : frame_part 4 10 (corner_following (codes "P") 4 10 (record { top = 0; left = 0 })
+    (codes "............" ∷ codes ".......P...." ∷ []) (record { row = 0; column = 0 }))
+    (codes "............" ∷ codes ".......P...." ∷ []) ≡ codes "…........…" ∷ codes "….....P..…" ∷ []
+unfolding unicode_width
+part_with_player = refl
+
+-- a frame without a player, of two rows of six in four rows of five columns: the fourth cell of its second row is the
+-- first that changed
+part_of_frame : frame_part 4 5 (corner_following (codes "P") 4 5 (record { top = 0; left = 0 })
+    (codes "......" ∷ codes "...o.." ∷ [])
+    (first_changed (codes "......" ∷ codes "....o." ∷ []) (codes "......" ∷ codes "...o.." ∷ [])))
+    (codes "......" ∷ codes "...o.." ∷ []) ≡ codes "…...…" ∷ codes "…..o…" ∷ []
 unfolding unicode_width
 part_of_frame = refl
 

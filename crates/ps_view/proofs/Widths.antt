@@ -1,5 +1,5 @@
 -- How many columns the rows of a screen cover.
-use Rattle.std.proofs.Common.{◌≡◌, ℕ, suc, ◌+◌, ◌-◌, ◌*◌, ◌/◌, ◌≤◌, Bool, true, false, cond, Option, Some}
+use Rattle.std.proofs.Common.{◌≡◌, ℕ, zero, suc, min, ◌+◌, ◌-◌, ◌*◌, ◌/◌, ◌≤◌, Bool, true, false, cond, Option, Some}
 use Rattle.std.proofs.Common.{None}
 use Rattle.std.proofs.Common.{List, [], ◌∷◌, ◌++◌, length, take, drop, fold, max, refl, subst, arith, ◌==◌, get_or}
 use Rattle.std.specs.Prelude.{All, nat_le, unwrap_or}
@@ -12,7 +12,8 @@ use Rattle.unicode_width.proofs.Rules.{width_or_zero-le}
 use Rattle.unicode_width.specs.Width.{char_width}
 use Rattle.ps_view.specs.declared.corners.Corner.{Corner}
 use Rattle.ps_view.specs.HarmlessTexts.{columns_of, harmless_text}
-use Rattle.ps_view.specs.Rows.{more_mark, fitting, cut, wrapped, wrapped_behind, shortened}
+use Rattle.ps_view.specs.Rows.{more_mark, fitting, cut, break_of, row_before_break, rows_of_words, wrapped}
+use Rattle.ps_view.specs.Rows.{shortened}
 use Rattle.ps_view.specs.Corners.{part_from, frame_part, room_across, widest, cell_width}
 use Rattle.ps_view.specs.Screens.{keys_line, news_rows, rows_below}
 use Rattle.ps_view.specs.Bounds.{covered, RowsFit}
@@ -74,34 +75,42 @@ cut_by columns text false is some =
 cut_fits : (columns : ℕ) (text : List ℕ) → 1 ≤ columns → covered (cut columns text) ≤ columns
 cut_fits columns text some = cut_by columns text _ refl some
 
+-- fewer characters cover no more
+covered_fewer : (n m : ℕ) (text : List ℕ) → n ≤ m → covered (take n text) ≤ covered (take m text)
+covered_fewer zero m text few = omega arith
+covered_fewer (suc n) zero text few = absurd (omega arith)
+covered_fewer (suc n) (suc m) [] few = omega arith
+covered_fewer (suc n) (suc m) (c ∷ text) few =
+    let rest = covered_fewer n m text (omega arith) in omega (arith, rest)
+
 -- a text that goes on in the next row
-behind_fits : (columns left : ℕ) (row text : List ℕ) → 3 ≤ columns → covered row + left ≤ columns →
-    All (λ row. covered row ≤ columns) (wrapped_behind columns left row text)
-behind_fits columns left row [] some room =
+words_fit : (most columns : ℕ) (text : List ℕ) → All (λ row. covered row ≤ columns) (rows_of_words most columns text)
+words_fit zero columns text = All-nil (λ (row : List ℕ). covered row ≤ columns)
+words_fit (suc most) columns text =
     let within : List ℕ → Type 0 = λ row. covered row ≤ columns in
-    All-cons within row [] (omega (arith, room)) (All-nil within)
-behind_fits columns left row (c ∷ text) some room =
-    let within : List ℕ → Type 0 = λ row. covered row ≤ columns in
-    let few = three_at_most c in
-    let by_test : (fits : Bool) → nat_le (columns_of c) left ≡ fits → All (λ row. covered row ≤ columns) (elim fits [
-      | true ↦ wrapped_behind columns (left - columns_of c) (row ++ c ∷ []) text
-      | false ↦ row ∷ wrapped_behind columns (columns - columns_of c) (c ∷ []) text
-    ]) = λ fits. elim fits as (λ v. nat_le (columns_of c) left ≡ v → All (λ row. covered row ≤ columns) (elim v [
-      | true ↦ wrapped_behind columns (left - columns_of c) (row ++ c ∷ []) text
-      | false ↦ row ∷ wrapped_behind columns (columns - columns_of c) (c ∷ []) text
+    let room : ℕ = fitting columns text in
+    let row : List ℕ = row_before_break columns text in
+    let others : List (List ℕ) = rows_of_words most columns (drop (break_of columns text) text) in
+    let first : covered (take room text) ≤ columns = fitted columns text in
+    let by_test : (fits : Bool) → (room == length text) ≡ fits → All within (elim fits [
+      | true ↦ text ∷ []
+      | false ↦ row ∷ others
+    ]) = λ fits. elim fits as (λ v. (room == length text) ≡ v → All within (elim v [
+      | true ↦ text ∷ []
+      | false ↦ row ∷ others
     ])) [
       | true ↦ λ is.
-          let fitting_in : columns_of c ≤ left = grind (arith, nat_tests) in
-          let both = covered-append row (c ∷ []) in
-          behind_fits columns (left - columns_of c) (row ++ c ∷ []) text some (omega (arith, fitting_in, both, room))
-      | false ↦ λ is. All-cons within row (wrapped_behind columns (columns - columns_of c) (c ∷ []) text)
-          (omega (arith, room))
-          (behind_fits columns (columns - columns_of c) (c ∷ []) text some (omega (arith, few, some)))
+          let all : length text ≤ room = grind (arith, nat_tests) in
+          All-cons within text [] (subst within (take_all room text all) first) (All-nil within)
+      | false ↦ λ is.
+          let fewer = covered_fewer (min room (break_of columns text)) room text (omega arith) in
+          All-cons within row others (omega (arith, fewer, first))
+          (words_fit most columns (drop (break_of columns text) text))
     ] in
     by_test _ refl
 
-wrapped_fits : (columns : ℕ) (text : List ℕ) → 3 ≤ columns → All (λ row. covered row ≤ columns) (wrapped columns text)
-wrapped_fits columns text some = behind_fits columns columns [] text some (omega arith)
+wrapped_fits : (columns : ℕ) (text : List ℕ) → All (λ row. covered row ≤ columns) (wrapped columns text)
+wrapped_fits columns text = words_fit (suc (length text)) columns text
 
 -- rows that are shortened
 shortened_fit : (columns most : ℕ) (rows : List (List ℕ)) → 1 ≤ columns → All (λ row. covered row ≤ columns) rows →
@@ -215,7 +224,7 @@ rows_fit size corner frame told =
     let news : List (List ℕ) = news_rows size told.news in
     let below : List (List ℕ) = rows_below size told in
     let last : All within news = shortened_fit columns (size.rows - 6) (wrapped columns (harmless_text told.news)) some
-    (wrapped_fits columns (harmless_text told.news) (omega (arith, wide))) in
+    (wrapped_fits columns (harmless_text told.news)) in
     let lines : All within below =
     All-cons within (line told.title) (line told.level ∷ line keys_line ∷ news)
     (cut_fits columns (harmless_text told.title) some)

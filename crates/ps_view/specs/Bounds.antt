@@ -3,6 +3,7 @@ use Rattle.std.specs.Prelude.{◌≡◌, ℕ, ◌+◌, ◌≤◌, false, List, [
 use Rattle.ps_view.specs.declared.corners.Corner.{Corner}
 use Rattle.ps_view.specs.declared.sizes.Size.{Size}
 use Rattle.ps_view.specs.HarmlessTexts.{columns_of, is_order}
+use Rattle.ps_view.specs.Games.{KnownGame}
 use Rattle.ps_view.specs.Screens.{LinesBelow, screen_of}
 use Rattle.ps_view.specs.Pieces.{Piece, view_behind_pieces}
 use Rattle.ps_view.specs.Views.{blank_view, view_behind}
@@ -17,12 +18,13 @@ AreHarmlessRows rows = All IsHarmlessRow rows
 
 -- whatever an output has, no row that is shown has an order
 abbrev pub ScreensAreHarmless : Type 0
-ScreensAreHarmless = (size : Size) (output : List ℕ) → AreHarmlessRows (view_behind (blank_view size) output).screen
+ScreensAreHarmless = (game : KnownGame) (size : Size) (output : List ℕ) →
+    AreHarmlessRows (view_behind (blank_view game size) output).screen
 
 -- nor where sizes are told
 abbrev pub ScreensOfPiecesAreHarmless : Type 0
-ScreensOfPiecesAreHarmless = (size : Size) (pieces : List Piece) →
-    AreHarmlessRows (view_behind_pieces (blank_view size) pieces).screen
+ScreensOfPiecesAreHarmless = (game : KnownGame) (size : Size) (pieces : List Piece) →
+    AreHarmlessRows (view_behind_pieces (blank_view game size) pieces).screen
 
 -- a screen has no more rows than the terminal
 abbrev pub ScreensFit : Type 0

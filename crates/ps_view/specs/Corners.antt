@@ -1,12 +1,14 @@
 -- The part of a frame that is shown where the frame is larger than the terminal has room for. It is known by its
--- upper left corner, and moves by as little as shows the first cell that changed. At each edge a mark says that there
--- is more.
-use Rattle.std.specs.Prelude.{ℕ, suc, ◌+◌, ◌-◌, ◌/◌, ◌==◌, nat_eq, nat_lt, nat_le, Bool, true, false, if◌then◌else◌}
+-- upper left corner. It follows the player, and keeps it away from the edges; where no cell shows the player, it moves
+-- by as little as shows the first cell that changed. At each edge a mark says that there is more.
+use Rattle.std.specs.Prelude.{ℕ, suc, ◌+◌, ◌-◌, ◌*◌, ◌/◌, ◌==◌, nat_eq, nat_lt, nat_le, Bool, true, false}
+use Rattle.std.specs.Prelude.{if◌then◌else◌, Some, None}
 use Rattle.std.specs.Prelude.{List, [], ◌∷◌, ◌++◌, length, take, drop, map, fold, max, min, slice_index_or}
 use Rattle.std.specs.Str.{bytes_eq}
 use Rattle.ps_view.specs.declared.corners.Cell.{Cell}
 use Rattle.ps_view.specs.declared.corners.Corner.{Corner}
 use Rattle.ps_view.specs.HarmlessTexts.{columns_of}
+use Rattle.ps_view.specs.Players.{first_player}
 use Rattle.ps_view.specs.Rows.{more_mark}
 
 -- what a part shows ---------------------------------------------------------------------------------------------------
@@ -61,6 +63,14 @@ moved size place shown =
 abbrev pub moved_in : ℕ → ℕ → ℕ → ℕ → ℕ
 moved_in room count place shown = let size : ℕ = room - 2 in moved size (min place (count - size)) shown
 
+-- the same where the part keeps that item away from its edges by a quarter of what it shows, or as near to that as the
+-- list's own ends allow
+abbrev pub kept_in : ℕ → ℕ → ℕ → ℕ → ℕ
+kept_in room count place shown =
+    let size : ℕ = room - 2 in
+    let margin : ℕ = size / 4 in
+    min (moved (size - 2 * margin) (min place (count - size) + margin) shown - margin) (count - size)
+
 -- the row of a frame, from 0
 abbrev pub row_in : List (List ℕ) → ℕ → List ℕ
 row_in frame place = slice_index_or frame place []
@@ -73,6 +83,21 @@ corner_showing rows columns corner frame cell = record {
   left = moved_in (room_across columns frame) (length (row_in frame cell.row)) corner.left cell.column;
 }
 
+-- the same where it keeps the cell away from its edges
+abbrev pub corner_keeping : ℕ → ℕ → Corner → List (List ℕ) → Cell → Corner
+corner_keeping rows columns corner frame cell = record {
+  top = kept_in rows (length frame) corner.top cell.row;
+  left = kept_in (room_across columns frame) (length (row_in frame cell.row)) corner.left cell.column;
+}
+
+-- where the part of a frame is that keeps the player in view; where no cell shows the player, it shows the cell that
+-- changed last
+abbrev pub corner_following : List ℕ → ℕ → ℕ → Corner → List (List ℕ) → Cell → Corner
+corner_following players rows columns corner frame changed = elim (first_player players frame) [
+  | Some cell ↦ corner_keeping rows columns corner frame cell
+  | None ↦ corner_showing rows columns corner frame changed
+]
+
 -- the first cell of a frame that isn't as it was in another one; below the last row where each row is
 abbrev pub first_changed : List (List ℕ) → List (List ℕ) → Cell
 first_changed before frame =
@@ -80,15 +105,6 @@ first_changed before frame =
       row = row;
       column = alike nat_eq (row_in before row) (row_in frame row);
     }
-
--- where the part of a frame is in which that cell changed, if one did
-abbrev pub corner_behind : ℕ → ℕ → Corner → List (List ℕ) → Cell → Corner
-corner_behind rows columns corner frame changed =
-    if changed.row == length frame then corner else corner_showing rows columns corner frame changed
-
--- where the part is of a frame behind another one
-abbrev pub corner_moved : ℕ → ℕ → Corner → List (List ℕ) → List (List ℕ) → Corner
-corner_moved rows columns corner before frame = corner_behind rows columns corner frame (first_changed before frame)
 
 -- the cell that changed last, where that one did in a frame, if one did
 abbrev pub changed_behind : Cell → List (List ℕ) → Cell → Cell

@@ -4,9 +4,18 @@ use Rattle.std.specs.Str.{chars}
 use Rattle.std.specs.Str.Lossy.{utf8_lossy}
 use Rattle.unicode_width.specs.Width.{char_width}
 
+-- the character controls a terminal
+abbrev pub is_control : ℕ → Bool
+is_control character = nat_lt character 32 || (nat_le 127 character && nat_lt character 160)
+
+-- the character sets the direction of those that follow: U+202A to U+202E, and U+2066 to U+2069
+abbrev pub turns_direction : ℕ → Bool
+turns_direction character = (nat_le 8234 character && nat_lt character 8239)
+    || (nat_le 8294 character && nat_lt character 8298)
+
 -- a terminal takes the character as an order
 abbrev pub is_order : ℕ → Bool
-is_order character = nat_lt character 32 || (nat_le 127 character && nat_lt character 160)
+is_order character = is_control character || turns_direction character
 
 -- the character; a dot in the middle of the row for one that would be an order
 abbrev pub harmless : ℕ → ℕ

@@ -1,10 +1,14 @@
 pub mod Orders
 pub mod HarmlessTexts
 pub mod Rows
+pub mod Players
 pub mod Corners
+pub mod Games
+pub mod ToldGames
 pub mod LineKinds
 pub mod Screens
 pub mod ToldLines
 pub mod Views
 pub mod Pieces
 pub mod Bounds
+pub mod Sight

@@ -3,6 +3,7 @@
 use Rattle.std.specs.Prelude.{◌≡◌, ℕ, true, Option, IfSome, List, [], ◌∷◌, ◌++◌, All}
 use Rattle.std.specs.List.{flat_map}
 use Rattle.ps_view.specs.declared.sizes.Size.{Size}
+use Rattle.ps_view.specs.Games.{KnownGame}
 use Rattle.ps_view.specs.Views.{View, Step, blank_view, is_size, view_behind, handed_on, piece_step, view_of}
 
 -- what is handed on for a piece and another behind it, is what is handed on for the one, and then for the other behind
@@ -44,5 +45,5 @@ HasSize size piece = IfSome piece.told (λ told. is_size size told ≡ true)
 
 -- with one size for ever what is handed on is the view of the whole output
 abbrev pub OneSizeIsAsTheWhole : Type 0
-OneSizeIsAsTheWhole = (size : Size) (pieces : List Piece) → All (HasSize size) pieces →
-    handed_on_pieces (blank_view size) pieces ≡ view_of size (output_of pieces)
+OneSizeIsAsTheWhole = (game : KnownGame) (size : Size) (pieces : List Piece) → All (HasSize size) pieces →
+    handed_on_pieces (blank_view game size) pieces ≡ view_of game size (output_of pieces)

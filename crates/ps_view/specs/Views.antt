@@ -12,14 +12,16 @@ use Rattle.ps_view.specs.declared.line_kinds.LineKind.TheVariants.{Title, Level,
 use Rattle.ps_view.specs.HarmlessTexts.{harmless_text}
 use Rattle.ps_view.specs.LineKinds.{kind_of}
 use Rattle.ps_view.specs.Orders.{opening_orders, at_row, closing_orders}
-use Rattle.ps_view.specs.Corners.{corner_moved, corner_showing, first_changed, changed_behind}
+use Rattle.ps_view.specs.Corners.{corner_following, first_changed, changed_behind}
+use Rattle.ps_view.specs.Games.{KnownGame}
 use Rattle.ps_view.specs.Screens.{LinesBelow, screen_of, changes}
 
--- a view: the size of the terminal; what is told beside the board; the rows of the last whole frame, as characters,
+-- a view: what it knows of the game; the size of the terminal; what is told beside the board; the rows of the last whole frame, as characters,
 -- the corner of the part of it that is shown, the cell that changed last, and the rows of the frame that has begun; the
 -- bytes of the line that has begun; what the rows of the terminal show; whether anything was drawn yet; and whether the
 -- ending was
 pub record View : Type 0 where
+  pub game : KnownGame
   pub size : Size
   pub told : LinesBelow
   pub frame : List (List ℕ)
@@ -44,9 +46,10 @@ first_corner = record { top = 0; left = 0 }
 abbrev pub first_cell : Cell
 first_cell = record { row = 0; column = 0 }
 
--- a view before the first byte
-abbrev pub blank_view : Size → View
-blank_view size = record {
+-- a view of a game before the first byte
+abbrev pub blank_view : KnownGame → Size → View
+blank_view game size = record {
+  game = game;
   size = size;
   told = record { title = []; level = []; news = [] };
   frame = [];
@@ -114,17 +117,22 @@ with_news view news = record view {
   line = [];
 }
 
--- the corner of the frame that has begun: there is room for it above four lines
-abbrev pub corner_of_begun : View → Corner
-corner_of_begun view = corner_moved (view.size.rows - 4) view.size.columns view.corner view.frame view.begun
+-- the corner of a frame of the view: there is room for it above four lines
+abbrev pub corner_in : View → Size → List (List ℕ) → Cell → Corner
+corner_in view size frame changed =
+    corner_following view.game.players (size.rows - 4) size.columns view.corner frame changed
+
+-- the cell that changed last, once the frame that has begun is shown
+abbrev pub changed_then : View → Cell
+changed_then view = changed_behind view.changed view.begun (first_changed view.frame view.begun)
 
 -- the view with the frame that has begun in place of the last one; what was told last is gone past
 abbrev pub with_frame : View → View
 with_frame view = record view {
   told = record { title = view.told.title; level = view.told.level; news = [] };
   frame = view.begun;
-  corner = corner_of_begun view;
-  changed = changed_behind view.changed view.begun (first_changed view.frame view.begun);
+  corner = corner_in view view.size view.begun (changed_then view);
+  changed = changed_then view;
   begun = [];
   line = [];
 }
@@ -180,9 +188,9 @@ handed_on view [] = []
 handed_on view (byte ∷ bytes) =
     let step : Step = byte_step view byte in step.bytes ++ handed_on step.view bytes
 
--- what a terminal of that size is handed for an output
-abbrev pub view_of : Size → List ℕ → List ℕ
-view_of size output = handed_on (blank_view size) output
+-- what a terminal of that size is handed for the output of a game
+abbrev pub view_of : KnownGame → Size → List ℕ → List ℕ
+view_of game size output = handed_on (blank_view game size) output
 
 -- sizes ---------------------------------------------------------------------------------------------------------------
 
@@ -190,12 +198,11 @@ view_of size output = handed_on (blank_view size) output
 abbrev pub is_size : Size → Size → Bool
 is_size size other = size.rows == other.rows && size.columns == other.columns
 
--- the view for a terminal of that size, of which nothing is drawn: the part of the frame shows the cell that changed
--- last
+-- the view for a terminal of that size, of which nothing is drawn: the part of the frame moves there too
 abbrev pub with_size : View → Size → View
 with_size view size = record view {
   size = size;
-  corner = corner_showing (size.rows - 4) size.columns view.corner view.frame view.changed;
+  corner = corner_in view size view.frame view.changed;
   screen = [];
   is_open = false;
 }

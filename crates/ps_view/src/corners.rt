@@ -1,9 +1,11 @@
 //! Where the part of a frame is that is shown.
 
 ghost use Rattle.std.specs.Prelude.{◌≡◌};
-ghost use Rattle.ps_view.specs.Corners.{changed_behind, corner_behind, corner_showing, first_changed, moved, moved_in};
+ghost use Rattle.ps_view.specs.Corners.{changed_behind, corner_following, corner_keeping, corner_showing};
+ghost use Rattle.ps_view.specs.Corners.{first_changed, kept_in, moved, moved_in};
 
 use crate::cells::{alike_characters, alike_rows, room_across, row_in};
+use crate::players::first_player;
 use crate::texts::Text;
 
 /// The upper left corner of the part of a frame that is shown: its row and its place in the row, from 0.
@@ -42,15 +44,21 @@ fn moved_in(room: usize, count: usize, place: usize, shown: usize) -> usize
     moved(size, place.min(count.saturating_sub(size)), shown)
 }
 
+/// The same where the part keeps that item away from its edges by a quarter of what it shows, or as near to that as the
+/// list's own ends allow.
+fn kept_in(room: usize, count: usize, place: usize, shown: usize) -> usize
+    ensures { result ≡ kept_in room count place shown }
+{
+    let size = room.saturating_sub(2);
+    let margin = size / 4;
+    let last = count.saturating_sub(size);
+    let first_kept = moved(size - 2 * margin, place.min(last) + margin, shown);
+    first_kept.saturating_sub(margin).min(last)
+}
+
 /// Where the part of a frame that began at a corner begins then, in so many rows of so many columns, so that it shows a
 /// cell: it moves by as little as does.
-pub fn corner_showing(
-    rows: usize,
-    columns: usize,
-    corner: Corner,
-    frame: &[Text],
-    cell: Cell,
-) -> Corner
+fn corner_showing(rows: usize, columns: usize, corner: Corner, frame: &[Text], cell: Cell) -> Corner
     ensures { result ≡ corner_showing rows columns corner frame.now cell }
 {
     let across = row_in(frame, cell.row).len();
@@ -61,6 +69,36 @@ pub fn corner_showing(
     }
 }
 
+/// The same where it keeps the cell away from its edges.
+fn corner_keeping(rows: usize, columns: usize, corner: Corner, frame: &[Text], cell: Cell) -> Corner
+    ensures { result ≡ corner_keeping rows columns corner frame.now cell }
+{
+    let across = row_in(frame, cell.row).len();
+    let room = room_across(columns, frame);
+    Corner {
+        top: kept_in(rows, frame.len(), corner.top, cell.row),
+        left: kept_in(room, across, corner.left, cell.column),
+    }
+}
+
+/// Where the part of a frame is that keeps the player in view; where no cell shows the player, it shows the cell that
+/// changed last.
+pub fn corner_following(
+    players: &[char],
+    rows: usize,
+    columns: usize,
+    corner: Corner,
+    frame: &[Text],
+    changed: Cell,
+) -> Corner
+    ensures { result ≡ corner_following players.now rows columns corner frame.now changed }
+{
+    match first_player(players, frame) {
+        Some(cell) => corner_keeping(rows, columns, corner, frame, cell),
+        None => corner_showing(rows, columns, corner, frame, changed),
+    }
+}
+
 /// The first cell of a frame that isn't as it was in another one; below the last row where each row is.
 pub fn first_changed(before: &[Text], frame: &[Text]) -> Cell
     ensures { result ≡ first_changed before.now frame.now }
@@ -68,22 +106,6 @@ pub fn first_changed(before: &[Text], frame: &[Text]) -> Cell
     let row = alike_rows(before, frame);
     let column = alike_characters(row_in(before, row), row_in(frame, row));
     Cell { row, column }
-}
-
-/// Where the part of a frame is in which that cell changed, if one did.
-pub fn corner_behind(
-    rows: usize,
-    columns: usize,
-    corner: Corner,
-    frame: &[Text],
-    changed: Cell,
-) -> Corner
-    ensures { result ≡ corner_behind rows columns corner frame.now changed }
-{
-    if changed.row == frame.len() {
-        return corner;
-    }
-    corner_showing(rows, columns, corner, frame, changed)
 }
 
 /// The cell that changed last, where that one did in a frame, if one did.

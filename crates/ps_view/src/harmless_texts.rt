@@ -14,6 +14,7 @@ fn harmless(character: char) -> char
 {
     match character {
         '\0'..='\x1f' | '\x7f'..='\u{9f}' => '·',
+        '\u{202a}'..='\u{202e}' | '\u{2066}'..='\u{2069}' => '·',
         _ => character,
     }
 }

@@ -2,6 +2,7 @@
 
 ghost use Rattle.ps_view.specs.Pieces.{OneSizeIsAsTheWhole, PiecesAreAsTheWhole, PiecesLeaveTheSame};
 ghost use Rattle.ps_view.specs.Bounds.{RowsFit, ScreensAreHarmless, ScreensFit, ScreensOfPiecesAreHarmless};
+ghost use Rattle.ps_view.specs.Sight.{PlayersAreInSight};
 
 /// An output that comes in pieces has the view of the whole, however it is cut.
 pub fn pieces_are_as_the_whole()
@@ -25,4 +26,10 @@ pub fn screens_are_harmless()
 pub fn screens_fit()
     ensures rows { ScreensFit }
     ensures columns { RowsFit }
+{}
+
+/// A player is never out of sight: where a frame has a cell that shows the player, the first one is in the part that is
+/// shown, wherever the part was before.
+pub fn players_are_in_sight()
+    ensures { PlayersAreInSight }
 {}

@@ -15,16 +15,19 @@ mod lent;
 mod line_kinds;
 mod lines;
 mod parts;
+mod players;
 mod rows;
 mod screens;
 mod sizes;
 mod tellers;
 mod texts;
 mod viewed;
+mod viewed_games;
 mod views;
 
 pub use laws::{
-    one_size_is_as_the_whole, pieces_are_as_the_whole, screens_are_harmless, screens_fit,
+    one_size_is_as_the_whole, pieces_are_as_the_whole, players_are_in_sight, screens_are_harmless,
+    screens_fit,
 };
 pub use lent::Lent;
 pub use ps_devices::{ByteWriter, Failed};
@@ -32,3 +35,4 @@ pub use ps_model::Memory;
 pub use sizes::Size;
 pub use tellers::SizeTeller;
 pub use viewed::Viewed;
+pub use viewed_games::ViewedGame;

@@ -1,13 +1,12 @@
 //! Texts in the rows of a terminal.
 
-ghost use Rattle.std.specs.Prelude.{◌≡◌, ◌≤◌, length, IfOk};
-ghost use Rattle.ps_view.specs.Rows.{cut, fitting, shortened, wrapped};
+ghost use Rattle.std.specs.Prelude.{◌≡◌, ◌<◌, ◌≤◌, ◌++◌, ◌∷◌, [], length, IfOk, OnOk};
+ghost use Rattle.ps_view.specs.Rows.{break_of, cut, fitting, shortened, through_last_blank, wrapped};
 
 use crate::harmless_texts::columns_of;
 use crate::texts::Text;
 use ps_model::Memory;
 use std::alloc::Global;
-use std::mem;
 
 /// The mark that says that there is more.
 pub const MORE_MARK: char = '…';
@@ -47,7 +46,45 @@ pub fn cut(alloc: Global, columns: usize, text: Text) -> Result<Text, Memory>
     Ok(row)
 }
 
-/// A text in as many rows of so many columns as it takes, one at least.
+/// How many characters come before the last blank, and that blank; none where there is no blank.
+fn through_last_blank(text: &[char]) -> usize
+    ensures count { result ≡ through_last_blank text.now }
+    ensures within { result ≤ length text.now }
+{
+    let mut count = 0;
+    for place in 0..text.len() {
+        if text[place] == ' ' {
+            count = place + 1;
+        }
+    }
+    count
+}
+
+/// Where a text is broken of which only so many characters fit into the columns of a row.
+fn break_of(columns: usize, text: &[char], room: usize) -> usize
+    requires fits { room ≡ fitting columns text.now }
+    requires more { room < length text.now }
+    ensures place { result ≡ break_of columns text.now }
+    ensures within { result ≤ length text.now }
+{
+    let (front, _) = text.split_at(room + 1);
+    match through_last_blank(front) {
+        0 => room,
+        word => word,
+    }
+}
+
+/// Adds a row with these characters.
+fn add_row(alloc: Global, characters: &[char], rows: &mut Vec<Text>) -> Result<(), Memory>
+    ensures { OnOk result (rows.new.items ≡ rows.old.items ++ characters.now ∷ []) }
+{
+    let mut row = Text::new(alloc);
+    row.add_all(characters)?;
+    rows.push(row)?;
+    Ok(())
+}
+
+/// A text in as many rows of so many columns as it takes, at least one, broken between words.
 ///
 /// # Errors
 ///
@@ -56,21 +93,19 @@ pub fn wrapped(alloc: Global, columns: usize, text: &[char]) -> Result<Vec<Text>
     ensures { IfOk result (λ rows. rows.items ≡ wrapped columns text.now) }
 {
     let mut rows = Vec::new(alloc);
-    let mut row = Text::new(alloc);
-    let mut left = columns;
-    for place in 0..text.len() {
-        let character = text[place];
-        let covered = columns_of(character);
-        if covered <= left {
-            row.add(character)?;
-            left -= covered;
-            continue;
+    let mut rest = text;
+    for _row in 0..text.len() + 1 {
+        let room = fitting(rest, columns);
+        if room == rest.len() {
+            add_row(alloc, rest, &mut rows)?;
+            return Ok(rows);
         }
-        rows.push(mem::replace(&mut row, Text::new(alloc)))?;
-        row.add(character)?;
-        left = columns.saturating_sub(covered);
+        let place = break_of(columns, rest, room);
+        let (row, _) = rest.split_at(room.min(place));
+        add_row(alloc, row, &mut rows)?;
+        let (_, next) = rest.split_at(place);
+        rest = next;
     }
-    rows.push(row)?;
     Ok(rows)
 }
 

@@ -3,11 +3,13 @@
 ghost use Rattle.std.specs.Prelude.{◌≡◌, ◌+◌, ◌<◌, ◌≤◌, ◌||◌, ℕ, None, true, false, length, take, IfOk, OnOk, OnErr};
 ghost use Rattle.std.specs.Prelude.{IsErr};
 ghost use Rattle.ps_devices.specs.Devices.{Grows, most_calls};
+ghost use Rattle.ps_view.specs.ToldGames.{known_of};
 ghost use Rattle.ps_view.specs.Views.{blank_view, piece_step};
 
 use crate::lines::Line;
 use crate::sizes::Size;
 use crate::tellers::SizeTeller;
+use crate::viewed_games::ViewedGame;
 use crate::views::TerminalView;
 use ps_devices::{ByteWriter, Failed, write_whole};
 use std::alloc::Global;
@@ -29,11 +31,12 @@ pub struct Viewed<W: ByteWriter, S: SizeTeller> {
 }
 
 impl<W: ByteWriter, S: SizeTeller> Viewed<W, S> {
-    /// A view for a terminal of that size, above a writer, and beside what tells other sizes. Nothing is written yet.
-    pub fn new(alloc: Global, size: Size, sizes: S, writer: W) -> Viewed<W, S>
+    /// A view of a game for a terminal of that size, above a writer, and beside what tells other sizes. Nothing is
+    /// written yet.
+    pub fn new(alloc: Global, game: ViewedGame, size: Size, sizes: S, writer: W) -> Viewed<W, S>
         ensures writer { result.writer ≡ writer }
         ensures sizes { result.sizes ≡ sizes }
-        ensures view { result.view ≡ blank_view size }
+        ensures view { result.view ≡ blank_view (known_of game) size }
         ensures memory { result.wants_memory ≡ false }
         ensures worn { result.is_worn ≡ false }
         ensures calls { result.calls ≡ 0 }
@@ -42,7 +45,7 @@ impl<W: ByteWriter, S: SizeTeller> Viewed<W, S> {
         Viewed {
             writer,
             sizes,
-            view: TerminalView::new(alloc, size),
+            view: TerminalView::new(alloc, game, size),
             orders: Line::new(alloc),
             wants_memory: false,
             is_worn: false,

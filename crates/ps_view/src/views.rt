@@ -2,18 +2,20 @@
 
 ghost use Rattle.std.specs.Prelude.{◌≡◌, ◌++◌, List, ℕ, OnOk, false, true, ◌==◌, ◌&&◌};
 ghost use Rattle.ps_view.specs.LineKinds.{kind_of};
-ghost use Rattle.ps_view.specs.Views.{anew, blank_view, byte_step, drawn, handed_on, is_size, left, line_told};
-ghost use Rattle.ps_view.specs.Views.{piece_step, size_step, told_step, view_behind, with_size};
+ghost use Rattle.ps_view.specs.ToldGames.{known_of};
+ghost use Rattle.ps_view.specs.Views.{anew, blank_view, byte_step, corner_in, drawn, handed_on, is_size, left};
+ghost use Rattle.ps_view.specs.Views.{line_told, piece_step, size_step, told_step, view_behind, with_size};
 ghost use Rattle.ps_view.specs.declared.line_kinds.LineKind.TheVariants.{Title, Level, Message, Ending, Empty, Row};
 
 use crate::changes::{add_changes, add_closing, add_opening};
-use crate::corners::{Cell, Corner, changed_behind, corner_behind, corner_showing, first_changed};
+use crate::corners::{Cell, Corner, changed_behind, corner_following, first_changed};
 use crate::harmless_texts::harmless_text;
 use crate::line_kinds::{LineKind, kind_of};
 use crate::lines::Line;
 use crate::screens::{ToldLines, screen_of};
 use crate::sizes::Size;
 use crate::texts::Text;
+use crate::viewed_games::ViewedGame;
 use ps_model::Memory;
 use std::alloc::Global;
 use std::marker::Model;
@@ -35,6 +37,7 @@ const ROWS_BELOW: usize = 4;
 #[derive(Drop)]
 pub struct TerminalView {
     alloc: Global,
+    game: ViewedGame,
     size: Size,
     told: ToldLines,
     frame: Vec<Text>,
@@ -49,11 +52,13 @@ pub struct TerminalView {
 
 impl Model for TerminalView {
     ghost use Rattle.ps_view.specs.Views.{View};
+    ghost use Rattle.ps_view.specs.ToldGames.{known_of};
     ghost use Rattle.ps_view.specs.ToldLines.{told_of};
 
     ghost Value = { View };
 
     ghost view = { λ view. record {
+      game = known_of view.game;
       size = view.size;
       told = told_of view.told;
       frame = view.frame.items;
@@ -68,12 +73,13 @@ impl Model for TerminalView {
 }
 
 impl TerminalView {
-    /// A view before the first byte.
-    pub fn new(alloc: Global, size: Size) -> TerminalView
-        ensures { result ≡ blank_view size }
+    /// A view of a game before the first byte.
+    pub fn new(alloc: Global, game: ViewedGame, size: Size) -> TerminalView
+        ensures { result ≡ blank_view (known_of game) size }
     {
         TerminalView {
             alloc,
+            game,
             size,
             told: ToldLines {
                 title: Line::new(alloc),
@@ -120,7 +126,15 @@ impl TerminalView {
     {
         let rows = size.rows() - ROWS_BELOW;
         let columns = size.columns();
-        self.corner = corner_showing(rows, columns, self.corner, &self.frame, self.changed);
+        let players = &self.game.players;
+        self.corner = corner_following(
+            players,
+            rows,
+            columns,
+            self.corner,
+            &self.frame,
+            self.changed,
+        );
         self.size = size;
         self.screen.clear();
         self.is_open = false;
@@ -283,8 +297,16 @@ impl TerminalView {
         let rows = self.size.rows() - ROWS_BELOW;
         let columns = self.size.columns();
         let changed = first_changed(&self.frame, &self.begun);
-        self.corner = corner_behind(rows, columns, self.corner, &self.begun, changed);
+        let players = &self.game.players;
         self.changed = changed_behind(self.changed, &self.begun, changed);
+        self.corner = corner_following(
+            players,
+            rows,
+            columns,
+            self.corner,
+            &self.begun,
+            self.changed,
+        );
         mem::swap(&mut self.frame, &mut self.begun);
         self.begun.clear();
         self.line.clear();

@@ -1,0 +1,8 @@
+//! What a view is told of the game that it shows.
+
+/// What a view is told of the game that it shows.
+#[derive(Drop)]
+pub struct ViewedGame {
+    /// The characters that show a Player, alone or with other objects. The view follows the first of them.
+    pub players: Vec<char>,
+}
