@@ -265,7 +265,9 @@ fn show_option(alloc: Global) -> Result<Arg<'static>, AllocError> {
     Arg::new(alloc, "show")
         .long("show")
         .value_name("FILE")
-        .help("With --view, shows the output of a run that a file has, or - for standard input; plays nothing")
+        .help(
+            "With --view, shows the output of a run that a file has, or - for standard input; plays nothing",
+        )
         .action(ArgAction::Set)
         .requires_arg("view")?
         .conflicts_with_all(&["check", "keys"])
