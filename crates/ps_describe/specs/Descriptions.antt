@@ -29,9 +29,9 @@ player_characters names = map (λ glyph. glyph.character) (filter (shows_player 
 -- a meaning is that object, alone
 abbrev pub is_object : ObjectId → Option Meaning → Bool
 is_object wanted None = false
-is_object wanted (Some (One object)) = same_object object wanted
-is_object wanted (Some (AllOf line objects)) = false
-is_object wanted (Some (AnyOf line objects)) = false
+is_object wanted (Some (One other)) = same_object other wanted
+is_object wanted (Some (AllOf line others)) = false
+is_object wanted (Some (AnyOf line others)) = false
 
 -- a name stands for that object, alone
 abbrev pub stands_for : Names → ObjectId → List ℕ → Bool
