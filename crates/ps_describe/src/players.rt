@@ -1,6 +1,6 @@
 //! The characters that show a Player.
 
-ghost use Rattle.std.specs.Prelude.{◌≡◌, IfOk};
+ghost use Rattle.std.specs.Prelude.{◌≡◌, ◌∷◌, ◌++◌, [], IfOk, OnOk, if◌then◌else◌};
 ghost use Rattle.ps_model.specs.names.Names.{is_among, players};
 ghost use Rattle.ps_names.specs.GlyphsShown.{glyph_shown};
 ghost use Rattle.ps_describe.specs.Descriptions.{player_characters, shows_player};
@@ -33,6 +33,17 @@ fn shows_player(names: &Names, glyph: &Glyph) -> bool
     false
 }
 
+/// Puts a character last, if it is to be told.
+fn push_if(is_told: bool, character: char, characters: &mut Vec<char>) -> Result<(), Memory>
+    ensures { OnOk result (characters.new.items
+        ≡ characters.old.items ++ (if is_told then character ∷ [] else [])) }
+{
+    if is_told {
+        characters.push(character)?;
+    }
+    Ok(())
+}
+
 /// The characters of the glyphs that show an object of Player, alone or with others, in order of declaration.
 ///
 /// # Errors
@@ -43,9 +54,8 @@ pub fn player_characters(alloc: Global, names: &Names) -> Result<Vec<char>, Memo
 {
     let mut characters = Vec::new(alloc);
     for glyph in names.glyphs() {
-        if shows_player(names, glyph) {
-            characters.push(glyph.character)?;
-        }
+        let is_told = shows_player(names, glyph);
+        push_if(is_told, glyph.character, &mut characters)?;
     }
     Ok(characters)
 }

@@ -7,5 +7,5 @@ use Rattle.ps_describe.proofs.glyphs.glyphs_told.Given as goal
 
 -- what is left comes to the whole
 abbrev pub invariant-loop-glyph : goal.invariant-loop-glyph
-invariant-loop-glyph l = map view l.told.items ++ map (glyph_told l.names (names_shown l.declared)) (drop l.glyph-index l.names.glyphs)
-    ≡ map (glyph_told l.names (names_shown l.declared)) l.names.glyphs
+invariant-loop-glyph l = map view l.told.items ++ map (glyph_told l.names (names_shown l.declared)) (glyphs_shown (drop l.glyph-index l.glyph-items))
+    ≡ map (glyph_told l.names (names_shown l.declared)) (glyphs_shown l.glyph-items)
