@@ -42,6 +42,11 @@ const VIEWED: &str =
     \x1b[4;1H\x1b[2Kw a s d move, x act, z undo, r restart, q quit\
     \x1b[1;1H\x1b[2K#.P@#\x1b[5;1H\x1b[2K* the end\x1b[5;1H\r\n\x1b[J\x1b[?25h";
 
+/// What it is handed for the first frame of the game.
+const SHOWN: &str =
+    "\x1b[?25l\x1b[2J\x1b[1;1H\x1b[2K#P*O#\x1b[2;1H\x1b[2K= T\x1b[3;1H\x1b[2K# level 1\
+    \x1b[4;1H\x1b[2Kw a s d move, x act, z undo, r restart, q quit";
+
 /// What a terminal of 10 rows and 20 columns is handed for the same.
 const VIEWED_SMALL: &str =
     "\x1b[?25l\x1b[2J\x1b[1;1H\x1b[2K#P*O#\x1b[2;1H\x1b[2K= T\x1b[3;1H\x1b[2K# level 1\
@@ -56,7 +61,14 @@ const UNBOUND: &str =
     "Nothing on the left decides which is meant by a property, or by a word of several moves, on the right.\n";
 
 /// The words of command lines that aren't right.
-const BAD_LINES: [&[&str]; 21] = [
+const BAD_LINES: [&[&str]; 26] = [
+    &["ps_play", "a.game", "--show", "-"],
+    &["ps_play", "--view", "24x80", "--show", "-"],
+    &["ps_play", "--describe"],
+    &["ps_play", "--describe", "a.game", "--check"],
+    &[
+        "ps_play", "a.game", "--view", "24x80", "--show", "-", "--keys", "a.keys",
+    ],
     &["ps_play", "--check"],
     &["ps_play", "--keys", "a.keys"],
     &["ps_play", "a.game", "--keys"],
@@ -361,6 +373,58 @@ const CHECKS: [(Told, &[Line]); 8] = [
     ),
 ];
 
+/// What a front end is told of the game.
+const DESCRIBED: &str =
+    "{\"glyphs\":[{\"glyph\":\".\",\"objects\":[\"Background\"]},{\"glyph\":\"#\",\"objects\":[\"Wall\"]},\
+    {\"glyph\":\"P\",\"objects\":[\"Player\"]},{\"glyph\":\"*\",\"objects\":[\"Crate\"]},\
+    {\"glyph\":\"O\",\"objects\":[\"Target\"]},{\"glyph\":\"A\",\"objects\":[\"A\"]},\
+    {\"glyph\":\"B\",\"objects\":[\"B\"]},{\"glyph\":\"C\",\"objects\":[\"C\"]},{\"glyph\":\"D\",\"objects\":[\"D\"]},\
+    {\"glyph\":\"@\",\"objects\":[\"Crate\",\"Target\"]}],\
+    \"ignored_keys\":[],\"levels\":1,\"player_glyphs\":\"P\",\"title\":\"T\"}\n";
+
+/// Command lines of a front end, and what must come of each.
+const FRONT_END: [(Told, &[Line]); 3] = [
+    // A game is described.
+    (
+        Told {
+            input: b"d",
+            reads: 0,
+            status: 0,
+            shown: DESCRIBED,
+            printed: "",
+            complained: "",
+        },
+        &[(&["ps_play", "--describe", "a.game"], "a.game\n")],
+    ),
+    // A text with a fault isn't: the fault is told as a check tells it.
+    (
+        Told {
+            input: b"d",
+            reads: 0,
+            status: 1,
+            shown: "line 11: GM2 NoSection\n    11  WINCONDITIONS\nThere is no header LEVELS.\n",
+            printed: "",
+            complained: "",
+        },
+        &[(&["ps_play", "cut.game", "--describe"], "cut.game\n")],
+    ),
+    // The output of a run is shown, here from standard input.
+    (
+        Told {
+            input: b"= T\n# level 1\n#P*O#\n\n",
+            reads: 22,
+            status: 0,
+            shown: SHOWN,
+            printed: "",
+            complained: "",
+        },
+        &[(
+            &["ps_play", "a.game", "--view", "24x80", "--show", "-"],
+            "a.game\n",
+        )],
+    ),
+];
+
 /// Command lines that ask what a fault is, and what must come of each.
 const EXPLANATIONS: [(Told, &[Line]); 5] = [
     // The sentence of a fault is printed, by its code alone.
@@ -503,6 +567,11 @@ fn plays_what_is_asked_for(rt: HostRuntime) {
 #[test]
 fn checks_what_is_asked_for(rt: HostRuntime) {
     expect_each(&rt, &CHECKS);
+}
+
+#[test]
+fn serves_a_front_end(rt: HostRuntime) {
+    expect_each(&rt, &FRONT_END);
 }
 
 #[test]
