@@ -10,7 +10,7 @@ use crate::files::read_text;
 use crate::sizes::FileSizes;
 use crate::stops::{Stop, stop_for};
 use ps_devices::{ByteReader, ByteWriter, FromStd, Player, RunFault};
-use ps_view::{Lent, Size, SizeTeller, Viewed, ViewedGame};
+use ps_view::{HeardKeys, Lent, Size, SizeTeller, Viewed, ViewedGame};
 use std::alloc::Global;
 use std::fs;
 use std::rt::Files;
@@ -55,6 +55,11 @@ fn play_in_view<R: Files + AllocGlobal, P: Player, S: SizeTeller, I: ByteReader,
 {
     let game = ViewedGame {
         players: Vec::new(rt.alloc()),
+        heard: HeardKeys {
+            acts: true,
+            undoes: true,
+            restarts: true,
+        },
     };
     let mut view = Viewed::new(rt.alloc(), game, size, sizes, Lent::new(screen));
     let played = play_from(rt, player, text, file, keys, &mut view);
