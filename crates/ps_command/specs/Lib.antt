@@ -1,3 +1,4 @@
 pub mod Details
 pub mod Statuses
 pub mod Told
+pub mod ViewedGames

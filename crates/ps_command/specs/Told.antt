@@ -7,6 +7,7 @@ use Rattle.ps_model.specs.game.Games.{game}
 use Rattle.ps_model.specs.game.Headline.{Ends, RunsRightly}
 use Rattle.ps_model.specs.game.Tellings.{ReaderState, WriterState}
 use Rattle.ps_check.specs.Checks.{check_line, named_line}
+use Rattle.ps_describe.specs.Descriptions.{IsDescribed}
 use Rattle.ps_devices.specs.Answers.{answer_of}
 use Rattle.ps_devices.specs.Devices.{Grows, Loses}
 use Rattle.ps_devices.specs.declared.players.RunFault.{RunFault}
@@ -20,6 +21,13 @@ pub record TellsOfGame (before after : Option (List ℕ)) : Type 0 where
   pub text : List ℕ
   pub accepted : is_some (game text) ≡ true
   pub wrote : Grows before after (check_line text)
+
+-- of some text that is a game the line is told by which a front end knows it, and nothing else
+pub record TellsOfDescribed (before after : Option (List ℕ)) : Type 0 where
+  pub text : List ℕ
+  pub line : List ℕ
+  pub is : IsDescribed text line
+  pub wrote : Grows before after line
 
 -- of some text that is no game its line is told, and what stands below it
 pub record TellsOfRefused (detail : Detail) (before after : Option (List ℕ)) : Type 0 where

@@ -107,7 +107,7 @@ fn asked_by<'w>(alloc: Global, matches: &ArgMatches<'w>) -> Result<Asked<'w>, St
     Ok(asked_play(matches, path, size))
 }
 
-/// What the matches of a command line ask for that plays a game, or shows the output of a run: `--show` comes with a size.
+/// What the matches of a command line ask for that plays a game, or shows the output of a run, which wants a size.
 fn asked_play<'w>(matches: &ArgMatches<'w>, path: &'w str, size: Option<Size>) -> Asked<'w> {
     let sizes = matches.get_str("sizes");
     if let (Some(output), Some(size)) = (matches.get_str("show"), size) {

@@ -1,9 +1,7 @@
 //! What a front end is told of a game before it is played.
 
-ghost use Rattle.std.specs.Prelude.{◌≡◌, false, IfErr, OnOk, codes};
-ghost use Rattle.ps_command.specs.Told.{TellsOfDescribed, TellsOfRefused};
-ghost use Rattle.ps_command.specs.declared.details.Detail.TheVariants as Detail;
-ghost use Rattle.ps_command.specs.declared.stops.Stop.TheVariants as Stop;
+ghost use Rattle.std.specs.Prelude.{◌≡◌, false, OnOk};
+ghost use Rattle.ps_command.specs.Told.{TellsOfDescribed};
 
 use crate::acts::check_alone;
 use crate::details::Detail;
@@ -14,8 +12,8 @@ use ps_devices::{ByteReader, ByteWriter, RunFault, write_whole};
 use std::alloc::Global;
 use std::rt::Files;
 
-/// Says on the screen, in a line of JSON, what a front end needs to know of the game in a file. Where its text has a fault
-/// that is told as a check tells it, with what is to be mended.
+/// Says on the screen, in a line of JSON, what a front end needs to know of the game in a file. A fault of its text is
+/// told as a check tells it, with what is to be mended.
 pub fn describe_game<R: Files + AllocGlobal, I: ByteReader, O: ByteWriter>(
     rt: &R,
     path: &str,

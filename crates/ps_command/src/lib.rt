@@ -14,5 +14,6 @@ mod playing;
 mod showing;
 mod sizes;
 mod stops;
+mod viewed_games;
 
 pub use acts::run_command_line;

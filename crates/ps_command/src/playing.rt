@@ -9,9 +9,9 @@ use crate::command::Play;
 use crate::files::read_text;
 use crate::sizes::FileSizes;
 use crate::stops::{Stop, stop_for};
-use ps_describe::facts_of;
+use crate::viewed_games::viewed_game;
 use ps_devices::{ByteReader, ByteWriter, FromStd, Player, RunFault};
-use ps_view::{Lent, Size, Viewed, ViewedGame};
+use ps_view::{Lent, Size, Viewed};
 use std::alloc::Global;
 use std::fs;
 use std::rt::Files;
@@ -35,18 +35,6 @@ pub fn play_asked<R: Files + AllocGlobal, P: Player, I: ByteReader, O: ByteWrite
         None => play_from(rt, player, &text, asked.keys, keys, screen),
         Some(size) => play_in_view(rt, player, &text, asked, size, keys, screen),
     }
-}
-
-/// What a view is told of the game of a text. Of a text with a fault nothing is: no run of it writes anything.
-pub fn viewed_game(alloc: Global, text: &[u8]) -> Result<ViewedGame, Stop> {
-    let Some(facts) = facts_of(alloc, text)? else {
-        return Ok(ViewedGame {
-            players: Vec::new(alloc),
-        });
-    };
-    Ok(ViewedGame {
-        players: facts.players,
-    })
 }
 
 /// Plays a game in a view of that size.

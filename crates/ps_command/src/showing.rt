@@ -1,16 +1,15 @@
 //! The output of a run, shown as a view shows it.
 
-ghost use Rattle.std.specs.Prelude.{◌≡◌, false, true};
+ghost use Rattle.std.specs.Prelude.{◌≡◌, false};
 
 use crate::command::Show;
 use crate::files::{STANDARD_INPUT, read_text};
-use crate::playing::viewed_game;
 use crate::sizes::FileSizes;
 use crate::stops::{Stop, stop_for};
+use crate::viewed_games::viewed_game;
 use ps_devices::{ByteReader, ByteWriter, FromStd, RunFault, write_whole};
 use ps_model::CALL_LIMIT;
 use ps_view::{Lent, Viewed};
-use std::alloc::Global;
 use std::fs;
 use std::rt::Files;
 

@@ -8,8 +8,8 @@ ghost use Rattle.ps_model.specs.text.Faults.{first_fault};
 ghost use Rattle.ps_model.specs.session.Sessions.{is_level};
 ghost use Rattle.ps_levels.specs.EntriesShown.{entries_shown};
 ghost use Rattle.ps_facts.specs.NamesShown.{names_shown};
-ghost use Rattle.ps_describe.specs.Descriptions.{IsDescribed, description, description_line, ignored_keys, player_characters};
-ghost use Rattle.ps_describe.specs.Descriptions.{word_if};
+ghost use Rattle.ps_describe.specs.Descriptions.{IsDescribed, description, description_line, ignored_keys};
+ghost use Rattle.ps_describe.specs.Descriptions.{player_characters, word_if};
 ghost use Rattle.serde_json.specs.Data.{string};
 ghost use Rattle.serde_json.specs.View.{view};
 

@@ -1,6 +1,7 @@
 //! What a view is told of a game.
 
-ghost use Rattle.std.specs.Prelude.{◌≡◌, IfOk, IfSome, ◌×◌};
+ghost use Rattle.std.specs.Prelude.{◌≡◌, IfOk, IfSome, is_some};
+ghost use Rattle.ps_model.specs.game.Games.{game};
 ghost use Rattle.ps_describe.specs.Descriptions.{HasFacts};
 
 use crate::players::player_characters;
@@ -22,7 +23,9 @@ pub struct GameFacts {
 ///
 /// `Memory`.
 pub fn facts_of(alloc: Global, text: &[u8]) -> Result<Option<GameFacts>, Memory>
-    ensures { IfOk result (λ told. IfSome told (λ facts. HasFacts text.now facts.players.items facts.options)) }
+    ensures told { IfOk result (λ told. IfSome told (λ facts.
+        HasFacts text.now facts.players.items facts.options)) }
+    ensures is { IfOk result (λ told. is_some told ≡ is_some (game text.now)) }
 {
     match read_game(alloc, text) {
         Ok(game) => {

@@ -18,8 +18,8 @@ fn stands_for(names: &Names, name: &str, object: ObjectId) -> bool
     }
 }
 
-/// What an object is called: the first of the declared names that stands for it alone, as it is written there. An object
-/// without such a name, which no game has, is called nothing.
+/// What an object is called: the first of the declared names that stands for it alone, as it is written there. An
+/// object without such a name, which no game has, is called nothing.
 pub fn name_of_object<'a>(names: &Names, declared: &[Named<'a>], object: ObjectId) -> &'a str
     ensures { result.now ≡ name_of_object names.now (names_shown declared.now) object }
 {

@@ -32,13 +32,14 @@ news_are_harmless size news =
     (wrapped_is_harmless size.columns (harmless_text news) (text_is_harmless news))
 
 below_is_harmless : (size : Size) (told : LinesBelow) → AreHarmlessRows (rows_below size told)
+unfolding rows_below
 below_is_harmless size told =
     let line : List ℕ → List ℕ = λ bytes. cut size.columns (harmless_text bytes) in
     let news : List (List ℕ) = news_rows size told.news in
-    All-cons IsHarmlessRow (line told.title) (line told.level ∷ line keys_line ∷ news)
+    All-cons IsHarmlessRow (line told.title) (line told.level ∷ line (keys_line told.heard) ∷ news)
     (line_is_harmless size.columns told.title)
-    (All-cons IsHarmlessRow (line told.level) (line keys_line ∷ news) (line_is_harmless size.columns told.level)
-    (All-cons IsHarmlessRow (line keys_line) news (line_is_harmless size.columns keys_line)
+    (All-cons IsHarmlessRow (line told.level) (line (keys_line told.heard) ∷ news) (line_is_harmless size.columns told.level)
+    (All-cons IsHarmlessRow (line (keys_line told.heard)) news (line_is_harmless size.columns (keys_line told.heard))
     (news_are_harmless size told.news)))
 
 -- a screen of a harmless frame

@@ -26,6 +26,7 @@ frame_few : (rows columns : ℕ) (corner : Corner) (frame : List (List ℕ)) →
 frame_few rows columns corner frame some = rw length-map (part_few rows corner.top _ [] frame some)
 
 below_few : (size : Size) (told : LinesBelow) → length (rows_below size told) + 3 ≤ size.rows
+unfolding rows_below
 below_few size told =
     let few : length (news_rows size told.news) ≤ size.rows - 6 =
     shortened_few (size.rows - 6) (wrapped size.columns (harmless_text told.news)) (omega (arith, size.tall)) in

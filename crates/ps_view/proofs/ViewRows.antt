@@ -1,5 +1,5 @@
 -- Examples of views, evaluated: both sides of each compute to the same.
-use Rattle.std.proofs.Common.{◌≡◌, ℕ, [], ◌∷◌, ◌++◌, Some, None, refl}
+use Rattle.std.proofs.Common.{◌≡◌, ℕ, true, false, [], ◌∷◌, ◌++◌, Some, None, refl}
 use Rattle.std.specs.Prelude.{codes, encode_utf8}
 use Rattle.std.specs.List.{flat_map}
 use Rattle.ps_view.specs.declared.line_kinds.LineKind.TheVariants.{Title, Level, Message, LevelDone, Ending, Empty, Row}
@@ -9,7 +9,7 @@ use Rattle.ps_view.specs.Orders.{drawn_row}
 use Rattle.ps_view.specs.Rows.{fitting, cut, wrapped, shortened}
 use Rattle.ps_view.specs.Players.{first_player}
 use Rattle.ps_view.specs.Corners.{corner_following, first_changed, frame_part, kept_in, moved, part_from}
-use Rattle.ps_view.specs.Screens.{changes}
+use Rattle.ps_view.specs.Screens.{changes, keys_line}
 use Rattle.unicode_width.proofs.Computing.{unicode_width}
 
 -- lines ---------------------------------------------------------------------------------------------------------------
@@ -182,6 +182,16 @@ part_of_frame : frame_part 4 5 (corner_following (codes "P") 4 5 (record { top =
     (codes "......" ∷ codes "...o.." ∷ []) ≡ codes "…...…" ∷ codes "…..o…" ∷ []
 unfolding unicode_width
 part_of_frame = refl
+
+-- keys ----------------------------------------------------------------------------------------------------------------
+
+all_keys : keys_line (record { acts = true; undoes = true; restarts = true })
+    ≡ codes "w a s d move, x act, z undo, r restart, q quit"
+all_keys = refl
+
+keys_of_a_game_without_actions : keys_line (record { acts = false; undoes = true; restarts = false })
+    ≡ codes "w a s d move, z undo, q quit"
+keys_of_a_game_without_actions = refl
 
 -- screens -------------------------------------------------------------------------------------------------------------
 

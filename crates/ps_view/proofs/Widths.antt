@@ -215,6 +215,7 @@ frame_fits rows columns corner frame some =
 -- screens -------------------------------------------------------------------------------------------------------------
 
 pub rows_fit : RowsFit
+unfolding rows_below
 rows_fit size corner frame told =
     let columns : ℕ = size.columns in
     let wide = size.wide in
@@ -226,9 +227,9 @@ rows_fit size corner frame told =
     let last : All within news = shortened_fit columns (size.rows - 6) (wrapped columns (harmless_text told.news)) some
     (wrapped_fits columns (harmless_text told.news)) in
     let lines : All within below =
-    All-cons within (line told.title) (line told.level ∷ line keys_line ∷ news)
+    All-cons within (line told.title) (line told.level ∷ line (keys_line told.heard) ∷ news)
     (cut_fits columns (harmless_text told.title) some)
-    (All-cons within (line told.level) (line keys_line ∷ news) (cut_fits columns (harmless_text told.level) some)
-    (All-cons within (line keys_line) news (cut_fits columns (harmless_text keys_line) some) last)) in
+    (All-cons within (line told.level) (line (keys_line told.heard) ∷ news) (cut_fits columns (harmless_text told.level) some)
+    (All-cons within (line (keys_line told.heard)) news (cut_fits columns (harmless_text (keys_line told.heard)) some) last)) in
     All-append within (frame_part (size.rows - length below) columns corner frame) below
     (frame_fits (size.rows - length below) columns corner frame (omega (arith, wide))) lines

@@ -1,36 +1,44 @@
 -- What the rows of a terminal show: the last frame at the top, and below it a line each for the title, the level and
 -- the keys, and what is told last.
-use Rattle.std.specs.Prelude.{ℕ, suc, ◌-◌, max, if◌then◌else◌, List, [], ◌∷◌, ◌++◌, length, codes}
+use Rattle.std.specs.Prelude.{ℕ, suc, ◌-◌, Bool, max, if◌then◌else◌, List, [], ◌∷◌, ◌++◌, length, codes}
 use Rattle.std.specs.Prelude.{encode_utf8}
 use Rattle.std.specs.List.{flat_map, range_with_len}
 use Rattle.std.specs.Str.{bytes_eq}
 use Rattle.ps_view.specs.declared.corners.Corner.{Corner}
+use Rattle.ps_view.specs.declared.heard_keys.HeardKeys.{HeardKeys}
 use Rattle.ps_view.specs.declared.sizes.Size.{Size}
 use Rattle.ps_view.specs.HarmlessTexts.{harmless_text}
 use Rattle.ps_view.specs.Rows.{cut, wrapped, shortened}
 use Rattle.ps_view.specs.Corners.{frame_part, row_in}
 use Rattle.ps_view.specs.Orders.{drawn_row}
 
--- what is told beside the board: the line of the title, that of the level, and the last of all others. Each is empty
--- until it comes
+-- what is told beside the board: the line of the title, that of the level, the keys that the game heeds, and the last of
+-- all other lines. Each line is empty until it comes
 pub record LinesBelow : Type 0 where
   pub title : List ℕ
   pub level : List ℕ
+  pub heard : HeardKeys
   pub news : List ℕ
 
--- what the keys do
-abbrev pub keys_line : List ℕ
-keys_line = codes "w a s d move, x act, z undo, r restart, q quit"
+-- what a key does, where the game heeds it
+abbrev pub told_key : Bool → List ℕ → List ℕ
+told_key is_heard words = if is_heard then words else []
+
+-- what the keys do that a game heeds
+abbrev pub keys_line : HeardKeys → List ℕ
+keys_line heard =
+    (((codes "w a s d move" ++ told_key heard.acts (codes ", x act")) ++ told_key heard.undoes (codes ", z undo"))
+    ++ told_key heard.restarts (codes ", r restart")) ++ codes ", q quit"
 
 -- the rows of what is told last: it may take all but the three lines above it, and three rows of a frame
 abbrev pub news_rows : Size → List ℕ → List (List ℕ)
 news_rows size news = shortened (size.rows - 6) (wrapped size.columns (harmless_text news))
 
 -- the rows below a frame
-abbrev pub rows_below : Size → LinesBelow → List (List ℕ)
+unfoldable pub rows_below : Size → LinesBelow → List (List ℕ)
 rows_below size told =
     cut size.columns (harmless_text told.title) ∷ cut size.columns (harmless_text told.level)
-    ∷ cut size.columns (harmless_text keys_line) ∷ news_rows size told.news
+    ∷ cut size.columns (harmless_text (keys_line told.heard)) ∷ news_rows size told.news
 
 -- the rows of a terminal from the top, as far as they show something
 abbrev pub screen_of : Size → Corner → List (List ℕ) → LinesBelow → List (List ℕ)

@@ -4,4 +4,4 @@ use Rattle.ps_view.specs.declared.viewed_games.ViewedGame.{ViewedGame}
 
 -- the game
 abbrev pub known_of : ViewedGame → KnownGame
-known_of game = record { players = game.players.items }
+known_of game = record { players = game.players.items; heard = game.heard }

@@ -51,7 +51,7 @@ abbrev pub blank_view : KnownGame → Size → View
 blank_view game size = record {
   game = game;
   size = size;
-  told = record { title = []; level = []; news = [] };
+  told = record { title = []; level = []; heard = game.heard; news = [] };
   frame = [];
   corner = first_corner;
   changed = first_cell;
@@ -96,14 +96,14 @@ left step = record {
 -- the view with another title, on the way to the next line
 abbrev pub with_title : View → List ℕ → View
 with_title view title = record view {
-  told = record { title = title; level = view.told.level; news = view.told.news };
+  told = let told : LinesBelow = view.told in record told { title = title };
   line = [];
 }
 
 -- the view with another level, of which no frame has come yet
 abbrev pub with_level : View → List ℕ → View
 with_level view level = record view {
-  told = record { title = view.told.title; level = level; news = [] };
+  told = let told : LinesBelow = view.told in record told { level = level; news = [] };
   frame = [];
   corner = first_corner;
   changed = first_cell;
@@ -113,7 +113,7 @@ with_level view level = record view {
 -- the view with other news
 abbrev pub with_news : View → List ℕ → View
 with_news view news = record view {
-  told = record { title = view.told.title; level = view.told.level; news = news };
+  told = let told : LinesBelow = view.told in record told { news = news };
   line = [];
 }
 
@@ -129,7 +129,7 @@ changed_then view = changed_behind view.changed view.begun (first_changed view.f
 -- the view with the frame that has begun in place of the last one; what was told last is gone past
 abbrev pub with_frame : View → View
 with_frame view = record view {
-  told = record { title = view.told.title; level = view.told.level; news = [] };
+  told = let told : LinesBelow = view.told in record told { news = [] };
   frame = view.begun;
   corner = corner_in view view.size view.begun (changed_then view);
   changed = changed_then view;

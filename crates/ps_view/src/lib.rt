@@ -10,6 +10,7 @@ mod cells;
 mod changes;
 mod corners;
 mod harmless_texts;
+mod heard_keys;
 mod laws;
 mod lent;
 mod line_kinds;
@@ -25,6 +26,7 @@ mod viewed;
 mod viewed_games;
 mod views;
 
+pub use heard_keys::HeardKeys;
 pub use laws::{
     one_size_is_as_the_whole, pieces_are_as_the_whole, players_are_in_sight, screens_are_harmless,
     screens_fit,

@@ -3,11 +3,12 @@
 ghost use Rattle.std.specs.Prelude.{◌≡◌, ◌++◌, ◌∷◌, [], IfOk, OnOk};
 ghost use Rattle.ps_view.specs.HarmlessTexts.{harmless_text};
 ghost use Rattle.ps_view.specs.Rows.{cut};
-ghost use Rattle.ps_view.specs.Screens.{news_rows, rows_below, screen_of};
+ghost use Rattle.ps_view.specs.Screens.{keys_line, news_rows, rows_below, screen_of, told_key};
 ghost use Rattle.ps_view.specs.ToldLines.{told_of};
 
 use crate::corners::Corner;
 use crate::harmless_texts::harmless_text;
+use crate::heard_keys::HeardKeys;
 use crate::lines::Line;
 use crate::parts::add_frame_part;
 use crate::rows::{cut, shortened, wrapped};
@@ -16,18 +17,39 @@ use crate::texts::Text;
 use ps_model::Memory;
 use std::alloc::Global;
 
-/// What the keys do.
-const KEYS_LINE: &[u8] = b"w a s d move, x act, z undo, r restart, q quit";
-
 /// How many rows are kept from what is told last: three lines stand above it, and three rows of a frame.
 const ROWS_KEPT: usize = 6;
 
-/// What is told beside the board. Each line is empty until it comes.
+/// What is told beside the board. Each line is empty until it comes; that of the keys tells those that are heard.
 #[derive(Drop)]
 pub struct ToldLines {
     pub title: Line,
     pub level: Line,
+    pub heard: HeardKeys,
     pub news: Line,
+}
+
+/// Adds what a key does, where the game heeds it.
+fn add_key(is_heard: bool, words: &[u8], line: &mut Line) -> Result<(), Memory>
+    ensures { OnOk result (line.new ≡ line.old ++ told_key is_heard words.now) }
+{
+    if is_heard {
+        return line.add(words);
+    }
+    Ok(())
+}
+
+/// What the keys do that a game heeds.
+fn keys_line(alloc: Global, heard: HeardKeys) -> Result<Line, Memory>
+    ensures { IfOk result (λ line. line ≡ keys_line heard) }
+{
+    let mut line = Line::new(alloc);
+    line.add(b"w a s d move")?;
+    add_key(heard.acts, b", x act", &mut line)?;
+    add_key(heard.undoes, b", z undo", &mut line)?;
+    add_key(heard.restarts, b", r restart", &mut line)?;
+    line.add(b", q quit")?;
+    Ok(line)
 }
 
 /// Adds what a row shows of a line.
@@ -55,6 +77,7 @@ fn news_rows(alloc: Global, size: Size, news: &[u8]) -> Result<Vec<Text>, Memory
 }
 
 /// The rows below a frame.
+#[tactic(auto, unfolding(crate::specs::Screens::rows_below))]
 fn rows_below(alloc: Global, size: Size, told: &ToldLines) -> Result<Vec<Text>, Memory>
     ensures { IfOk result (λ below. below.items ≡ rows_below size (told_of told.now)) }
 {
@@ -62,7 +85,8 @@ fn rows_below(alloc: Global, size: Size, told: &ToldLines) -> Result<Vec<Text>, 
     let columns = size.columns();
     add_line(alloc, columns, told.title.bytes(), &mut below)?;
     add_line(alloc, columns, told.level.bytes(), &mut below)?;
-    add_line(alloc, columns, KEYS_LINE, &mut below)?;
+    let keys = keys_line(alloc, told.heard)?;
+    add_line(alloc, columns, keys.bytes(), &mut below)?;
     let mut news = news_rows(alloc, size, told.news.bytes())?;
     below.append(&mut news)?;
     Ok(below)

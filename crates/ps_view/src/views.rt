@@ -77,6 +77,7 @@ impl TerminalView {
     pub fn new(alloc: Global, game: ViewedGame, size: Size) -> TerminalView
         ensures { result ≡ blank_view (known_of game) size }
     {
+        let heard = game.heard;
         TerminalView {
             alloc,
             game,
@@ -84,6 +85,7 @@ impl TerminalView {
             told: ToldLines {
                 title: Line::new(alloc),
                 level: Line::new(alloc),
+                heard,
                 news: Line::new(alloc),
             },
             frame: Vec::new(alloc),
