@@ -13,8 +13,7 @@ use std::alloc::AllocError;
 use std::io;
 
 /// What is told where no size of a terminal is given.
-const NO_SIZE: &str =
-    "error: --view takes rows, x and columns, as 24x80: from 8 rows and 16 columns on
+const NO_SIZE: &str = "error: --view takes rows, x and columns, as 24x80: at least one of each
 
 For more information, try '--help'.";
 
@@ -27,7 +26,7 @@ pub enum Stop {
     NotText,
     /// The command line asks what a fault is, by a code that no fault has.
     NoSuchCode,
-    /// The command line gives no size of a terminal where it is to, or one that is too small.
+    /// The command line gives no size of a terminal where it is to, or one without a row or a column.
     NoSize,
     /// The game can't be read.
     Game,

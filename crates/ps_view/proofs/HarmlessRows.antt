@@ -6,8 +6,8 @@ use Rattle.std.specs.Prelude.{nat_le}
 use Rattle.std.specs.Str.{chars}
 use Rattle.std.specs.Str.Lossy.{utf8_lossy}
 use Rattle.std.proofs.lemmas.List.Elements.{All-nil, All-cons, All-append, All-take, All-drop, All-map}
-use Rattle.ps_view.specs.HarmlessTexts.{is_order, harmless, harmless_text}
-use Rattle.ps_view.specs.Rows.{more_mark, fitting, cut, break_of, row_before_break, rows_of_words, wrapped}
+use Rattle.ps_view.specs.HarmlessTexts.{columns_of, is_order, harmless, harmless_text}
+use Rattle.ps_view.specs.Rows.{more_mark, fitting, cut, narrowed, break_of, row_before_break, rows_of_words, wrapped}
 use Rattle.ps_view.specs.Rows.{shortened}
 use Rattle.ps_view.specs.Corners.{part_from, frame_part, room_across}
 use Rattle.ps_view.specs.declared.corners.Corner.{Corner}
@@ -62,6 +62,14 @@ words_are_harmless (suc most) columns text is =
 
 pub wrapped_is_harmless : (columns : ℕ) (text : List ℕ) → IsHarmlessRow text → AreHarmlessRows (wrapped columns text)
 wrapped_is_harmless columns text is = words_are_harmless (suc (length text)) columns text is
+
+-- a text whose wide characters are marks
+pub narrowed_is_harmless : (columns : ℕ) (text : List ℕ) → IsHarmlessRow text → IsHarmlessRow (narrowed columns text)
+narrowed_is_harmless columns text is =
+    let P : ℕ → Type 0 = λ c. is_order c ≡ false in
+    All-map P (λ c. cond (nat_le (columns_of c) columns) c more_mark) text
+    (λ k d within. either P (nat_le (columns_of (get_or text k d)) columns) (get_or text k d) more_mark (is k d within)
+    refl)
 
 -- rows that are shortened
 pub shortened_are_harmless : (most : ℕ) (rows : List (List ℕ)) → AreHarmlessRows rows →

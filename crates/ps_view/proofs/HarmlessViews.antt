@@ -1,25 +1,28 @@
 -- Views whose rows have no orders: from the first byte on.
-use Rattle.std.proofs.Common.{ℕ, ◌-◌, ◌==◌, true, false, List, [], ◌∷◌, ◌++◌, length}
+use Rattle.std.proofs.Common.{ℕ, ◌-◌, ◌==◌, true, false, cond, List, [], ◌∷◌, ◌++◌, length}
 use Rattle.std.specs.Prelude.{Option, Some, None, ◌||◌}
 use Rattle.std.proofs.lemmas.List.Elements.{All-nil, All-cons, All-append}
 use Rattle.ps_view.specs.declared.line_kinds.LineKind.{LineKind}
-use Rattle.ps_view.specs.declared.line_kinds.LineKind.TheVariants.{Title, Level, Message, LevelDone, Ending, Empty, Row}
+use Rattle.ps_view.specs.declared.line_kinds.LineKind.TheVariants.{Title, Level, Message, Note, Question, LevelDone}
+use Rattle.ps_view.specs.declared.line_kinds.LineKind.TheVariants.{Ending, Empty, Row}
 use Rattle.ps_view.specs.declared.corners.Corner.{Corner}
 use Rattle.ps_view.specs.declared.sizes.Size.{Size}
 use Rattle.ps_view.specs.HarmlessTexts.{harmless_text}
 use Rattle.ps_view.specs.LineKinds.{kind_of}
-use Rattle.ps_view.specs.Rows.{cut, wrapped}
+use Rattle.ps_view.specs.Rows.{cut, narrowed, shortened, wrapped}
+use Rattle.ps_view.specs.RowShares.{has_lines, most_news}
 use Rattle.ps_view.specs.Corners.{frame_part}
 use Rattle.ps_view.specs.Games.{KnownGame}
-use Rattle.ps_view.specs.Screens.{LinesBelow, keys_line, news_rows, rows_below, screen_of}
+use Rattle.ps_view.specs.Screens.{LinesBelow, level_line, keys_line, line_rows, news_rows, rows_below, screen_of}
 use Rattle.ps_view.specs.Views.{View, Step, blank_view, quietly, drawn, with_news}
 use Rattle.ps_view.specs.Views.{with_frame}
-use Rattle.ps_view.specs.Views.{with_byte, go_on, line_told, byte_step, view_behind}
+use Rattle.ps_view.specs.Views.{with_byte, go_on, text_of, line_told, byte_step, view_behind}
 use Rattle.ps_view.specs.Views.{is_size, with_size, anew, size_step, told_step, piece_step}
 use Rattle.ps_view.specs.Pieces.{Piece, view_behind_pieces}
 use Rattle.ps_view.specs.Bounds.{IsHarmlessRow, AreHarmlessRows, ScreensAreHarmless, ScreensOfPiecesAreHarmless}
 use Rattle.ps_view.proofs.HarmlessRows.{text_is_harmless, cut_is_harmless, wrapped_is_harmless, shortened_are_harmless}
-use Rattle.ps_view.proofs.HarmlessRows.{part_is_harmless}
+use Rattle.ps_view.proofs.HarmlessRows.{narrowed_is_harmless, part_is_harmless}
+use Rattle.ps_view.proofs.Such.{either}
 
 -- a line below a frame
 line_is_harmless : (columns : ℕ) (line : List ℕ) → IsHarmlessRow (cut columns (harmless_text line))
@@ -28,19 +31,31 @@ line_is_harmless columns line = cut_is_harmless columns (harmless_text line) (te
 -- what is told last
 news_are_harmless : (size : Size) (news : List ℕ) → AreHarmlessRows (news_rows size news)
 news_are_harmless size news =
-    shortened_are_harmless (size.rows - 6) (wrapped size.columns (harmless_text news))
-    (wrapped_is_harmless size.columns (harmless_text news) (text_is_harmless news))
+    let text : List ℕ = harmless_text news in
+    let rows : List (List ℕ) = wrapped size.columns (narrowed size.columns text) in
+    either AreHarmlessRows (most_news size == 1) (cut size.columns text ∷ []) (shortened (most_news size) rows)
+    (All-cons IsHarmlessRow (cut size.columns text) [] (line_is_harmless size.columns news) (All-nil IsHarmlessRow))
+    (shortened_are_harmless (most_news size) rows
+    (wrapped_is_harmless size.columns (narrowed size.columns text)
+    (narrowed_is_harmless size.columns text (text_is_harmless news))))
+
+lines_are_harmless : (columns : ℕ) (told : LinesBelow) → AreHarmlessRows (line_rows columns told)
+lines_are_harmless columns told =
+    let line : List ℕ → List ℕ = λ bytes. cut columns (harmless_text bytes) in
+    let level : List ℕ = level_line told.level told.note in
+    let keys : List ℕ = keys_line told.heard in
+    All-cons IsHarmlessRow (line told.title) (line level ∷ line keys ∷ []) (line_is_harmless columns told.title)
+    (All-cons IsHarmlessRow (line level) (line keys ∷ []) (line_is_harmless columns level)
+    (All-cons IsHarmlessRow (line keys) [] (line_is_harmless columns keys) (All-nil IsHarmlessRow)))
 
 below_is_harmless : (size : Size) (told : LinesBelow) → AreHarmlessRows (rows_below size told)
 unfolding rows_below
 below_is_harmless size told =
-    let line : List ℕ → List ℕ = λ bytes. cut size.columns (harmless_text bytes) in
+    let lines : List (List ℕ) = line_rows size.columns told in
     let news : List (List ℕ) = news_rows size told.news in
-    All-cons IsHarmlessRow (line told.title) (line told.level ∷ line (keys_line told.heard) ∷ news)
-    (line_is_harmless size.columns told.title)
-    (All-cons IsHarmlessRow (line told.level) (line (keys_line told.heard) ∷ news) (line_is_harmless size.columns told.level)
-    (All-cons IsHarmlessRow (line (keys_line told.heard)) news (line_is_harmless size.columns (keys_line told.heard))
-    (news_are_harmless size told.news)))
+    either AreHarmlessRows (has_lines size) (lines ++ news) (cond (length told.news == 0) [] news)
+    (All-append IsHarmlessRow lines news (lines_are_harmless size.columns told) (news_are_harmless size told.news))
+    (either AreHarmlessRows (length told.news == 0) [] news (All-nil IsHarmlessRow) (news_are_harmless size told.news))
 
 -- a screen of a harmless frame
 screen_is_harmless : (size : Size) (corner : Corner) (frame : List (List ℕ)) (told : LinesBelow) →
@@ -73,6 +88,8 @@ line_keeps_harmless : (view : View) (kind : LineKind) → IsHarmless view → Is
 line_keeps_harmless view Title is = record { frame = is.frame; begun = is.begun; screen = is.screen }
 line_keeps_harmless view Level is = record { frame = no_rows; begun = is.begun; screen = is.screen }
 line_keeps_harmless view Message is = drawn_is_harmless (with_news view (view.line ++ go_on)) is.frame is.begun
+line_keeps_harmless view Note is = record { frame = is.frame; begun = is.begun; screen = is.screen }
+line_keeps_harmless view Question is = drawn_is_harmless (with_news view (text_of view.line)) is.frame is.begun
 line_keeps_harmless view LevelDone is = record { frame = is.frame; begun = is.begun; screen = is.screen }
 line_keeps_harmless view Ending is =
     let last = drawn_is_harmless (with_news view view.line) is.frame is.begun in

@@ -1,15 +1,17 @@
 -- How many rows a screen has.
-use Rattle.std.proofs.Common.{ℕ, ◌+◌, ◌-◌, ◌≤◌, List, [], length}
-use Rattle.std.proofs.Common.{arith}
+use Rattle.std.proofs.Common.{◌≡◌, ◌∙◌, ℕ, ◌+◌, ◌-◌, ◌/◌, ◌≤◌, ◌==◌, Bool, true, false, cond, List, [], ◌∷◌, ◌++◌, length}
+use Rattle.std.proofs.Common.{refl, ap, arith}
+use Rattle.std.specs.Prelude.{nat_le}
 use Rattle.std.proofs.lemmas.Bool.Decides.{nat_tests}
 use Rattle.std.proofs.lemmas.Grind.{common_steps}
-use Rattle.std.proofs.lemmas.List.{length-map}
+use Rattle.std.proofs.lemmas.List.{length-append, length-map}
 use Rattle.ps_view.specs.declared.corners.Corner.{Corner}
 use Rattle.ps_view.specs.declared.sizes.Size.{Size}
 use Rattle.ps_view.specs.HarmlessTexts.{harmless_text}
-use Rattle.ps_view.specs.Rows.{shortened, wrapped}
+use Rattle.ps_view.specs.RowShares.{has_lines, most_news}
+use Rattle.ps_view.specs.Rows.{cut, narrowed, shortened, wrapped}
 use Rattle.ps_view.specs.Corners.{part_from, frame_part}
-use Rattle.ps_view.specs.Screens.{LinesBelow, rows_below, news_rows}
+use Rattle.ps_view.specs.Screens.{LinesBelow, line_rows, rows_below, news_rows}
 use Rattle.ps_view.specs.Bounds.{ScreensFit}
 
 -- rows that are shortened are as few as they may be
@@ -17,24 +19,51 @@ shortened_few : (most : ℕ) (rows : List (List ℕ)) → 2 ≤ most → length 
 shortened_few most rows some = grind (arith, common_steps, nat_tests)
 
 -- a part has room
-pub part_few : {A : Type 0} (room place : ℕ) (mark blank : A) (items : List A) → 2 ≤ room →
+pub part_few : {A : Type 0} (room place : ℕ) (mark blank : A) (items : List A) →
     length (part_from room place mark blank items) ≤ room
-part_few room place mark blank items some = grind (arith, common_steps, nat_tests)
+part_few room place mark blank items = grind (arith, common_steps, nat_tests)
 
-frame_few : (rows columns : ℕ) (corner : Corner) (frame : List (List ℕ)) → 2 ≤ rows →
+frame_few : (rows columns : ℕ) (corner : Corner) (frame : List (List ℕ)) →
     length (frame_part rows columns corner frame) ≤ rows
-frame_few rows columns corner frame some = rw length-map (part_few rows corner.top _ [] frame some)
+frame_few rows columns corner frame = rw length-map (part_few rows corner.top _ [] frame)
 
-below_few : (size : Size) (told : LinesBelow) → length (rows_below size told) + 3 ≤ size.rows
+-- what is told last takes as many rows as it may at most, and it may take some
+some_by : (rows : ℕ) (tall : Bool) → nat_le 8 rows ≡ tall → 1 ≤ rows → 1 ≤ cond tall (rows - 6) (rows - rows / 2)
+some_by rows true is some = let lines : 8 ≤ rows = grind (arith, nat_tests) in omega (arith, lines)
+some_by rows false is some = omega (arith, some)
+
+few_by : (most : ℕ) (row : List ℕ) (rows : List (List ℕ)) (one : Bool) → (most == 1) ≡ one → 1 ≤ most →
+    length (cond one (row ∷ []) (shortened most rows)) ≤ most
+few_by most row rows true is some = omega (arith, some)
+few_by most row rows false is some =
+    let two : 2 ≤ most = grind (arith, nat_tests) in shortened_few most rows two
+
+news_few : (size : Size) (news : List ℕ) → length (news_rows size news) ≤ most_news size
+news_few size news =
+    let text : List ℕ = harmless_text news in
+    few_by (most_news size) (cut size.columns text) (wrapped size.columns (narrowed size.columns text)) _ refl
+    (some_by size.rows _ refl size.tall)
+
+-- so there is a place for all that stands below a frame
+below_by : (rows : ℕ) (tall : Bool) (lines news : List (List ℕ)) (is_empty : Bool) → nat_le 8 rows ≡ tall →
+    length lines ≡ 3 → length news ≤ cond tall (rows - 6) (rows - rows / 2) →
+    length (cond tall (lines ++ news) (cond is_empty [] news)) ≤ rows
+below_by rows true lines news is_empty is three few =
+    let some : 8 ≤ rows = grind (arith, nat_tests) in
+    rw (length-append lines news) (omega (arith, some, three, few))
+below_by rows false lines news true is three few = omega arith
+below_by rows false lines news false is three few = omega (arith, few)
+
+below_few : (size : Size) (told : LinesBelow) → length (rows_below size told) ≤ size.rows
 unfolding rows_below
 below_few size told =
-    let few : length (news_rows size told.news) ≤ size.rows - 6 =
-    shortened_few (size.rows - 6) (wrapped size.columns (harmless_text told.news)) (omega (arith, size.tall)) in
-    omega (arith, few, size.tall)
+    below_by size.rows (has_lines size) (line_rows size.columns told) (news_rows size told.news) (length told.news == 0)
+    refl (omega arith) (news_few size told.news)
 
 pub screens_fit : ScreensFit
 screens_fit size corner frame told =
     let below : List (List ℕ) = rows_below size told in
     let few = below_few size told in
-    let part = frame_few (size.rows - length below) size.columns corner frame (omega (arith, few)) in
-    grind (arith, common_steps)
+    let part = frame_few (size.rows - length below) size.columns corner frame in
+    rw (length-append (frame_part (size.rows - length below) size.columns corner frame) below)
+    (omega (arith, few, part))

@@ -2,7 +2,8 @@
 use Rattle.std.proofs.Common.{◌≡◌, ◌∙◌, ℕ, ◌==◌, Bool, true, false, List, [], ◌∷◌, ◌++◌, refl, sym, ap}
 use Rattle.std.specs.Prelude.{Option, Some, None, IfSome, All, ◌||◌}
 use Rattle.ps_view.specs.declared.line_kinds.LineKind.{LineKind}
-use Rattle.ps_view.specs.declared.line_kinds.LineKind.TheVariants.{Title, Level, Message, LevelDone, Ending, Empty, Row}
+use Rattle.ps_view.specs.declared.line_kinds.LineKind.TheVariants.{Title, Level, Message, Note, Question, LevelDone}
+use Rattle.ps_view.specs.declared.line_kinds.LineKind.TheVariants.{Ending, Empty, Row}
 use Rattle.ps_view.specs.declared.sizes.Size.{Size}
 use Rattle.ps_view.specs.LineKinds.{kind_of}
 use Rattle.ps_view.specs.Views.{View, Step, blank_view, quietly, with_byte, line_told, byte_step, view_behind}
@@ -16,6 +17,8 @@ line_keeps_size : (view : View) (kind : LineKind) → (line_told view kind).view
 line_keeps_size view Title = refl
 line_keeps_size view Level = refl
 line_keeps_size view Message = refl
+line_keeps_size view Note = refl
+line_keeps_size view Question = refl
 line_keeps_size view LevelDone = refl
 line_keeps_size view Ending = refl
 line_keeps_size view Empty = refl

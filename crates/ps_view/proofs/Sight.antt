@@ -3,12 +3,14 @@ use Rattle.std.proofs.Common.{◌≡◌, ◌∙◌, ℕ, suc, ◌+◌, ◌-◌, 
 use Rattle.std.proofs.Common.{Option, Some, None, List, [], ◌∷◌, length, drop, min, get_or, arith, refl, sym, ap, subst}
 use Rattle.std.specs.Prelude.{IfSome, nat_lt}
 use Rattle.std.proofs.lemmas.Bool.Decides.{nat_tests}
+use Rattle.std.proofs.lemmas.Grind.{common_steps}
 use Rattle.std.proofs.lemmas.List.{drop-drop, get_or-drop, length-drop}
 use Rattle.std.proofs.lemmas.List.Quantifiers.{position-Some}
 use Rattle.ps_view.specs.declared.corners.Cell.{Cell}
 use Rattle.ps_view.specs.declared.corners.Corner.{Corner}
 use Rattle.ps_view.specs.Players.{shows_player, player_place, cell_at, first_cell_of, first_player_from, first_player}
-use Rattle.ps_view.specs.Corners.{corner_keeping, corner_showing, kept_in, room_across, row_in}
+use Rattle.ps_view.specs.Corners.{corner_keeping, corner_showing, kept_in, moved, room_across, row_in}
+use Rattle.ps_view.specs.Corners.{shown_in}
 use Rattle.ps_view.specs.Sight.{IsShown, IsInPart, PlayersAreInSight}
 use Rattle.ps_view.proofs.Such.{either}
 
@@ -28,14 +30,28 @@ kept_by size margin start last shown false false b w few starts item =
     let low : start + margin ≤ shown = grind (arith, nat_tests) in
     let high : size - 2 * margin ≤ shown - (start + margin) = grind (arith, nat_tests) in (omega arith, omega arith)
 
-kept_is_shown : (room count place item : ℕ) → 3 ≤ room → item < count →
-    IsShown room count (kept_in room count place item) item
-kept_is_shown room count place item some is more =
-    let size : ℕ = room - 2 in
+kept_is_within : (size count place item : ℕ) → 1 ≤ size → size < count → item < count →
+    let margin : ℕ = size / 4 in
+    let kept : ℕ = min (moved (size - 2 * margin) (min place (count - size) + margin) item - margin) (count - size) in
+    (kept ≤ item) × (item < kept + size)
+kept_is_within size count place item some long is =
     let margin : ℕ = size / 4 in
     let start : ℕ = min place (count - size) in
     kept_by size margin start (count - size) item _ _ refl refl (omega (arith, some)) (omega arith)
-    (omega (arith, is, more, some))
+    (omega (arith, is, long))
+
+shown_few : (room : ℕ) → shown_in room ≤ room
+shown_few room = grind (arith, common_steps, nat_tests)
+
+shown_some : (room : ℕ) → 1 ≤ room → 1 ≤ shown_in room
+shown_some room some = grind (arith, common_steps, nat_tests)
+
+kept_is_shown : (room count place item : ℕ) → 1 ≤ room → item < count →
+    IsShown room count (kept_in room count place item) item
+kept_is_shown room count place item some is more =
+    let few = shown_few room in
+    let any = shown_some room some in
+    kept_is_within (shown_in room) count place item any (omega (arith, few, more)) is
 
 -- the cell that is followed is one of the frame -----------------------------------------------------------------------
 
@@ -97,8 +113,8 @@ first_is_cell players frame first is = rw (← is) (first_from_is_cell players f
 
 -- the law -------------------------------------------------------------------------------------------------------------
 
-keeping_shows : (rows columns : ℕ) (before : Corner) (frame : List (List ℕ)) (cell : Cell) → 3 ≤ rows →
-    3 ≤ room_across columns frame → IsCell frame cell →
+keeping_shows : (rows columns : ℕ) (before : Corner) (frame : List (List ℕ)) (cell : Cell) → 1 ≤ rows →
+    1 ≤ room_across columns frame → IsCell frame cell →
     IsInPart rows columns (corner_keeping rows columns before frame cell) frame cell
 keeping_shows rows columns before frame cell tall wide is = record {
   is_row = is.is_row;

@@ -19,13 +19,15 @@ either P false x y p q = q
 -- a part of a list whose elements and edges are all such
 pub part_is_such : {X : Type 0} (P : X → Type 0) (room place : ℕ) (mark blank : X) (items : List X) → P mark → P blank →
     All P items → All P (part_from room place mark blank items)
-part_is_such P room place mark blank items m b all =
+part_is_such {X = X} P room place mark blank items m b all =
     let before : Bool = nat_lt 0 place in
     let behind : Bool = nat_lt (place + (room - 2)) (length items) in
-    let shown = take (room - 2) (drop place items) in
-    either (All P) (nat_le (length items) room) items
-    ((edge mark blank before ∷ shown) ++ edge mark blank behind ∷ []) all
+    let rest : List X = drop place items in
+    let shown : List X = take (room - 2) rest in
+    let between : List X = (edge mark blank before ∷ shown) ++ edge mark blank behind ∷ [] in
+    let such : All P rest = All-drop P place items all in
+    either (All P) (nat_le (length items) room) items (cond (nat_lt room 3) (take room rest) between) all
+    (either (All P) (nat_lt room 3) (take room rest) between (All-take P room rest such)
     (All-append P (edge mark blank before ∷ shown) (edge mark blank behind ∷ [])
-    (All-cons P (edge mark blank before) shown (either P before mark blank m b)
-    (All-take P (room - 2) (drop place items) (All-drop P place items all)))
-    (All-cons P (edge mark blank behind) [] (either P behind mark blank m b) (All-nil P)))
+    (All-cons P (edge mark blank before) shown (either P before mark blank m b) (All-take P (room - 2) rest such))
+    (All-cons P (edge mark blank behind) [] (either P behind mark blank m b) (All-nil P))))

@@ -2,14 +2,16 @@
 use Rattle.std.proofs.Common.{◌≡◌, ℕ, true, false, [], ◌∷◌, ◌++◌, Some, None, refl}
 use Rattle.std.specs.Prelude.{codes, encode_utf8}
 use Rattle.std.specs.List.{flat_map}
-use Rattle.ps_view.specs.declared.line_kinds.LineKind.TheVariants.{Title, Level, Message, LevelDone, Ending, Empty, Row}
+use Rattle.ps_view.specs.declared.line_kinds.LineKind.TheVariants.{Title, Level, Message, Note, Question, LevelDone}
+use Rattle.ps_view.specs.declared.line_kinds.LineKind.TheVariants.{Ending, Empty, Row}
 use Rattle.ps_view.specs.HarmlessTexts.{harmless}
 use Rattle.ps_view.specs.LineKinds.{kind_of}
 use Rattle.ps_view.specs.Orders.{drawn_row}
 use Rattle.ps_view.specs.Rows.{fitting, cut, wrapped, shortened}
 use Rattle.ps_view.specs.Players.{first_player}
 use Rattle.ps_view.specs.Corners.{corner_following, first_changed, frame_part, kept_in, moved, part_from}
-use Rattle.ps_view.specs.Screens.{changes, keys_line}
+use Rattle.ps_view.specs.Screens.{changes, keys_line, level_line}
+use Rattle.ps_view.specs.Views.{text_of}
 use Rattle.unicode_width.proofs.Computing.{unicode_width}
 
 -- lines ---------------------------------------------------------------------------------------------------------------
@@ -17,11 +19,17 @@ use Rattle.unicode_width.proofs.Computing.{unicode_width}
 title_line : kind_of (codes "= The Cellar") ≡ Title
 title_line = refl
 
-level_line : kind_of (codes "# level 2") ≡ Level
-level_line = refl
+level_opens : kind_of (codes "# level 2") ≡ Level
+level_opens = refl
 
 message_line : kind_of (codes "! ") ≡ Message
 message_line = refl
+
+note_line : kind_of (codes "~ of 7") ≡ Note
+note_line = refl
+
+question_line : kind_of (codes "? ") ≡ Question
+question_line = refl
 
 done_line : kind_of (codes "* level 1 done") ≡ LevelDone
 done_line = refl
@@ -35,6 +43,9 @@ empty_line = refl
 -- rows of a frame may begin as other lines do
 row_of_walls : kind_of (codes "#.=!*") ≡ Row
 row_of_walls = refl
+
+row_of_questions : kind_of (codes "?~ ") ≡ Row
+row_of_questions = refl
 
 row_of_one_mark : kind_of (codes "*") ≡ Row
 row_of_one_mark = refl
@@ -182,6 +193,14 @@ part_of_frame : frame_part 4 5 (corner_following (codes "P") 4 5 (record { top =
     (codes "......" ∷ codes "...o.." ∷ []) ≡ codes "…...…" ∷ codes "…..o…" ∷ []
 unfolding unicode_width
 part_of_frame = refl
+
+-- levels --------------------------------------------------------------------------------------------------------------
+
+level_with_note : level_line (codes "# level 3") (text_of (codes "~ of 7, 12 moves")) ≡ codes "# level 3  of 7, 12 moves"
+level_with_note = refl
+
+level_without_note : level_line (codes "# level 3") (text_of (codes "~ ")) ≡ codes "# level 3"
+level_without_note = refl
 
 -- keys ----------------------------------------------------------------------------------------------------------------
 

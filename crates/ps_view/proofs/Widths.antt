@@ -3,32 +3,25 @@ use Rattle.std.proofs.Common.{◌≡◌, ℕ, zero, suc, min, ◌+◌, ◌-◌, 
 use Rattle.std.proofs.Common.{None}
 use Rattle.std.proofs.Common.{List, [], ◌∷◌, ◌++◌, length, take, drop, fold, max, refl, subst, arith, ◌==◌, get_or}
 use Rattle.std.specs.Prelude.{All, nat_le, unwrap_or}
-use Rattle.std.proofs.Math.Nat.{div-mul-le_self, le-div_iff_mul-le, mul-le-mul_right}
+use Rattle.std.proofs.Math.Nat.{div-mul-le_self, mul-le-mul_right}
 use Rattle.std.proofs.lemmas.Bool.Decides.{nat_tests}
 use Rattle.std.proofs.lemmas.List.{take_all}
 use Rattle.std.proofs.lemmas.List.Elements.{All-nil, All-cons, All-append, All-take, All-drop, All-map}
 use Rattle.unicode_width.proofs.Computing.{unicode_width}
-use Rattle.unicode_width.proofs.Rules.{width_or_zero-le}
 use Rattle.unicode_width.specs.Width.{char_width}
 use Rattle.ps_view.specs.declared.corners.Corner.{Corner}
 use Rattle.ps_view.specs.HarmlessTexts.{columns_of, harmless_text}
-use Rattle.ps_view.specs.Rows.{more_mark, fitting, cut, break_of, row_before_break, rows_of_words, wrapped}
+use Rattle.ps_view.specs.Rows.{more_mark, fitting, cut, narrowed, break_of, row_before_break, rows_of_words, wrapped}
 use Rattle.ps_view.specs.Rows.{shortened}
 use Rattle.ps_view.specs.Corners.{part_from, frame_part, room_across, widest, cell_width}
-use Rattle.ps_view.specs.Screens.{keys_line, news_rows, rows_below}
+use Rattle.ps_view.specs.Screens.{LinesBelow, level_line, keys_line, line_rows, news_rows, rows_below}
+use Rattle.ps_view.specs.RowShares.{has_lines, most_news}
+use Rattle.ps_view.specs.declared.sizes.Size.{Size}
 use Rattle.ps_view.specs.Bounds.{covered, RowsFit}
 use Rattle.ps_view.proofs.Such.{first_of, others_of, either, part_is_such}
 use Rattle.ps_view.proofs.Heights.{part_few}
 
 -- characters ----------------------------------------------------------------------------------------------------------
-
--- none covers more than three columns
-of_option : (width : Option ℕ) → unwrap_or width 0 ≤ 3 → unwrap_or width 1 ≤ 3
-of_option None h = omega arith
-of_option (Some width) h = h
-
-pub three_at_most : (c : ℕ) → columns_of c ≤ 3
-three_at_most c = of_option (char_width false c) (width_or_zero-le false c)
 
 -- the mark and a blank cover one
 mark_covers : columns_of more_mark ≡ 1
@@ -140,11 +133,6 @@ widest_all least (c ∷ row) =
     let more = widest_least next row in
     All-cons (λ (c : ℕ). columns_of c ≤ widest next row) c row (omega (arith, more)) (widest_all next row)
 
-widest_few : (least : ℕ) (row : List ℕ) → least ≤ 3 → widest least row ≤ 3
-widest_few least [] few = few
-widest_few least (c ∷ row) few =
-    let one = three_at_most c in widest_few (max least (columns_of c)) row (omega (arith, one, few))
-
 width_least : (least : ℕ) (frame : List (List ℕ)) → least ≤ fold widest least frame
 width_least least [] = omega arith
 width_least least (row ∷ frame) =
@@ -162,10 +150,6 @@ width_all least (row ∷ frame) =
     All-cons (λ (row : List ℕ). All (λ c. columns_of c ≤ most) row) row frame
     (λ k d within. let this = one k d within in omega (arith, this, more)) (width_all next frame)
 
-width_few : (least : ℕ) (frame : List (List ℕ)) → least ≤ 3 → fold widest least frame ≤ 3
-width_few least [] few = few
-width_few least (row ∷ frame) few = width_few (widest least row) frame (widest_few least row few)
-
 -- a row of characters that are no wider than that
 covered_few : (width : ℕ) (row : List ℕ) → All (λ c. columns_of c ≤ width) row → covered row ≤ length row * width
 covered_few width [] all = omega arith
@@ -176,29 +160,26 @@ covered_few width (c ∷ row) all =
     omega (arith, one, rest, n)
 
 -- a part of a row
-row_part_fits : (columns width left : ℕ) (row : List ℕ) → 1 ≤ width → width * 2 ≤ columns →
+row_part_fits : (columns width left : ℕ) (row : List ℕ) → 1 ≤ width →
     All (λ c. columns_of c ≤ width) row → covered (part_from (columns / width) left more_mark 32 row) ≤ columns
-row_part_fits columns width left row some room all =
+row_part_fits columns width left row some all =
     let shown : List ℕ = part_from (columns / width) left more_mark 32 row in
     let mark = mark_covers in
     let blank = blank_covers in
-    let two : 2 ≤ columns / width =
-    (le-div_iff_mul-le {k = width} {x = 2} {y = columns} some).1 (omega (arith, room)) in
     let narrow : All (λ c. columns_of c ≤ width) shown =
     part_is_such (λ (c : ℕ). columns_of c ≤ width) (columns / width) left more_mark 32 row (omega (arith, mark, some))
     (omega (arith, blank, some)) all in
     let few = covered_few width shown narrow in
-    let short : length shown ≤ columns / width = part_few (columns / width) left more_mark 32 row two in
+    let short : length shown ≤ columns / width = part_few (columns / width) left more_mark 32 row in
     let product : length shown * width ≤ columns / width * width = mul-le-mul_right width short in
     let whole = div-mul-le_self columns width in
     omega (arith, few, product, whole)
 
-frame_fits : (rows columns : ℕ) (corner : Corner) (frame : List (List ℕ)) → 6 ≤ columns →
+frame_fits : (rows columns : ℕ) (corner : Corner) (frame : List (List ℕ)) →
     All (λ row. covered row ≤ columns) (frame_part rows columns corner frame)
-frame_fits rows columns corner frame some =
+frame_fits rows columns corner frame =
     let width : ℕ = cell_width frame in
     let one : 1 ≤ width = width_least 1 frame in
-    let few : width ≤ 3 = width_few 1 frame (omega arith) in
     let mark = mark_covers in
     let narrow : List ℕ → Type 0 = λ row. All (λ c. columns_of c ≤ width) row in
     let part : List (List ℕ) = part_from rows corner.top (more_mark ∷ []) [] frame in
@@ -209,27 +190,45 @@ frame_fits rows columns corner frame some =
     (width_all 1 frame) in
     All-map (λ (row : List ℕ). covered row ≤ columns)
     (part_from (room_across columns frame) corner.left more_mark 32) part
-    (λ k d within. row_part_fits columns width corner.left (get_or part k d) one (omega (arith, few, some))
+    (λ k d within. row_part_fits columns width corner.left (get_or part k d) one
     (all k d within))
 
 -- screens -------------------------------------------------------------------------------------------------------------
 
-pub rows_fit : RowsFit
+-- what is told last
+news_fit : (size : Size) (news : List ℕ) → All (λ row. covered row ≤ size.columns) (news_rows size news)
+news_fit size news =
+    let within : List ℕ → Type 0 = λ row. covered row ≤ size.columns in
+    let text : List ℕ = harmless_text news in
+    let rows : List (List ℕ) = wrapped size.columns (narrowed size.columns text) in
+    either (All within) (most_news size == 1) (cut size.columns text ∷ []) (shortened (most_news size) rows)
+    (All-cons within (cut size.columns text) [] (cut_fits size.columns text size.wide) (All-nil within))
+    (shortened_fit size.columns (most_news size) rows size.wide (wrapped_fits size.columns (narrowed size.columns text)))
+
+lines_fit : (columns : ℕ) (told : LinesBelow) → 1 ≤ columns → All (λ row. covered row ≤ columns) (line_rows columns told)
+lines_fit columns told some =
+    let within : List ℕ → Type 0 = λ row. covered row ≤ columns in
+    let line : List ℕ → List ℕ = λ bytes. cut columns (harmless_text bytes) in
+    let level : List ℕ = level_line told.level told.note in
+    let keys : List ℕ = keys_line told.heard in
+    All-cons within (line told.title) (line level ∷ line keys ∷ []) (cut_fits columns (harmless_text told.title) some)
+    (All-cons within (line level) (line keys ∷ []) (cut_fits columns (harmless_text level) some)
+    (All-cons within (line keys) [] (cut_fits columns (harmless_text keys) some) (All-nil within)))
+
+below_fits : (size : Size) (told : LinesBelow) → All (λ row. covered row ≤ size.columns) (rows_below size told)
 unfolding rows_below
+below_fits size told =
+    let within : List ℕ → Type 0 = λ row. covered row ≤ size.columns in
+    let lines : List (List ℕ) = line_rows size.columns told in
+    let news : List (List ℕ) = news_rows size told.news in
+    either (All within) (has_lines size) (lines ++ news) (cond (length told.news == 0) [] news)
+    (All-append within lines news (lines_fit size.columns told size.wide) (news_fit size told.news))
+    (either (All within) (length told.news == 0) [] news (All-nil within) (news_fit size told.news))
+
+pub rows_fit : RowsFit
 rows_fit size corner frame told =
     let columns : ℕ = size.columns in
-    let wide = size.wide in
     let within : List ℕ → Type 0 = λ row. covered row ≤ columns in
-    let some : 1 ≤ columns = omega (arith, wide) in
-    let line : List ℕ → List ℕ = λ bytes. cut columns (harmless_text bytes) in
-    let news : List (List ℕ) = news_rows size told.news in
     let below : List (List ℕ) = rows_below size told in
-    let last : All within news = shortened_fit columns (size.rows - 6) (wrapped columns (harmless_text told.news)) some
-    (wrapped_fits columns (harmless_text told.news)) in
-    let lines : All within below =
-    All-cons within (line told.title) (line told.level ∷ line (keys_line told.heard) ∷ news)
-    (cut_fits columns (harmless_text told.title) some)
-    (All-cons within (line told.level) (line (keys_line told.heard) ∷ news) (cut_fits columns (harmless_text told.level) some)
-    (All-cons within (line (keys_line told.heard)) news (cut_fits columns (harmless_text (keys_line told.heard)) some) last)) in
     All-append within (frame_part (size.rows - length below) columns corner frame) below
-    (frame_fits (size.rows - length below) columns corner frame (omega (arith, wide))) lines
+    (frame_fits (size.rows - length below) columns corner frame) (below_fits size told)

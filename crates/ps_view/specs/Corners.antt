@@ -17,12 +17,18 @@ use Rattle.ps_view.specs.Rows.{more_mark}
 abbrev pub edge : {A : Type 0} → A → A → Bool → A
 edge mark blank more = if more then mark else blank
 
--- what so much room shows of a list: all; or where there isn't room for all, those from a place on, between two edges
+-- how many items so much room shows of a list that is longer: two are edges, where there is room for more than two
+abbrev pub shown_in : ℕ → ℕ
+shown_in room = if nat_lt room 3 then room else room - 2
+
+-- what so much room shows of a list: all; or where there isn't room for all, those from a place on, between two edges if
+-- there is room for them
 abbrev pub part_from : {A : Type 0} → ℕ → ℕ → A → A → List A → List A
 part_from room place mark blank items =
     if nat_le (length items) room then items
+    else (if nat_lt room 3 then take room (drop place items)
     else (edge mark blank (nat_lt 0 place) ∷ take (room - 2) (drop place items))
-    ++ edge mark blank (nat_lt (place + (room - 2)) (length items)) ∷ []
+    ++ edge mark blank (nat_lt (place + (room - 2)) (length items)) ∷ [])
 
 -- how many columns the widest character of a row covers, so many at least
 abbrev pub widest : ℕ → List ℕ → ℕ
@@ -59,15 +65,15 @@ abbrev pub moved : ℕ → ℕ → ℕ → ℕ
 moved size place shown =
     if nat_lt shown place then shown else (if nat_lt (shown - place) size then place else shown - (size - 1))
 
--- the same for a list of so many items in so much room, of which two are edges
+-- the same for a list of so many items in so much room
 abbrev pub moved_in : ℕ → ℕ → ℕ → ℕ → ℕ
-moved_in room count place shown = let size : ℕ = room - 2 in moved size (min place (count - size)) shown
+moved_in room count place shown = let size : ℕ = shown_in room in moved size (min place (count - size)) shown
 
 -- the same where the part keeps that item away from its edges by a quarter of what it shows, or as near to that as the
 -- list's own ends allow
 abbrev pub kept_in : ℕ → ℕ → ℕ → ℕ → ℕ
 kept_in room count place shown =
-    let size : ℕ = room - 2 in
+    let size : ℕ = shown_in room in
     let margin : ℕ = size / 4 in
     min (moved (size - 2 * margin) (min place (count - size) + margin) shown - margin) (count - size)
 

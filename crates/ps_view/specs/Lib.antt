@@ -6,6 +6,7 @@ pub mod Corners
 pub mod Games
 pub mod ToldGames
 pub mod LineKinds
+pub mod RowShares
 pub mod Screens
 pub mod ToldLines
 pub mod Views

@@ -1,7 +1,7 @@
 -- Texts in the rows of a terminal: one that is cut where it doesn't fit into a row, and one that goes on in the next,
 -- broken between words.
 use Rattle.std.specs.Prelude.{ℕ, zero, suc, ◌+◌, ◌-◌, ◌==◌, nat_lt, nat_le, min, true, false, if◌then◌else◌, List, [], ◌∷◌}
-use Rattle.std.specs.Prelude.{◌++◌, length, take, drop}
+use Rattle.std.specs.Prelude.{◌++◌, length, take, drop, map}
 use Rattle.ps_view.specs.HarmlessTexts.{columns_of}
 
 -- the mark that says that there is more: three dots, in one column
@@ -21,6 +21,10 @@ abbrev pub cut : ℕ → List ℕ → List ℕ
 cut columns text =
     if fitting columns text == length text then text
     else take (fitting (columns - 1) text) text ++ more_mark ∷ []
+
+-- the characters of a text, with a mark for each that is wider than so many columns
+abbrev pub narrowed : ℕ → List ℕ → List ℕ
+narrowed columns text = map (λ character. if nat_le (columns_of character) columns then character else more_mark) text
 
 -- how many characters come before the last blank, and that blank; none where there is no blank
 abbrev pub through_last_blank : List ℕ → ℕ

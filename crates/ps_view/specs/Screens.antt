@@ -1,6 +1,6 @@
 -- What the rows of a terminal show: the last frame at the top, and below it a line each for the title, the level and
--- the keys, and what is told last.
-use Rattle.std.specs.Prelude.{ℕ, suc, ◌-◌, Bool, max, if◌then◌else◌, List, [], ◌∷◌, ◌++◌, length, codes}
+-- the keys, if there is room for them, and what is told last.
+use Rattle.std.specs.Prelude.{ℕ, suc, ◌-◌, ◌==◌, Bool, max, if◌then◌else◌, List, [], ◌∷◌, ◌++◌, length, codes}
 use Rattle.std.specs.Prelude.{encode_utf8}
 use Rattle.std.specs.List.{flat_map, range_with_len}
 use Rattle.std.specs.Str.{bytes_eq}
@@ -8,17 +8,23 @@ use Rattle.ps_view.specs.declared.corners.Corner.{Corner}
 use Rattle.ps_view.specs.declared.heard_keys.HeardKeys.{HeardKeys}
 use Rattle.ps_view.specs.declared.sizes.Size.{Size}
 use Rattle.ps_view.specs.HarmlessTexts.{harmless_text}
-use Rattle.ps_view.specs.Rows.{cut, wrapped, shortened}
+use Rattle.ps_view.specs.RowShares.{has_lines, most_news}
+use Rattle.ps_view.specs.Rows.{cut, narrowed, wrapped, shortened}
 use Rattle.ps_view.specs.Corners.{frame_part, row_in}
 use Rattle.ps_view.specs.Orders.{drawn_row}
 
--- what is told beside the board: the line of the title, that of the level, the keys that the game heeds, and the last of
--- all other lines. Each line is empty until it comes
+-- what is told beside the board: the line of the title, that of the level, a note on the level, the keys that the game
+-- heeds, and the last of all other lines. Each is empty until it comes
 pub record LinesBelow : Type 0 where
   pub title : List ℕ
   pub level : List ℕ
+  pub note : List ℕ
   pub heard : HeardKeys
   pub news : List ℕ
+
+-- the line of the level, and two blanks after it the note, if there is one
+abbrev pub level_line : List ℕ → List ℕ → List ℕ
+level_line level note = if length note == 0 then level else (level ++ codes "  ") ++ note
 
 -- what a key does, where the game heeds it
 abbrev pub told_key : Bool → List ℕ → List ℕ
@@ -30,15 +36,24 @@ keys_line heard =
     (((codes "w a s d move" ++ told_key heard.acts (codes ", x act")) ++ told_key heard.undoes (codes ", z undo"))
     ++ told_key heard.restarts (codes ", r restart")) ++ codes ", q quit"
 
--- the rows of what is told last: it may take all but the three lines above it, and three rows of a frame
-abbrev pub news_rows : Size → List ℕ → List (List ℕ)
-news_rows size news = shortened (size.rows - 6) (wrapped size.columns (harmless_text news))
+-- the rows of the lines of the title, the level and the keys
+abbrev pub line_rows : ℕ → LinesBelow → List (List ℕ)
+line_rows columns told =
+    cut columns (harmless_text told.title) ∷ cut columns (harmless_text (level_line told.level told.note))
+    ∷ cut columns (harmless_text (keys_line told.heard)) ∷ []
 
--- the rows below a frame
+-- the rows of what is told last: it goes on in the next row, if it may take more than one
+abbrev pub news_rows : Size → List ℕ → List (List ℕ)
+news_rows size news = let text : List ℕ = harmless_text news in
+    if most_news size == 1 then cut size.columns text ∷ []
+    else shortened (most_news size) (wrapped size.columns (narrowed size.columns text))
+
+-- the rows below a frame: the lines, and what is told last; where there is no room for the lines, that alone, if there is
+-- any
 unfoldable pub rows_below : Size → LinesBelow → List (List ℕ)
 rows_below size told =
-    cut size.columns (harmless_text told.title) ∷ cut size.columns (harmless_text told.level)
-    ∷ cut size.columns (harmless_text (keys_line told.heard)) ∷ news_rows size told.news
+    if has_lines size then line_rows size.columns told ++ news_rows size told.news
+    else (if length told.news == 0 then [] else news_rows size told.news)
 
 -- the rows of a terminal from the top, as far as they show something
 abbrev pub screen_of : Size → Corner → List (List ℕ) → LinesBelow → List (List ℕ)

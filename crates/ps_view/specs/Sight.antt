@@ -3,11 +3,11 @@ use Rattle.std.specs.Prelude.{◌≡◌, ℕ, ◌+◌, ◌-◌, ◌<◌, ◌≤�
 use Rattle.ps_view.specs.declared.corners.Cell.{Cell}
 use Rattle.ps_view.specs.declared.corners.Corner.{Corner}
 use Rattle.ps_view.specs.Players.{first_player}
-use Rattle.ps_view.specs.Corners.{corner_following, room_across, row_in}
+use Rattle.ps_view.specs.Corners.{corner_following, room_across, row_in, shown_in}
 
--- where so much room shows a part of a list of so many items, from a place on and between two edges, an item is in it
+-- where so much room shows a part of a list of so many items, from a place on, an item is in it
 abbrev pub IsShown : ℕ → ℕ → ℕ → ℕ → Type 0
-IsShown room count place item = room < count → (place ≤ item) × (item < place + (room - 2))
+IsShown room count place item = room < count → (place ≤ item) × (item < place + shown_in room)
 
 -- a cell of a frame is in the part at a corner, of so many rows of so many columns
 pub record IsInPart (rows columns : ℕ) (corner : Corner) (frame : List (List ℕ)) (cell : Cell) : Type 0 where
@@ -17,8 +17,8 @@ pub record IsInPart (rows columns : ℕ) (corner : Corner) (frame : List (List �
   pub column_shown : IsShown (room_across columns frame) (length (row_in frame cell.row)) corner.left cell.column
 
 -- so it is with the cell that is followed, in whatever frame, wherever the part was before, and whatever the size, as
--- long as there is room for a row and a column between the edges
+-- long as there is room for a row and a column
 abbrev pub PlayersAreInSight : Type 0
 PlayersAreInSight = (players : List ℕ) (rows columns : ℕ) (before : Corner) (frame : List (List ℕ))
-    (changed cell : Cell) → 3 ≤ rows → 3 ≤ room_across columns frame → first_player players frame ≡ Some cell →
+    (changed cell : Cell) → 1 ≤ rows → 1 ≤ room_across columns frame → first_player players frame ≡ Some cell →
     IsInPart rows columns (corner_following players rows columns before frame changed) frame cell

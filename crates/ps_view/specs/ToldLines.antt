@@ -4,4 +4,10 @@ use Rattle.ps_view.specs.declared.screens.ToldLines.{ToldLines}
 
 -- the lines
 abbrev pub told_of : ToldLines → LinesBelow
-told_of lines = record { title = lines.title; level = lines.level; heard = lines.heard; news = lines.news }
+told_of lines = record {
+  title = lines.title;
+  level = lines.level;
+  note = lines.note;
+  heard = lines.heard;
+  news = lines.news;
+}

@@ -1,19 +1,21 @@
 -- The view of a run: what a terminal of some size is handed for the bytes of the run's output. Bytes are gathered until
--- a line feed ends their line; then the line is told. A whole frame, a message and the ending are drawn at once, by the
--- rows that they change; the title and the level with what comes next. Where the terminal has another size, all is
+-- a line feed ends their line; then the line is told. A whole frame, a message, a question and the ending are drawn at
+-- once, by the rows that they change; the title, the level and a note with what comes next. Where the terminal has another size, all is
 -- drawn anew.
 use Rattle.std.specs.Prelude.{ℕ, ◌-◌, ◌==◌, Bool, true, false, ◌&&◌, ◌||◌, Option, Some, None, List, [], ◌∷◌, ◌++◌}
-use Rattle.std.specs.Prelude.{length, codes}
+use Rattle.std.specs.Prelude.{length, drop, codes}
 use Rattle.ps_view.specs.declared.corners.Cell.{Cell}
 use Rattle.ps_view.specs.declared.corners.Corner.{Corner}
 use Rattle.ps_view.specs.declared.sizes.Size.{Size}
 use Rattle.ps_view.specs.declared.line_kinds.LineKind.{LineKind}
-use Rattle.ps_view.specs.declared.line_kinds.LineKind.TheVariants.{Title, Level, Message, LevelDone, Ending, Empty, Row}
+use Rattle.ps_view.specs.declared.line_kinds.LineKind.TheVariants.{Title, Level, Message, Note, Question, LevelDone}
+use Rattle.ps_view.specs.declared.line_kinds.LineKind.TheVariants.{Ending, Empty, Row}
 use Rattle.ps_view.specs.HarmlessTexts.{harmless_text}
 use Rattle.ps_view.specs.LineKinds.{kind_of}
 use Rattle.ps_view.specs.Orders.{opening_orders, at_row, closing_orders}
 use Rattle.ps_view.specs.Corners.{corner_following, first_changed, changed_behind}
 use Rattle.ps_view.specs.Games.{KnownGame}
+use Rattle.ps_view.specs.RowShares.{frame_rows}
 use Rattle.ps_view.specs.Screens.{LinesBelow, screen_of, changes}
 
 -- a view: what it knows of the game; the size of the terminal; what is told beside the board; the rows of the last whole frame, as characters,
@@ -51,7 +53,7 @@ abbrev pub blank_view : KnownGame → Size → View
 blank_view game size = record {
   game = game;
   size = size;
-  told = record { title = []; level = []; heard = game.heard; news = [] };
+  told = record { title = []; level = []; note = []; heard = game.heard; news = [] };
   frame = [];
   corner = first_corner;
   changed = first_cell;
@@ -103,12 +105,16 @@ with_title view title = record view {
 -- the view with another level, of which no frame has come yet
 abbrev pub with_level : View → List ℕ → View
 with_level view level = record view {
-  told = let told : LinesBelow = view.told in record told { level = level; news = [] };
+  told = let told : LinesBelow = view.told in record told { level = level; note = []; news = [] };
   frame = [];
   corner = first_corner;
   changed = first_cell;
   line = [];
 }
+
+-- the view with another note
+abbrev pub with_note : View → List ℕ → View
+with_note view note = record view { told = let told : LinesBelow = view.told in record told { note = note }; line = [] }
 
 -- the view with other news
 abbrev pub with_news : View → List ℕ → View
@@ -117,10 +123,10 @@ with_news view news = record view {
   line = [];
 }
 
--- the corner of a frame of the view: there is room for it above four lines
+-- the corner of a frame of the view, where nothing is told last
 abbrev pub corner_in : View → Size → List (List ℕ) → Cell → Corner
 corner_in view size frame changed =
-    corner_following view.game.players (size.rows - 4) size.columns view.corner frame changed
+    corner_following view.game.players (frame_rows size) size.columns view.corner frame changed
 
 -- the cell that changed last, once the frame that has begun is shown
 abbrev pub changed_then : View → Cell
@@ -141,6 +147,10 @@ with_frame view = record view {
 abbrev pub with_row : View → List ℕ → View
 with_row view row = record view { begun = view.begun ++ harmless_text row ∷ []; line = [] }
 
+-- the text of a line, without the mark that says what it is
+abbrev pub text_of : List ℕ → List ℕ
+text_of line = drop 2 line
+
 -- the view on the way to the next line
 abbrev pub with_next_line : View → View
 with_next_line view = record view { line = [] }
@@ -149,13 +159,15 @@ with_next_line view = record view { line = [] }
 abbrev pub go_on : List ℕ
 go_on = codes " [x]"
 
--- a line that has ended, by what it is. A row of a frame waits for the empty line that ends the frame, the title and
--- the level for what is drawn next. That a level is done isn't shown: what comes next is told in the same text. What
--- is drawn behind a message takes its place
+-- a line that has ended, by what it is. A row of a frame waits for the empty line that ends the frame; the title, the
+-- level and a note wait for what is drawn next. That a level is done isn't shown: what comes next is told in the same
+-- text. What is drawn after a message or a question takes its place
 abbrev pub line_told : View → LineKind → Step
 line_told view Title = quietly (with_title view view.line)
 line_told view Level = quietly (with_level view view.line)
 line_told view Message = drawn (with_news view (view.line ++ go_on))
+line_told view Note = quietly (with_note view (text_of view.line))
+line_told view Question = drawn (with_news view (text_of view.line))
 line_told view LevelDone = quietly (with_next_line view)
 line_told view Ending = left (drawn (with_news view view.line))
 line_told view Empty = drawn (with_frame view)

@@ -2,7 +2,7 @@
 
 ghost use Rattle.std.specs.Prelude.{◌≡◌};
 ghost use Rattle.ps_view.specs.Corners.{changed_behind, corner_following, corner_keeping, corner_showing};
-ghost use Rattle.ps_view.specs.Corners.{first_changed, kept_in, moved, moved_in};
+ghost use Rattle.ps_view.specs.Corners.{first_changed, kept_in, moved, moved_in, shown_in};
 
 use crate::cells::{alike_characters, alike_rows, room_across, row_in};
 use crate::players::first_player;
@@ -22,6 +22,19 @@ pub struct Cell {
     pub column: usize,
 }
 
+/// From which room on a part of a list has two edges.
+pub const ROOM_WITH_EDGES: usize = 3;
+
+/// How many items so much room shows of a list that is longer: two are edges, where there is room for more than two.
+pub fn shown_in(room: usize) -> usize
+    ensures { result ≡ shown_in room }
+{
+    if room < ROOM_WITH_EDGES {
+        return room;
+    }
+    room - 2
+}
+
 /// Where a part that begins at a place, of so many items, begins then, so that it shows the item at another place: as
 /// near as may be.
 fn moved(size: usize, place: usize, shown: usize) -> usize
@@ -36,11 +49,11 @@ fn moved(size: usize, place: usize, shown: usize) -> usize
     shown.saturating_sub(size.saturating_sub(1))
 }
 
-/// The same for a list of so many items in so much room, of which two are edges.
+/// The same for a list of so many items in so much room.
 fn moved_in(room: usize, count: usize, place: usize, shown: usize) -> usize
     ensures { result ≡ moved_in room count place shown }
 {
-    let size = room.saturating_sub(2);
+    let size = shown_in(room);
     moved(size, place.min(count.saturating_sub(size)), shown)
 }
 
@@ -49,7 +62,7 @@ fn moved_in(room: usize, count: usize, place: usize, shown: usize) -> usize
 fn kept_in(room: usize, count: usize, place: usize, shown: usize) -> usize
     ensures { result ≡ kept_in room count place shown }
 {
-    let size = room.saturating_sub(2);
+    let size = shown_in(room);
     let margin = size / 4;
     let last = count.saturating_sub(size);
     let first_kept = moved(size - 2 * margin, place.min(last) + margin, shown);

@@ -17,6 +17,7 @@ mod line_kinds;
 mod lines;
 mod parts;
 mod players;
+mod row_shares;
 mod rows;
 mod screens;
 mod sizes;

@@ -1,9 +1,9 @@
-//! The lines of a run's output, told apart.
+//! The lines of a run's output, and those that may be put between them, told apart.
 
 ghost use Rattle.std.specs.Prelude.{◌≡◌};
 ghost use Rattle.ps_view.specs.LineKinds.{kind_of};
 
-/// What a line of a run's output is.
+/// What a line of a run's output is, or of what may be put between its lines.
 #[derive(Clone, Copy, PartialEq, Eq, Debug)]
 pub enum LineKind {
     /// The title: `= ` and a text.
@@ -12,6 +12,10 @@ pub enum LineKind {
     Level,
     /// A message: `! ` and a text.
     Message,
+    /// A note on the level: `~ ` and a text. No run writes one.
+    Note,
+    /// A question: `? ` and a text. No run writes one.
+    Question,
     /// The line that closes a level: `* level `, its number and ` done`.
     LevelDone,
     /// The ending: `* ` and how the run ended.
@@ -37,6 +41,12 @@ pub fn kind_of(line: &[u8]) -> LineKind
     }
     if line.starts_with(b"! ") {
         return LineKind::Message;
+    }
+    if line.starts_with(b"~ ") {
+        return LineKind::Note;
+    }
+    if line.starts_with(b"? ") {
+        return LineKind::Question;
     }
     if line.starts_with(b"* level ") {
         return LineKind::LevelDone;

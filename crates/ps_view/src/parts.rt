@@ -1,11 +1,11 @@
 //! What a terminal shows of a frame.
 
-ghost use Rattle.std.specs.Prelude.{◌≡◌, ◌++◌, ◌∷◌, [], map, IfOk, OnOk};
+ghost use Rattle.std.specs.Prelude.{◌≡◌, ◌++◌, ◌∷◌, [], drop, map, take, IfOk, OnOk};
 ghost use Rattle.ps_view.specs.Corners.{edge, frame_part, part_from};
 ghost use Rattle.ps_view.specs.Rows.{more_mark};
 
 use crate::cells::room_across;
-use crate::corners::Corner;
+use crate::corners::{Corner, ROOM_WITH_EDGES, shown_in};
 use crate::rows::MORE_MARK;
 use crate::texts::Text;
 use ps_model::Memory;
@@ -25,8 +25,19 @@ fn edge_row(more: bool) -> &'static [char]
     if more { &[MORE_MARK] } else { &[] }
 }
 
+/// The characters of a row from a place on, so many at most.
+fn plain_part(alloc: Global, room: usize, place: usize, row: &[char]) -> Result<Text, Memory>
+    ensures { IfOk result (λ part. part ≡ take room (drop place row.now)) }
+{
+    let (_, from_place) = row.split_at(place.min(row.len()));
+    let (shown, _) = from_place.split_at(room.min(from_place.len()));
+    let mut part = Text::new(alloc);
+    part.add_all(shown)?;
+    Ok(part)
+}
+
 /// What so much room shows of a row: all; or where there isn't room for all, its characters from a place on, between
-/// two edges.
+/// two edges if there is room for them.
 fn row_part(alloc: Global, room: usize, place: usize, row: &[char]) -> Result<Text, Memory>
     ensures { IfOk result (λ part. part ≡ part_from room place more_mark 32 row.now) }
 {
@@ -34,6 +45,9 @@ fn row_part(alloc: Global, room: usize, place: usize, row: &[char]) -> Result<Te
     if row.len() <= room {
         part.add_all(row)?;
         return Ok(part);
+    }
+    if room < ROOM_WITH_EDGES {
+        return plain_part(alloc, room, place, row);
     }
     let size = room.saturating_sub(2);
     let (_, from_place) = row.split_at(place.min(row.len()));
@@ -97,9 +111,12 @@ pub fn add_frame_part(
         add_row_parts(alloc, room, corner.left, frame, screen)?;
         return Ok(());
     }
-    let size = rows.saturating_sub(2);
+    let size = shown_in(rows);
     let (_, from_top) = frame.split_at(corner.top.min(frame.len()));
     let (shown, _) = from_top.split_at(size.min(from_top.len()));
+    if rows < ROOM_WITH_EDGES {
+        return add_row_parts(alloc, room, corner.left, shown, screen);
+    }
     add_row_part(alloc, room, corner.left, edge_row(0 < corner.top), screen)?;
     add_row_parts(alloc, room, corner.left, shown, screen)?;
     add_row_part(

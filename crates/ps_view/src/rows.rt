@@ -1,7 +1,9 @@
 //! Texts in the rows of a terminal.
 
-ghost use Rattle.std.specs.Prelude.{◌≡◌, ◌<◌, ◌≤◌, ◌++◌, ◌∷◌, [], length, IfOk, OnOk};
-ghost use Rattle.ps_view.specs.Rows.{break_of, cut, fitting, shortened, through_last_blank, wrapped};
+ghost use Rattle.std.specs.Prelude.{◌≡◌, ◌<◌, ◌≤◌, ◌++◌, ◌∷◌, [], length, nat_le, if◌then◌else◌, IfOk, OnOk};
+ghost use Rattle.ps_view.specs.HarmlessTexts.{columns_of};
+ghost use Rattle.ps_view.specs.Rows.{break_of, cut, fitting, more_mark, narrowed, shortened, through_last_blank};
+ghost use Rattle.ps_view.specs.Rows.{wrapped};
 
 use crate::harmless_texts::columns_of;
 use crate::texts::Text;
@@ -43,6 +45,32 @@ pub fn cut(alloc: Global, columns: usize, text: Text) -> Result<Text, Memory>
     let mut row = Text::new(alloc);
     row.add_all(first)?;
     row.add(MORE_MARK)?;
+    Ok(row)
+}
+
+/// The character; a mark where it is wider than so many columns.
+fn narrow(columns: usize, character: char) -> char
+    ensures { result ≡ (if nat_le (columns_of character) columns then character else more_mark) }
+{
+    if columns_of(character) <= columns {
+        character
+    } else {
+        MORE_MARK
+    }
+}
+
+/// The characters of a text, with a mark for each that is wider than so many columns.
+///
+/// # Errors
+///
+/// `Memory`.
+pub fn narrowed(alloc: Global, columns: usize, text: &[char]) -> Result<Text, Memory>
+    ensures { IfOk result (λ row. row ≡ narrowed columns text.now) }
+{
+    let mut row = Text::new(alloc);
+    for character in text {
+        row.add(narrow(columns, *character))?;
+    }
     Ok(row)
 }
 

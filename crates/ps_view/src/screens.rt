@@ -3,7 +3,7 @@
 ghost use Rattle.std.specs.Prelude.{◌≡◌, ◌++◌, ◌∷◌, [], IfOk, OnOk};
 ghost use Rattle.ps_view.specs.HarmlessTexts.{harmless_text};
 ghost use Rattle.ps_view.specs.Rows.{cut};
-ghost use Rattle.ps_view.specs.Screens.{keys_line, news_rows, rows_below, screen_of, told_key};
+ghost use Rattle.ps_view.specs.Screens.{keys_line, level_line, line_rows, news_rows, rows_below, screen_of, told_key};
 ghost use Rattle.ps_view.specs.ToldLines.{told_of};
 
 use crate::corners::Corner;
@@ -11,22 +11,35 @@ use crate::harmless_texts::harmless_text;
 use crate::heard_keys::HeardKeys;
 use crate::lines::Line;
 use crate::parts::add_frame_part;
-use crate::rows::{cut, shortened, wrapped};
+use crate::row_shares::{has_lines, most_news};
+use crate::rows::{cut, narrowed, shortened, wrapped};
 use crate::sizes::Size;
 use crate::texts::Text;
 use ps_model::Memory;
 use std::alloc::Global;
-
-/// How many rows are kept from what is told last: three lines stand above it, and three rows of a frame.
-const ROWS_KEPT: usize = 6;
 
 /// What is told beside the board. Each line is empty until it comes; that of the keys tells those that are heard.
 #[derive(Drop)]
 pub struct ToldLines {
     pub title: Line,
     pub level: Line,
+    pub note: Line,
     pub heard: HeardKeys,
     pub news: Line,
+}
+
+/// The line of the level, and after it the note, if there is one.
+fn level_line(alloc: Global, level: &[u8], note: &[u8]) -> Result<Line, Memory>
+    ensures { IfOk result (λ line. line ≡ level_line level.now note.now) }
+{
+    let mut line = Line::new(alloc);
+    line.add(level)?;
+    if note.is_empty() {
+        return Ok(line);
+    }
+    line.add(b"  ")?;
+    line.add(note)?;
+    Ok(line)
 }
 
 /// Adds what a key does, where the game heeds it.
@@ -67,13 +80,41 @@ fn add_line(
     Ok(())
 }
 
+/// A text in a row alone.
+fn one_row(alloc: Global, columns: usize, text: Text) -> Result<Vec<Text>, Memory>
+    ensures { IfOk result (λ rows. rows.items ≡ cut columns text ∷ []) }
+{
+    let row = cut(alloc, columns, text)?;
+    let mut rows = Vec::new(alloc);
+    rows.push(row)?;
+    Ok(rows)
+}
+
 /// The rows of what is told last.
 fn news_rows(alloc: Global, size: Size, news: &[u8]) -> Result<Vec<Text>, Memory>
     ensures { IfOk result (λ rows. rows.items ≡ news_rows size news.now) }
 {
     let text = harmless_text(alloc, news)?;
+    let most = most_news(size);
+    if most == 1 {
+        return one_row(alloc, size.columns(), text);
+    }
+    let text = narrowed(alloc, size.columns(), text.characters())?;
     let rows = wrapped(alloc, size.columns(), text.characters())?;
-    shortened(alloc, size.rows() - ROWS_KEPT, rows)
+    shortened(alloc, most, rows)
+}
+
+/// The rows of the lines of the title, the level and the keys.
+fn line_rows(alloc: Global, columns: usize, told: &ToldLines) -> Result<Vec<Text>, Memory>
+    ensures { IfOk result (λ rows. rows.items ≡ line_rows columns (told_of told.now)) }
+{
+    let mut rows = Vec::new(alloc);
+    add_line(alloc, columns, told.title.bytes(), &mut rows)?;
+    let level = level_line(alloc, told.level.bytes(), told.note.bytes())?;
+    add_line(alloc, columns, level.bytes(), &mut rows)?;
+    let keys = keys_line(alloc, told.heard)?;
+    add_line(alloc, columns, keys.bytes(), &mut rows)?;
+    Ok(rows)
 }
 
 /// The rows below a frame.
@@ -81,15 +122,16 @@ fn news_rows(alloc: Global, size: Size, news: &[u8]) -> Result<Vec<Text>, Memory
 fn rows_below(alloc: Global, size: Size, told: &ToldLines) -> Result<Vec<Text>, Memory>
     ensures { IfOk result (λ below. below.items ≡ rows_below size (told_of told.now)) }
 {
-    let mut below = Vec::new(alloc);
-    let columns = size.columns();
-    add_line(alloc, columns, told.title.bytes(), &mut below)?;
-    add_line(alloc, columns, told.level.bytes(), &mut below)?;
-    let keys = keys_line(alloc, told.heard)?;
-    add_line(alloc, columns, keys.bytes(), &mut below)?;
-    let mut news = news_rows(alloc, size, told.news.bytes())?;
-    below.append(&mut news)?;
-    Ok(below)
+    if has_lines(size) {
+        let mut below = line_rows(alloc, size.columns(), told)?;
+        let mut news = news_rows(alloc, size, told.news.bytes())?;
+        below.append(&mut news)?;
+        return Ok(below);
+    }
+    if told.news.bytes().is_empty() {
+        return Ok(Vec::new(alloc));
+    }
+    news_rows(alloc, size, told.news.bytes())
 }
 
 /// What the rows of a terminal show from the top: a frame, and the lines below it. There are at most as many as the

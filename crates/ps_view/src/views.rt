@@ -4,14 +4,16 @@ ghost use Rattle.std.specs.Prelude.{◌≡◌, ◌++◌, List, ℕ, OnOk, false,
 ghost use Rattle.ps_view.specs.LineKinds.{kind_of};
 ghost use Rattle.ps_view.specs.ToldGames.{known_of};
 ghost use Rattle.ps_view.specs.Views.{anew, blank_view, byte_step, corner_in, drawn, handed_on, is_size, left};
-ghost use Rattle.ps_view.specs.Views.{line_told, piece_step, size_step, told_step, view_behind, with_size};
-ghost use Rattle.ps_view.specs.declared.line_kinds.LineKind.TheVariants.{Title, Level, Message, Ending, Empty, Row};
+ghost use Rattle.ps_view.specs.Views.{line_told, piece_step, size_step, text_of, told_step, view_behind, with_size};
+ghost use Rattle.ps_view.specs.declared.line_kinds.LineKind.TheVariants.{Title, Level, Message, Note, Question};
+ghost use Rattle.ps_view.specs.declared.line_kinds.LineKind.TheVariants.{Ending, Empty, Row};
 
 use crate::changes::{add_changes, add_closing, add_opening};
 use crate::corners::{Cell, Corner, changed_behind, corner_following, first_changed};
 use crate::harmless_texts::harmless_text;
 use crate::line_kinds::{LineKind, kind_of};
 use crate::lines::Line;
+use crate::row_shares::frame_rows;
 use crate::screens::{ToldLines, screen_of};
 use crate::sizes::Size;
 use crate::texts::Text;
@@ -30,8 +32,15 @@ const FIRST_CORNER: Corner = Corner { top: 0, left: 0 };
 /// Its first cell.
 const FIRST_CELL: Cell = Cell { row: 0, column: 0 };
 
-/// How many rows stand below a frame where nothing is told last.
-const ROWS_BELOW: usize = 4;
+/// The text of a line, without the two bytes that say what it is.
+fn text_of(line: &[u8]) -> &[u8]
+    ensures { result.now ≡ text_of line.now }
+{
+    match line {
+        [_, _, text @ ..] => text,
+        _ => &[],
+    }
+}
 
 /// A view of an output as far as its bytes have come.
 #[derive(Drop)]
@@ -85,6 +94,7 @@ impl TerminalView {
             told: ToldLines {
                 title: Line::new(alloc),
                 level: Line::new(alloc),
+                note: Line::new(alloc),
                 heard,
                 news: Line::new(alloc),
             },
@@ -126,7 +136,7 @@ impl TerminalView {
     fn set_size(&mut self, size: Size)
         ensures { self.new ≡ with_size self.old size }
     {
-        let rows = size.rows() - ROWS_BELOW;
+        let rows = frame_rows(size);
         let columns = size.columns();
         let players = &self.game.players;
         self.corner = corner_following(
@@ -237,6 +247,8 @@ impl TerminalView {
                 Ok(())
             }
             LineKind::Message => self.tell_message(orders),
+            LineKind::Note => self.tell_note(),
+            LineKind::Question => self.tell_question(orders),
             LineKind::LevelDone => {
                 self.line.clear();
                 Ok(())
@@ -261,6 +273,7 @@ impl TerminalView {
     {
         mem::swap(&mut self.told.level, &mut self.line);
         self.line.clear();
+        self.told.note.clear();
         self.told.news.clear();
         self.frame.clear();
         self.corner = FIRST_CORNER;
@@ -275,6 +288,27 @@ impl TerminalView {
         mem::swap(&mut self.told.news, &mut self.line);
         self.line.clear();
         self.told.news.add(GO_ON)?;
+        self.draw(orders)
+    }
+
+    /// Keeps a note on the level.
+    fn tell_note(&mut self) -> Result<(), Memory>
+        ensures { OnOk result (self.new ≡ (line_told self.old Note).view) }
+    {
+        self.told.note.clear();
+        self.told.note.add(text_of(self.line.bytes()))?;
+        self.line.clear();
+        Ok(())
+    }
+
+    /// Tells a question; without a text it tells nothing any more.
+    fn tell_question(&mut self, orders: &mut Line) -> Result<(), Memory>
+        ensures view { OnOk result (self.new ≡ (line_told self.old Question).view) }
+        ensures added { OnOk result (orders.new ≡ orders.old ++ (line_told self.old Question).bytes) }
+    {
+        self.told.news.clear();
+        self.told.news.add(text_of(self.line.bytes()))?;
+        self.line.clear();
         self.draw(orders)
     }
 
@@ -296,7 +330,7 @@ impl TerminalView {
         ensures view { OnOk result (self.new ≡ (line_told self.old Empty).view) }
         ensures added { OnOk result (orders.new ≡ orders.old ++ (line_told self.old Empty).bytes) }
     {
-        let rows = self.size.rows() - ROWS_BELOW;
+        let rows = frame_rows(self.size);
         let columns = self.size.columns();
         let changed = first_changed(&self.frame, &self.begun);
         let players = &self.game.players;
