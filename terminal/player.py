@@ -74,7 +74,7 @@ class Player:
         except OSError as error:
             raise _cannot_run(self.path, error) from error
         if told.returncode != 0:
-            raise Fault(told.stderr, status_of(told.returncode))
+            raise Fault(told.stdout + told.stderr, status_of(told.returncode))
         return Described(json.loads(told.stdout))
 
     def begins_at_levels(self):

@@ -129,6 +129,11 @@ def part(rows, columns, frame):
     return [row[left:left + columns] for row in frame[top:top + rows]]
 
 
+def harmless(text):
+    """The text without orders."""
+    return "".join("·" if c < " " or c in "\u202e\u2066" else c for c in text)
+
+
 def show(rows, columns):
     """Shows lines of standard input in place."""
     title = level = note = news = ""
@@ -154,10 +159,10 @@ def show(rows, columns):
             frame, begun, news, is_drawn = begun, [], "", True
         if is_drawn:
             below = [title, f"{level}  {note}" if note else level, KEYS_LINE] + ([news] if news else [])
-            below = [row[:columns] for row in below][3 if rows < 8 else 0:]
+            below = [row if len(row) <= columns else row[:columns - 1] + "…" for row in below][3 if rows < 8 else 0:]
             screen = part(rows - len(below), columns, frame) + below
-            orders = "".join(f"\x1b[{place};1H\x1b[2K{row}" for place, row in enumerate(screen, 1))
-            write("\x1b[?25l\x1b[2J" + "".join(c if c == "\x1b" or c >= " " else "·" for c in orders))
+            drawn = "".join(f"\x1b[{place};1H\x1b[2K{harmless(row)}" for place, row in enumerate(screen, 1))
+            write("\x1b[?25l\x1b[2J" + drawn)
             if line.startswith("* "):
                 write(f"\x1b[{len(screen)};1H\r\n\x1b[J\x1b[?25h")
                 return
