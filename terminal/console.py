@@ -27,14 +27,15 @@ class Console:
         attributes = termios.tcgetattr(self.keys)
         attributes[3] &= ~(termios.ICANON | termios.ECHO)
         attributes[6][termios.VMIN], attributes[6][termios.VTIME] = 1, 0
-        termios.tcsetattr(self.keys, termios.TCSADRAIN, attributes)
+        termios.tcsetattr(self.keys, termios.TCSANOW, attributes)
 
     def give_back(self, with_keys=True):
         """The attributes are as before; keys that nobody read yet are left to the shell, or dropped."""
         if self._saved is not None:
-            when = termios.TCSADRAIN if with_keys else termios.TCSAFLUSH
             try:
-                termios.tcsetattr(self.keys, when, self._saved)
+                if not with_keys:
+                    termios.tcflush(self.keys, termios.TCIFLUSH)
+                termios.tcsetattr(self.keys, termios.TCSANOW, self._saved)
             except termios.error:
                 pass  # The terminal is gone.
             self._saved = None

@@ -1,6 +1,5 @@
 """Plays a game at a terminal: main.py PLAYER [--plain] [--fresh] [--level N] GAME|FOLDER."""
 import os
-import signal
 import sys
 
 sys.path.insert(0, os.path.dirname(os.path.realpath(__file__)))
@@ -8,7 +7,7 @@ sys.path.insert(0, os.path.dirname(os.path.realpath(__file__)))
 from harmless import decoded, harmless_lines, name_text  # noqa: E402
 from options import BadCommandLine, read_options  # noqa: E402
 from player import Fault  # noqa: E402
-from signals import Killed, die_by  # noqa: E402
+from signals import Killed, die_by, raise_killed  # noqa: E402
 from sitting import Sitting  # noqa: E402
 from streaming import hand_over  # noqa: E402
 
@@ -20,8 +19,8 @@ def tell(said):
     os.write(2, harmless_lines(said).encode("utf-8", "replace"))
 
 
-def keys_for(asked):
-    """The descriptor that keys are typed at. They are the terminal's, where standard input has the text."""
+def keys_typed():
+    """The descriptor at which keys are typed: that of the terminal itself, where standard input has the text."""
     if os.isatty(_KEYS):
         return _KEYS
     try:
@@ -35,7 +34,7 @@ def obey(asked):
     is_typed = os.isatty(_KEYS) or asked.game == "-"
     if not (is_typed and os.isatty(_SCREEN)):
         return hand_over(asked)
-    sitting = Sitting(asked, keys_for(asked), _SCREEN)
+    sitting = Sitting(asked, keys_typed(), _SCREEN)
     return sitting.play_folder() if os.path.isdir(asked.game) else sitting.play_game()
 
 
@@ -55,8 +54,8 @@ def main(words):
 
 
 if __name__ == "__main__":
-    signal.signal(signal.SIGINT, signal.SIG_DFL)
     try:
+        raise_killed()
         sys.exit(main(sys.argv[1:]))
     except Killed as killed:
         die_by(killed.number)

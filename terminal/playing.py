@@ -13,12 +13,11 @@ QUIT_QUESTION = "Quit? q again quits, any other key goes on."
 STOPPED = b"* stopped\n"
 BROKEN_OFF = b"* broken off\n"
 
-# Seconds without output after which the run has nothing more to say: before a key whose meaning depends on a message, and
-# before any other one.
+# Seconds without output after which the run has nothing more to say: where it matters whether a message waits, and else.
 _QUIET = 0.025
 _QUIET_FOR_MOVES = 0.004
-# A key that brings nothing is waited for so long.
-_PATIENCE = 1.0
+# An answer to a key is waited for so long before the next key is handed on.
+_PATIENCE = 3.0
 
 _GO_ON = (Key.ACT, Key.ENTER, Key.SPACE)
 _CAREFUL = _GO_ON + (Key.QUIT, Key.HELP)
@@ -153,13 +152,14 @@ class Playing:
         self._events.drop_keys()
 
     def _settled_at(self, key):
-        """From when on the run has surely said all that comes before a key; None where it has to say more."""
+        """From when on the run has said all that comes before a key."""
         if self._is_owed or self._reader.is_within():
             return self._since + _PATIENCE
-        return self._since + (_QUIET if key in _CAREFUL or self._is_asked else _QUIET_FOR_MOVES)
+        is_careful = key in _CAREFUL or self._is_asked or self._is_dismissed
+        return self._since + (_QUIET if is_careful else _QUIET_FOR_MOVES)
 
     def _obey_typed(self, now):
-        """Does what the keys are for that were typed, one after the other, as far as the run keeps up."""
+        """Obeys the keys that were typed, one after the other, as far as the run keeps up."""
         while self._typed and not self._parts and self._settled_at(self._typed[0]) <= now:
             self._obey(self._typed.popleft())
 
@@ -190,7 +190,7 @@ class Playing:
         self._is_owed, self._since = True, time.monotonic()
 
     def _go_on(self):
-        """Leaves a page of a message. Behind the last one the run goes on, perhaps without saying anything."""
+        """Leaves a page of a message. After the last one the run goes on, perhaps without saying anything."""
         if not self._screen.turn_page():
             self._has_message, self._is_dismissed = False, True
             self._moves.key_sent(None)

@@ -19,8 +19,24 @@ def _nothing(number, frame):
     """The signal is told by the pipe alone."""
 
 
+def _killed(number, frame):
+    raise Killed(number)
+
+
+def raise_killed():
+    """From now on a deadly signal raises Killed wherever it comes, so that what was begun is ended."""
+    _handle(DEADLY, _killed)
+
+
+def _handle(numbers, handler):
+    """Signals that were ignored before, as by nohup, still are."""
+    for number in numbers:
+        if signal.getsignal(number) != signal.SIG_IGN:
+            signal.signal(number, handler)
+
+
 class Signals:
-    """Catches signals from `catch` on. Those that were ignored before, as by nohup, still are."""
+    """Catches signals from `catch` on, and tells them when it is asked."""
 
     def __init__(self):
         self.fd, self._write = os.pipe()
@@ -30,9 +46,7 @@ class Signals:
     def catch(self):
         """From now on signals are told by `told`."""
         signal.set_wakeup_fd(self._write, warn_on_full_buffer=False)
-        for number in DEADLY + _OTHERS:
-            if signal.getsignal(number) != signal.SIG_IGN:
-                signal.signal(number, _nothing)
+        _handle(DEADLY + _OTHERS, _nothing)
 
     def told(self):
         """The numbers of the signals that came since the last call."""

@@ -169,6 +169,7 @@ def show(rows, columns):
 
 
 def main(words):
+    words = [word for word in words if word != "--"]
     if "--help" in words:
         write("--level N\n")
     elif "--describe" in words:
