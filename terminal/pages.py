@@ -14,10 +14,11 @@ def _pages(lines, rows):
 
 def read_pages(lines, console, events):
     """Shows the lines, a page after the other, each until a key comes; the screen is clear then."""
-    place = 0
-    while place < len(_pages(lines, console.size()[0])):
-        console.show_page(_pages(lines, console.size()[0])[place])
+    place, pages = 0, _pages(lines, console.size()[0])
+    while place < len(pages):
+        console.show_page(pages[place])
         place += _is_left(console, events)
+        pages = _pages(lines, console.size()[0])
     console.leave_page()
 
 

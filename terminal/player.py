@@ -24,6 +24,7 @@ def _start(words, ignored, **streams):
     """Starts a program that ignores some signals which the terminal sends to all: this one ends it then."""
 
     def ignore():
+        """Done in the new process before the program begins."""
         for number in ignored:
             signal.signal(number, signal.SIG_IGN)
 

@@ -26,15 +26,17 @@ _NAMES = {"act": Key.ACT, "undo": Key.UNDO, "restart": Key.RESTART}
 _WON = (b"* won", b"* the end")
 
 
+# A game that is played: what the player says of it, its progress, and what is told once below the first board, if anything is.
+Game = collections.namedtuple("Game", "described progress notice")
+
+
 class Playing:
     """Plays one game from its first output to its last."""
 
-    def __init__(self, run, screen, events, described, progress, notice=None):
+    def __init__(self, run, screen, events, game):
         self._run, self._screen, self._events = run, screen, events
-        self._described, self._progress = described, progress
-        # What is told once, below the first board.
-        self._notice = notice
-        self._ignored = [_NAMES[name] for name in described.ignored if name in _NAMES]
+        self._described, self._progress, self._notice = game
+        self._ignored = [_NAMES[name] for name in self._described.ignored if name in _NAMES]
         self._reader, self._pacing, self._moves = OutputReader(), Pacing(), MoveCount()
         # What was read and isn't shown yet, and the keys that nobody obeyed yet.
         self._parts, self._typed = collections.deque(), collections.deque()
@@ -84,15 +86,12 @@ class Playing:
             self._is_owed = self._is_dismissed = False
 
     def _deadline(self):
-        """When something must be done though nothing happens."""
-        times = []
+        """When something must be done though nothing happens, if there is something."""
         if self._parts:
-            times.append(self._due())
-        elif self._typed:
-            times.append(self._settled_at(self._typed[0]))
-        elif self._is_dismissed or self._notice:
-            times.append(self._settled_at(Key.ENTER))
-        return min(times, default=None)
+            return self._due()
+        if self._typed:
+            return self._settled_at(self._typed[0])
+        return self._settled_at(Key.ENTER) if self._is_dismissed or self._notice else None
 
     # Output ---------------------------------------------------------------------------------------------------------
 

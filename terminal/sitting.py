@@ -6,7 +6,7 @@ from game_text import GameText
 from harmless import decoded, harmless_lines
 from plain_screen import PlainScreen
 from player import Fault, Player, Run
-from playing import BROKEN_OFF, Playing
+from playing import BROKEN_OFF, Game, Playing
 from progress import Progress
 from signals import Killed, Signals
 from view_screen import ViewScreen
@@ -103,7 +103,7 @@ class Sitting:
         level, notice = self._level(described, progress)
         run = Run(self.player, text.path, level)
         screen = PlainScreen(self.console) if self.asked.is_plain else ViewScreen(self.console, self.player, text.path)
-        playing = Playing(run, screen, self.events, described, progress, notice)
+        playing = Playing(run, screen, self.events, Game(described, progress, notice))
         try:
             playing.play()
         except BaseException as stopped:

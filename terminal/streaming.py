@@ -43,6 +43,7 @@ def _show(words, console):
     process = subprocess.Popen(words + ["--view", "{}x{}".format(*console.size())], stderr=subprocess.PIPE, bufsize=0)
 
     def forward(number, _):
+        """The player is sent the signal."""
         process.send_signal(number)
 
     for number in DEADLY:

@@ -6,7 +6,7 @@ from unittest import mock
 import playing
 from events import Event, Kind
 from player import Described
-from playing import QUIT_QUESTION, Playing
+from playing import QUIT_QUESTION, Game, Playing
 from typed_keys import Key
 
 SAID = {"title": "T", "levels": 3, "ignored_keys": ["undo"], "glyphs": [{"glyph": "P", "objects": ["Player"]}]}
@@ -106,7 +106,7 @@ class PlayingTest(unittest.TestCase):
         self.progress = mock.Mock()
         events.come(start)
         with mock.patch.object(playing, "time", clock):
-            self.playing = Playing(self.run_, self.screen, events, Described(SAID), self.progress, notice)
+            self.playing = Playing(self.run_, self.screen, events, Game(Described(SAID), self.progress, notice))
             self.playing.play()
         return self.screen.said
 
