@@ -4,7 +4,6 @@
 In a level P walks on `.`; `#` is a wall, `*` wins, `m` shows a message, and from `a` on the player slides to the right, cell by
 cell. `FAULT` in a text is a fault.
 """
-import json
 import os
 import sys
 
@@ -115,6 +114,8 @@ def play(name, level):
 
 
 def describe(name):
+    import json
+
     title, entries = read_game(name)
     levels = sum(isinstance(entry, list) for entry in entries)
     glyphs = [{"glyph": "P", "objects": ["Player"]}, {"glyph": "*", "objects": ["Goal", "Light"]}]
