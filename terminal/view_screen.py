@@ -22,6 +22,7 @@ class ViewScreen:
         self._standing = Standing()
         self._message = None
         self._view = None
+        self._size = None
 
     def show(self, part):
         """Shows a part of the output; of a message its first page."""
@@ -82,9 +83,9 @@ class ViewScreen:
         if not self._standing.lines():
             return
         try:
-            if self._view is None or self._is_full(ending):
+            rows, columns = self._console.size()
+            if self._view is None or self._size != (rows, columns) or self._is_full(ending):
                 self._close()
-                rows, columns = self._console.size()
                 self._open((max(rows - 1, 1), columns))
             self._view.hand(ending)
             self._close()
@@ -121,6 +122,7 @@ class ViewScreen:
             self._view.hand(line)
 
     def _open(self, size):
+        self._size = size
         self._view = View(self._player, self._game, size, self._console.screen)
         self._view.hand(self._standing.lines())
 

@@ -105,6 +105,12 @@ class ViewScreenTest(unittest.TestCase):
         self.assertEqual(self.last(), START + b"* quit\n")
         self.assertEqual(len(FakeView.all), 1)
 
+    def test_leaving_a_screen_of_another_size(self):
+        self.show(START)
+        self.console.now = (30, 90)
+        self.screen.leave(b"* quit\n")
+        self.assertEqual(FakeView.all[-1].size, (29, 90))
+
     def test_leaving_a_full_screen_scrolls_nothing(self):
         self.show(b"= T\n# level 1\n" + b"P\n" * 20 + b"\n")
         self.screen.leave(b"* quit\n")
