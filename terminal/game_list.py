@@ -1,0 +1,77 @@
+"""The games of a folder, in a list in which one is chosen."""
+import os
+
+from events import Kind
+from game_text import GameText
+from harmless import decoded, harmless, name_text
+from player import Fault
+from typed_keys import Key
+from widths import width
+
+_HEAD = "w s or the arrows choose a game, Enter plays it, q leaves."
+_STEPS = {Key.UP: -1, Key.DOWN: 1}
+_ENDINGS = (".game", ".txt")
+
+
+def games_of(folder):
+    """The names of the games in a folder, sorted."""
+    return sorted(
+        name for name in os.listdir(folder)
+        if name.endswith(_ENDINGS) and os.path.isfile(os.path.join(folder, name))
+    )
+
+
+class GameList:
+    """The list of a folder's games, which remembers what was chosen and how the games are titled."""
+
+    def __init__(self, folder, player):
+        self._folder = folder
+        self._player = player
+        self._names = games_of(folder)
+        self._titles = {}
+        self._chosen = 0
+        self._top = 0
+
+    def choose(self, console, events):
+        """Shows the list until a game is chosen, and answers its path; None where the list is left."""
+        while True:
+            console.show_page(self.rows(*console.size()))
+            event = events.next()
+            if event.kind is Kind.STOP:
+                console.leave_page()
+                events.stop()
+            elif event.value is Key.QUIT:
+                return None
+            elif event.value in (Key.ENTER, Key.SPACE, Key.ACT) and self._names:
+                return os.path.join(self._folder, self._names[self._chosen])
+            elif event.value in _STEPS:
+                self._move(_STEPS[event.value])
+
+    def rows(self, rows, columns):
+        """The rows of the screen: the head, and below it as much of the list as has room."""
+        room = max(rows - 2, 1)
+        self._top = min(max(self._top, self._chosen - room + 1), self._chosen)
+        places = range(self._top, min(self._top + room, len(self._names)))
+        listed = [self._row(place) for place in places] or ["There is no game here: no file ends with .game or .txt."]
+        return [_HEAD, ""][:rows - 1] + listed if rows > 2 else listed
+
+    def _move(self, step):
+        self._chosen = min(max(self._chosen + step, 0), max(len(self._names) - 1, 0))
+
+    def _row(self, place):
+        """A game: a mark where it is the chosen one, its file and its title."""
+        name = name_text(self._names[place])
+        blanks = " " * max(24 - width(name), 2)
+        return f"{'>' if place == self._chosen else ' '} {name}{blanks}{self._title(place)}"
+
+    def _title(self, place):
+        """The title of a game, or which fault it has. It is asked for when it is first shown."""
+        if place not in self._titles:
+            try:
+                with GameText(os.path.join(self._folder, self._names[place])) as text:
+                    self._titles[place] = harmless(self._player.describe(text.path).title)
+            except Fault as fault:
+                self._titles[place] = f"({harmless(decoded(fault.said).partition(chr(10))[0])})"
+            except OSError as error:
+                self._titles[place] = f"(cannot be read: {error.strerror})"
+        return self._titles[place]

@@ -1,0 +1,61 @@
+"""Plays a game at a terminal: main.py PLAYER [--plain] [--fresh] [--level N] GAME|FOLDER."""
+import os
+import sys
+
+sys.path.insert(0, os.path.dirname(os.path.realpath(__file__)))
+
+from harmless import decoded, harmless_lines, name_text  # noqa: E402
+from options import BadCommandLine, read_options  # noqa: E402
+from player import Fault  # noqa: E402
+from signals import Killed, die_by, raise_killed  # noqa: E402
+from sitting import Sitting  # noqa: E402
+from streaming import hand_over  # noqa: E402
+
+_KEYS, _SCREEN = 0, 1
+
+
+def tell(said):
+    """Tells a text on standard error, of which the terminal takes nothing as an order."""
+    os.write(2, harmless_lines(said).encode("utf-8", "replace"))
+
+
+def keys_typed():
+    """The descriptor at which keys are typed: that of the terminal itself, where standard input has the text."""
+    if os.isatty(_KEYS):
+        return _KEYS
+    try:
+        return os.open("/dev/tty", os.O_RDONLY)
+    except OSError as error:
+        raise Fault(b"play: there is no terminal at which keys are typed\n", 1) from error
+
+
+def obey(asked):
+    """Does what the command line asks for. The status of the call, and what is told on standard error."""
+    is_typed = os.isatty(_KEYS) or asked.game == "-"
+    if not (is_typed and os.isatty(_SCREEN)):
+        return hand_over(asked)
+    sitting = Sitting(asked, keys_typed(), _SCREEN)
+    return sitting.play_folder() if os.path.isdir(asked.game) else sitting.play_game()
+
+
+def main(words):
+    """Obeys a command line. The status of the call."""
+    try:
+        status, said = obey(read_options(words))
+    except BadCommandLine as why:
+        status, said = 2, f"play: {why}\n".encode()
+    except Fault as fault:
+        status, said = fault.status, fault.said
+    except OSError as error:
+        of = f"{name_text(error.filename)}: " if error.filename else ""
+        status, said = 1, f"play: cannot read game: {of}{error.strerror}\n".encode()
+    tell(decoded(said))
+    return status
+
+
+if __name__ == "__main__":
+    try:
+        raise_killed()
+        sys.exit(main(sys.argv[1:]))
+    except Killed as killed:
+        die_by(killed.number)

@@ -1,0 +1,114 @@
+"""What is played at a terminal in one call: a game, or those of a folder, one after the other."""
+from console import Console
+from events import Events, Kind
+from game_list import GameList
+from game_text import GameText
+from harmless import decoded, harmless_lines
+from plain_screen import PlainScreen
+from player import Fault, Player, Run
+from playing import BROKEN_OFF, Game, Playing
+from progress import Progress
+from signals import Killed, Signals
+from view_screen import ViewScreen
+
+INTERRUPTED = b"* interrupted\n"
+_QUIT = b"* quit"
+_BACK = "Any key leads back to the list."
+
+
+class Sitting:
+    """The player, the terminal and what is asked for."""
+
+    def __init__(self, asked, keys, screen):
+        self.asked = asked
+        self.player = Player(asked.player)
+        self.console = Console(keys, screen)
+        self.signals = Signals()
+        self.events = Events(self.console, self.signals)
+
+    def play_game(self):
+        """Plays the game that is asked for. Its status, and what it said on standard error."""
+        with GameText(self.asked.game) as text:
+            described = self.player.describe(text.path)
+            self._begin()
+            with_keys = True
+            try:
+                status, said, ending = self._play(text, described)
+                with_keys = ending.startswith(_QUIT)
+            finally:
+                self.console.give_back(with_keys)
+            return status, said
+
+    def play_folder(self):
+        """Plays the games that are chosen, until the list is left."""
+        games = GameList(self.asked.game, self.player)
+        self._begin()
+        try:
+            while True:
+                path = self._chosen(games)
+                if path is None:
+                    return 0, b""
+                self._play_chosen(path)
+        finally:
+            self.console.give_back()
+
+    def _begin(self):
+        """From now on keys come as they are pressed, and signals are told with them."""
+        self.signals.catch()
+        self.console.take()
+
+    def _chosen(self, games):
+        """The path of the game that is chosen, on a clear screen; None where the list is left."""
+        try:
+            return games.choose(self.console, self.events)
+        finally:
+            self.console.leave_page()
+
+    def _play_chosen(self, path):
+        """Plays a game of the list; what it says on standard error stands below the board until a key comes."""
+        try:
+            with GameText(path) as text:
+                said = self._play(text, self.player.describe(text.path))[1]
+        except Fault as fault:
+            said = fault.said
+        except OSError as error:
+            said = f"cannot read game: {error.strerror}\n".encode()
+        self.console.write(harmless_lines(decoded(said)) + _BACK)
+        self.events.drop_keys()
+        try:
+            self._await_key()
+        finally:
+            self.console.write("\r\n")
+
+    def _await_key(self):
+        """Waits for any key."""
+        kind = None
+        while kind is not Kind.KEY:
+            kind = self.events.next().kind
+            if kind is Kind.STOP:
+                self.events.stop()
+
+    def _level(self, described, progress):
+        """The level at which a game begins, if it is told to the player, and what the screen says of that."""
+        if self.asked.level is not None:
+            return self.asked.level, None
+        level = progress.level(described.levels)
+        if self.asked.is_fresh or level == 1 or not self.player.begins_at_levels():
+            return None, None
+        return level, f"You go on at level {level}; --fresh begins at the first."
+
+    def _play(self, text, described):
+        """Plays a game. Its status, what it said on standard error, and the line that it ended with."""
+        progress = Progress(text.digest)
+        level, notice = self._level(described, progress)
+        run = Run(self.player, text.path, level)
+        screen = PlainScreen(self.console) if self.asked.is_plain else ViewScreen(self.console, self.player, text.path)
+        playing = Playing(run, screen, self.events, Game(described, progress, notice))
+        try:
+            playing.play()
+        except BaseException as stopped:
+            run.kill()
+            self.events.output = None
+            screen.leave(INTERRUPTED if isinstance(stopped, Killed) else BROKEN_OFF)
+            raise
+        return (*run.end(), playing.ending)

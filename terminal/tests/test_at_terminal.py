@@ -1,0 +1,146 @@
+"""The whole, on a terminal that is made here, with a stand-in for the player."""
+import fcntl
+import os
+import pathlib
+import pty
+import signal
+import struct
+import subprocess
+import sys
+import tempfile
+import termios
+import threading
+import time
+import unittest
+
+HERE = pathlib.Path(__file__).parent
+STAND_IN = str(HERE / "stand_in.py")
+MAIN = str(HERE.parent / "main.py")
+GAME = """title Small\x1b]0;Bad\x07
+
+######
+#P..*#
+######
+
+#####
+#P.*#
+#####
+"""
+
+
+class Sitting:
+    """A call of main.py at a terminal of 12 rows and 60 columns."""
+
+    def __init__(self, folder, *words, stdin=None):
+        self.master, self.slave = pty.openpty()
+        fcntl.ioctl(self.slave, termios.TIOCSWINSZ, struct.pack("HHHH", 12, 60, 0, 0))
+        self.before = termios.tcgetattr(self.slave)
+        self.output = b""
+        environment = dict(os.environ, XDG_STATE_HOME=folder)
+        command = [sys.executable, "-I", "-S", MAIN, STAND_IN, *words]
+        self.process = subprocess.Popen(
+            command, stdin=self.slave if stdin is None else stdin, stdout=self.slave, stderr=self.slave,
+            env=environment, preexec_fn=self._take_terminal)
+        threading.Thread(target=self._read, daemon=True).start()
+
+    def _take_terminal(self):
+        os.setsid()
+        fcntl.ioctl(self.slave, termios.TIOCSCTTY, 0)
+
+    def _read(self):
+        try:
+            while True:
+                self.output += os.read(self.master, 65536)
+        except OSError:
+            pass
+
+    def wait_for(self, text, seconds=5.0):
+        """Waits until the output has the text since the last call, and forgets it up to there."""
+        end = time.monotonic() + seconds
+        while text not in self.output:
+            if time.monotonic() > end:
+                raise AssertionError(f"{text!r} isn't in {self.output!r}")
+            time.sleep(0.005)
+        self.output = self.output.partition(text)[2]
+
+    def type(self, keys):
+        os.write(self.master, keys)
+
+    def end(self):
+        """Its status, and whether the terminal's attributes are as before."""
+        code = self.process.wait(5)
+        return code, termios.tcgetattr(self.slave) == self.before
+
+
+class AtTerminalTest(unittest.TestCase):
+    def setUp(self):
+        folder = tempfile.TemporaryDirectory()
+        self.addCleanup(folder.cleanup)
+        self.folder = folder.name
+        self.game = str(pathlib.Path(folder.name) / "small.game")
+        pathlib.Path(self.game).write_text(GAME)
+
+    def sit(self, *words, stdin=None):
+        return Sitting(self.folder, *words, stdin=stdin)
+
+    def test_a_game_from_its_beginning_to_its_end(self):
+        sitting = self.sit(self.game)
+        sitting.wait_for(b"#P..*#")
+        self.assertNotIn(b"\x07", sitting.output)
+        sitting.type(b"D\x1b[C\x1bOC")
+        sitting.wait_for(b"3 moves")
+        sitting.wait_for(b"#P.*#")
+        sitting.type(b"q")
+        sitting.wait_for(b"Quit?")
+        sitting.type(b"q")
+        sitting.wait_for(b"* quit")
+        sitting.wait_for(b"\x1b[?25h")
+        self.assertEqual(sitting.end(), (0, True))
+        sitting = self.sit(self.game)
+        sitting.wait_for(b"You go on at level 2")
+        sitting.type(b"dd")
+        sitting.wait_for(b"* won")
+        self.assertEqual(sitting.end(), (0, True))
+        self.assertEqual(os.listdir(f"{self.folder}/lizhakoven/progress"), [])
+
+    def test_a_text_from_a_pipe(self):
+        with open(self.game, "rb") as file:
+            sitting = self.sit("-", "--plain", stdin=file)
+        sitting.wait_for(b"= Small\xc2\xb7]0;Bad\xc2\xb7\r\n")
+        sitting.wait_for(b"#P..*#")
+        sitting.type(b"d")
+        sitting.wait_for(b"#.P.*#")
+        sitting.type(b"qq")
+        sitting.wait_for(b"* quit")
+        self.assertEqual(sitting.end(), (0, True))
+
+    def test_signals_leave_the_terminal_as_it_was(self):
+        numbers = (signal.SIGINT, signal.SIGTERM, signal.SIGQUIT)
+        for sitting, number in [(self.sit(self.game), number) for number in numbers]:
+            sitting.wait_for(b"#P..*#")
+            sitting.process.send_signal(number)
+            self.assertEqual(sitting.end(), (-number, True))
+            sitting.wait_for(b"* interrupted")
+            sitting.wait_for(b"\x1b[?25h")
+
+    def test_a_fault_is_told_harmless(self):
+        pathlib.Path(self.game).write_text("FAULT")
+        sitting = self.sit(self.game)
+        sitting.wait_for(b"line 1: TX1 Fault\r\n     1  FAULT \xc2\xb7[31m")
+        self.assertEqual(sitting.end(), (1, True))
+
+    def test_a_folder(self):
+        sitting = self.sit(self.folder)
+        sitting.wait_for(b"> small.game")
+        sitting.type(b"\r")
+        sitting.wait_for(b"#P..*#")
+        sitting.type(b"qq")
+        sitting.wait_for(b"Any key leads back")
+        sitting.type(b"k")
+        sitting.wait_for(b"> small.game")
+        sitting.type(b"q")
+        self.assertEqual(sitting.end(), (0, True))
+
+
+if __name__ == "__main__":
+    unittest.main()

@@ -1,0 +1,171 @@
+"""A game that is played, with a run, a screen and a clock of the test."""
+import collections
+import unittest
+from unittest import mock
+
+import playing
+from events import Event, Kind
+from player import Described
+from playing import QUIT_QUESTION, Game, Playing
+from typed_keys import Key
+
+SAID = {"title": "T", "levels": 3, "ignored_keys": ["undo"], "glyphs": [{"glyph": "P", "objects": ["Player"]}]}
+START = b"= T\n# level 1\nP..\n\n"
+
+
+class Clock:
+    now = 100.0
+
+    def monotonic(self):
+        return self.now
+
+
+class FakeRun:
+    """Answers keys by what it was told to, one answer for each."""
+
+    output = 7
+
+    def __init__(self, events, answers):
+        self.sent, self.events, self.answers = b"", events, collections.deque(answers)
+
+    def send(self, key):
+        self.sent += key
+        if self.answers:
+            self.events.come(self.answers.popleft())
+
+
+class FakeEvents:
+    """Tells what is written at once, and keys, one after the other, when nothing else happens until some time."""
+
+    output = None
+
+    def __init__(self, clock, keys):
+        self.clock, self.keys, self.coming = clock, collections.deque(keys), collections.deque()
+
+    def come(self, data):
+        self.coming.append(Event(Kind.OUTPUT, data))
+
+    def next(self, deadline=None):
+        if self.coming:
+            return self.coming.popleft()
+        if deadline is not None:
+            self.clock.now = max(self.clock.now, deadline)
+            return Event(Kind.TIME, None)
+        self.clock.now += 10
+        if not self.keys:
+            return Event(Kind.OUTPUT, b"")
+        key = self.keys.popleft()
+        return key if isinstance(key, Event) else Event(Kind.KEY, key)
+
+    def drop_keys(self):
+        pass
+
+    def stop(self):
+        pass
+
+
+class FakeScreen:
+    """Keeps what it is told, with the times of frames."""
+
+    is_paced = True
+
+    def __init__(self, clock, pages=1):
+        self.clock, self.said, self.times, self.pages = clock, [], [], pages
+
+    def show(self, part):
+        self.said.append(part.data)
+        if part.kind.name == "FRAME":
+            self.times.append(round(self.clock.now, 2))
+
+    def turn_page(self):
+        self.pages -= 1
+        return self.pages > 0
+
+    def note(self, text):
+        self.said.append(f"~ {text}")
+
+    def ask(self, text):
+        self.said.append(f"? {text}")
+
+    def read(self, lines, events):
+        self.said.append(lines)
+
+    def leave(self, ending):
+        self.said.append(ending)
+
+    def __getattr__(self, name):
+        return lambda: self.said.append(name)
+
+
+class PlayingTest(unittest.TestCase):
+    def play(self, keys, answers=(), start=START, pages=1, notice=None):
+        clock = Clock()
+        events = FakeEvents(clock, keys)
+        self.run_ = FakeRun(events, answers)
+        self.screen = FakeScreen(clock, pages)
+        self.progress = mock.Mock()
+        events.come(start)
+        with mock.patch.object(playing, "time", clock):
+            self.playing = Playing(self.run_, self.screen, events, Game(Described(SAID), self.progress, notice))
+            self.playing.play()
+        return self.screen.said
+
+    def test_a_move_is_counted_before_its_frame(self):
+        said = self.play([Key.RIGHT], [b".P.\n\n"])
+        begun = [b"= T\n", b"# level 1\n", "~ of 3, 0 moves", b"P..\n\n"]
+        self.assertEqual(said, begun + ["~ of 3, 1 move", b".P.\n\n", playing.BROKEN_OFF])
+
+    def test_keys_that_are_handed_on(self):
+        self.play([Key.RIGHT, Key.UNDO, Key.OTHER, Key.ENTER, Key.SPACE, Key.RESTART, Key.ACT], [b"P..\n\n"] * 3)
+        self.assertEqual(self.run_.sent, b"drx")
+
+    def test_quit_is_asked_once(self):
+        said = self.play([Key.QUIT, Key.RIGHT, Key.QUIT, Key.QUIT], [b".P.\n\n", b"* quit\n"])
+        self.assertEqual(self.run_.sent, b"dq")
+        self.assertEqual(said.count(f"? {QUIT_QUESTION}"), 2)
+        self.assertEqual(said.count("take_back"), 1)
+        self.assertEqual(self.playing.ending, b"* quit\n")
+
+    def test_a_message_is_left_by_enter(self):
+        said = self.play([Key.RIGHT, Key.RIGHT, Key.ENTER], [b".P.\n\n! Hi\n"])
+        self.assertEqual(self.run_.sent, b"dx")
+        self.assertEqual(said[-2:], ["clear_news", playing.BROKEN_OFF])
+
+    def test_pages_of_a_message(self):
+        self.play([Key.ENTER, Key.SPACE, Key.ACT], [START], start=b"= T\n! Long\n", pages=3)
+        self.assertEqual(self.run_.sent, b"x")
+
+    def test_frames_are_paced(self):
+        self.play([Key.RIGHT], [b"1\n\n2\n\n3\n\n"])
+        first = self.screen.times[1]
+        self.assertEqual(self.screen.times[1:], [first, round(first + 0.1, 2), round(first + 0.2, 2)])
+
+    def test_a_won_board_stays(self):
+        self.play([Key.RIGHT], [b"1\n\n* level 1 done\n# level 2\n2\n\n"])
+        self.assertAlmostEqual(self.screen.times[2] - self.screen.times[1], 1.0)
+        self.assertEqual(self.progress.reached.call_args_list, [mock.call(1), mock.call(2)])
+
+    def test_a_game_that_was_won(self):
+        for ending in (b"* won\n", b"* the end\n"):
+            said = self.play([Key.RIGHT], [b"1\n\n* level 1 done\n" + ending])
+            self.assertEqual(said[-1], ending)
+            self.progress.won.assert_called_once()
+
+    def test_help(self):
+        said = self.play([Key.HELP])
+        self.assertIn("  P  Player", said[-2])
+        self.assertIn("  x  act", said[-2])
+        self.assertNotIn("  z  undo", said[-2])
+
+    def test_drawing_anew(self):
+        said = self.play([Key.DRAW_ANEW, Event(Kind.DRAW, None), Event(Kind.STOP, None)])
+        self.assertEqual(said[4:8], ["redraw", "redraw", playing.STOPPED, "redraw"])
+
+    def test_a_notice_is_told_once(self):
+        said = self.play([Key.RIGHT], [b".P.\n\n"], notice="You go on")
+        self.assertEqual(said.count("? You go on"), 1)
+        self.assertEqual(said[4], "? You go on")
+
+
+if __name__ == "__main__":
+    unittest.main()

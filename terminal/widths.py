@@ -1,0 +1,51 @@
+"""How many columns of a terminal a text covers, and texts in rows of so many columns."""
+import unicodedata
+
+MORE = "\u2026"
+
+
+def columns_of(character):
+    """How many columns the character covers: 0, 1 or 2."""
+    if character < "\u0300":
+        return 1
+    if unicodedata.category(character) in ("Mn", "Me", "Cf"):
+        return 0
+    return 2 if unicodedata.east_asian_width(character) in "WF" else 1
+
+
+def fitting(text, columns):
+    """How many of the first characters fit into so many columns."""
+    left = columns
+    for place, character in enumerate(text):
+        left -= columns_of(character)
+        if left < 0:
+            return place
+    return len(text)
+
+
+def cut(text, columns):
+    """The text; where it is too long for so many columns, its beginning and a mark."""
+    if fitting(text, columns) == len(text):
+        return text
+    return text[:fitting(text, columns - 1)] + MORE
+
+
+def break_of(text, columns):
+    """Where a text that is too long for a row is broken: after a blank, or else within a word."""
+    room = fitting(text, columns)
+    return text.rfind(" ", 0, room + 1) + 1 or max(room, 1)
+
+
+def wrapped(text, columns):
+    """The text in rows of so many columns, broken between words where that is possible."""
+    rows = []
+    while fitting(text, columns) < len(text):
+        place = break_of(text, columns)
+        rows.append(text[:place].rstrip(" "))
+        text = text[place:]
+    return rows + [text]
+
+
+def width(text):
+    """How many columns the text covers."""
+    return sum(map(columns_of, text))

@@ -1,0 +1,44 @@
+# Completions of play and ps_play for bash. Sourced by the shell, or found as share/bash-completion/completions/play.
+
+# The games and folders that begin with a word, in COMPREPLY.
+_play_games() {
+    local name
+    COMPREPLY=()
+    while IFS= read -r name; do
+        if [ -d "$name" ] || [[ $name == *.game || $name == *.txt ]]; then
+            COMPREPLY+=("$name")
+        fi
+    done < <(compgen -f -- "$1")
+    compopt -o filenames 2>/dev/null
+}
+
+_play() {
+    local word=${COMP_WORDS[COMP_CWORD]} before=${COMP_WORDS[COMP_CWORD - 1]} options
+    case $before in
+    --level | --view | --explain)
+        COMPREPLY=()
+        return
+        ;;
+    --keys | --sizes | --show)
+        mapfile -t COMPREPLY < <(compgen -f -- "$word")
+        compopt -o filenames 2>/dev/null
+        return
+        ;;
+    --install)
+        mapfile -t COMPREPLY < <(compgen -d -- "$word")
+        compopt -o filenames 2>/dev/null
+        return
+        ;;
+    esac
+    options='--level --fresh --plain --check --why --help --version'
+    case ${COMP_WORDS[0]##*/} in
+    ps_play) options+=' --keys --view --sizes --show --describe --explain' ;;
+    *) options+=' --prove --keep --install' ;;
+    esac
+    case $word in
+    -*) mapfile -t COMPREPLY < <(compgen -W "$options" -- "$word") ;;
+    *) _play_games "$word" ;;
+    esac
+}
+
+complete -F _play play ps_play
