@@ -172,7 +172,7 @@ def show(rows, columns):
 def main(words):
     words = [word for word in words if word != "--"]
     if "--help" in words:
-        write("--level N\n")
+        write("      --level <N>  Begins at the Nth level\n")
     elif "--describe" in words:
         describe(words[1])
     elif "--view" in words:

@@ -54,7 +54,7 @@ class Sitting:
         except OSError:
             pass
 
-    def wait_for(self, text, seconds=5.0):
+    def wait_for(self, text, seconds=20.0):
         """Waits until the output has the text since the last call, and forgets it up to there."""
         end = time.monotonic() + seconds
         while text not in self.output:
@@ -68,7 +68,7 @@ class Sitting:
 
     def end(self):
         """Its status, and whether the terminal's attributes are as before."""
-        code = self.process.wait(5)
+        code = self.process.wait(20)
         return code, termios.tcgetattr(self.slave) == self.before
 
 
