@@ -129,6 +129,15 @@ class AtTerminalTest(unittest.TestCase):
         sitting.wait_for(b"line 1: TX1 Fault\r\n     1  FAULT \xc2\xb7[31m")
         self.assertEqual(sitting.end(), (1, True))
 
+    def test_a_player_that_fails(self):
+        pathlib.Path(self.game).write_text("title T\n\n####\n#Pf#\n####\n")
+        sitting = self.sit(self.game)
+        sitting.wait_for(b"#Pf#")
+        sitting.type(b"d")
+        sitting.wait_for(b"* broken off")
+        sitting.wait_for(b"cannot go on \xc2\xb7[31m")
+        self.assertEqual(sitting.end(), (1, True))
+
     def test_a_folder(self):
         sitting = self.sit(self.folder)
         sitting.wait_for(b"> small.game")
