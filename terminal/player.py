@@ -81,7 +81,7 @@ class Player:
     def begins_at_levels(self):
         """Whether it knows the option --level."""
         told = subprocess.run([self.path, "--help"], stdin=subprocess.DEVNULL, capture_output=True)
-        return b"--level" in told.stdout
+        return any(line.split()[:1] == [b"--level"] for line in told.stdout.splitlines())
 
 
 class Run:

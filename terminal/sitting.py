@@ -73,8 +73,8 @@ class Sitting:
             said = fault.said
         except OSError as error:
             said = f"cannot read game: {error.strerror}\n".encode()
-        self.console.write(harmless_lines(decoded(said)) + _BACK)
         self.events.drop_keys()
+        self.console.write(harmless_lines(decoded(said)) + _BACK)
         try:
             self._await_key()
         finally:

@@ -64,13 +64,14 @@ class ViewScreen:
         return is_turned
 
     def redraw(self):
-        """Draws all anew, on a terminal of the size that it has now."""
+        """Draws all anew, on a terminal of the size that it has now; nothing where nothing was drawn."""
         self._close()
         if self._message:
             self._message.resize(self._console.size())
             if self._standing.news.startswith(b"! "):
                 self._standing.news = self._page()
-        self._hand(b"")
+        if self._standing.lines():
+            self._open(self._console.size())
 
     def read(self, lines, events):
         """Shows pages of lines, and then again what stood before."""
@@ -90,9 +91,9 @@ class ViewScreen:
             self._view.hand(ending)
             self._close()
         except Fault:
-            self.give_up()
+            self._give_up()
 
-    def give_up(self):
+    def _give_up(self):
         """Leaves the terminal without a view."""
         self._view = None
         if self._standing.lines():

@@ -1,8 +1,7 @@
 #!/usr/bin/env -S python3 -I -S
 """A stand-in for the program ps_play, for tests of what is around it: small games on a grid, and a simple view.
 
-In a level P walks on `.`; `#` is a wall, `*` wins, `m` shows a message, and from `a` on the player slides to the right, cell by
-cell. `FAULT` in a text is a fault.
+In a level P walks on `.`; `#` is a wall, `*` wins, `m` shows a message, and from `a` on the player slides to the right, cell XX
 """
 import os
 import sys
@@ -98,6 +97,9 @@ class Game:
             write(f"* level {self.number} done\n")
             self.place += 1
             self.enter()
+        elif cell == "f":
+            sys.stderr.write("cannot go on \x1b[31m\n")
+            sys.exit(1)
         elif cell == "m":
             write("! Hello\n")
             self.waiting.append(lambda: None)
@@ -172,7 +174,7 @@ def show(rows, columns):
 def main(words):
     words = [word for word in words if word != "--"]
     if "--help" in words:
-        write("--level N\n")
+        write("      --level <N>  Begins at the Nth level\n")
     elif "--describe" in words:
         describe(words[1])
     elif "--view" in words:

@@ -54,7 +54,7 @@ class Sitting:
         except OSError:
             pass
 
-    def wait_for(self, text, seconds=5.0):
+    def wait_for(self, text, seconds=20.0):
         """Waits until the output has the text since the last call, and forgets it up to there."""
         end = time.monotonic() + seconds
         while text not in self.output:
@@ -68,7 +68,7 @@ class Sitting:
 
     def end(self):
         """Its status, and whether the terminal's attributes are as before."""
-        code = self.process.wait(5)
+        code = self.process.wait(20)
         return code, termios.tcgetattr(self.slave) == self.before
 
 
@@ -127,6 +127,15 @@ class AtTerminalTest(unittest.TestCase):
         pathlib.Path(self.game).write_text("FAULT")
         sitting = self.sit(self.game)
         sitting.wait_for(b"line 1: TX1 Fault\r\n     1  FAULT \xc2\xb7[31m")
+        self.assertEqual(sitting.end(), (1, True))
+
+    def test_a_player_that_fails(self):
+        pathlib.Path(self.game).write_text("title T\n\n####\n#Pf#\n####\n")
+        sitting = self.sit(self.game)
+        sitting.wait_for(b"#Pf#")
+        sitting.type(b"d")
+        sitting.wait_for(b"* broken off")
+        sitting.wait_for(b"cannot go on \xc2\xb7[31m")
         self.assertEqual(sitting.end(), (1, True))
 
     def test_a_folder(self):

@@ -98,6 +98,7 @@ class ViewScreenTest(unittest.TestCase):
         self.assertTrue(self.last().endswith(b"! a\xffb\n"))
 
     def test_leaving(self):
+        self.screen.redraw()
         self.screen.leave(b"* interrupted\n")
         self.assertEqual(FakeView.all, [])
         self.show(START)
