@@ -74,7 +74,7 @@ abbrev pub level_count : Game → ℕ
 level_count read = length (filter is_level read.entries)
 
 -- all of it. The members of an object are in the order of their names
-abbrev pub description : Game → List Declared → Data
+unfoldable pub description : Game → List Declared → Data
 description read names_declared =
     object (member (codes "glyphs") (array (items_of (map (glyph_told read.names names_declared) read.names.glyphs)))
     (member (codes "ignored_keys") (array (items_of (map string (ignored_keys read.options))))

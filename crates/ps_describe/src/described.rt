@@ -24,15 +24,23 @@ use ps_text::Source;
 use serde_json::{Value, json};
 use std::alloc::Global;
 
+/// The text of characters.
+fn text_of(alloc: Global, characters: &[char]) -> Result<String, Memory>
+    ensures { IfOk result (λ text. string_bytes text ≡ flat_map encode_utf8 characters.now) }
+{
+    let mut text = String::new(alloc);
+    for character in characters {
+        text.push(*character)?;
+    }
+    Ok(text)
+}
+
 /// The characters that show a Player, as a text.
 fn players_told(alloc: Global, names: &Names) -> Result<String, Memory>
     ensures { IfOk result (λ told. string_bytes told ≡ flat_map encode_utf8 (player_characters names.now)) }
 {
-    let mut told = String::new(alloc);
-    for character in player_characters(alloc, names)? {
-        told.push(character)?;
-    }
-    Ok(told)
+    let characters = player_characters(alloc, names)?;
+    text_of(alloc, &characters)
 }
 
 /// Puts a word last, if it is to be told.
@@ -72,6 +80,7 @@ fn levels_among(entries: &[Entry]) -> usize
 }
 
 /// What a game is, where its text declares these names.
+#[tactic(auto, unfolding(crate::specs::Descriptions::description))]
 fn description(alloc: Global, game: &Game, declared: &[Named<'_>]) -> Result<Value, Memory>
     ensures { IfOk result (λ told. view told ≡ description game.now (names_shown declared.now)) }
 {
@@ -90,6 +99,7 @@ fn description(alloc: Global, game: &Game, declared: &[Named<'_>]) -> Result<Val
 }
 
 /// What a game is, as a line; its text is that of a source.
+#[tactic(auto, using(crate::proofs::Texts::description_plain))]
 fn line_of(alloc: Global, source: &Source, game: &Game) -> Result<String, Memory>
     ensures { IfOk result (λ line. string_bytes line ≡ description_line source.now game.now) }
 {
