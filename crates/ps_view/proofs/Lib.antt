@@ -1,6 +1,6 @@
+pub mod Such
 pub mod Steps
 pub mod ShownRows
-pub mod Such
 pub mod HarmlessRows
 pub mod HarmlessViews
 pub mod Heights
@@ -8,3 +8,4 @@ pub mod Widths
 mod ViewRows
 pub mod OneSize
 pub mod Sight
+pub mod FrameRows
