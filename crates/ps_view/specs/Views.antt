@@ -130,7 +130,7 @@ corner_in view size frame changed =
 
 -- the cell that changed last, once the frame that has begun is shown
 abbrev pub changed_then : View → Cell
-changed_then view = changed_behind view.changed view.begun (first_changed view.frame view.begun)
+changed_then view = changed_behind view.changed (length view.begun) (first_changed view.frame view.begun)
 
 -- the view with the frame that has begun in place of the last one; what was told last is gone past
 abbrev pub with_frame : View → View
@@ -175,9 +175,13 @@ line_told view Row = quietly (with_row view view.line)
 
 -- bytes ---------------------------------------------------------------------------------------------------------------
 
+-- the view with more bytes in its line
+abbrev pub with_bytes : View → List ℕ → View
+with_bytes view bytes = record view { line = view.line ++ bytes }
+
 -- the view with one byte more in its line
 abbrev pub with_byte : View → ℕ → View
-with_byte view byte = record view { line = view.line ++ byte ∷ [] }
+with_byte view byte = with_bytes view (byte ∷ [])
 
 -- a byte of the output; behind the ending none is heard
 abbrev pub byte_step : View → ℕ → Step

@@ -9,6 +9,8 @@
 mod cells;
 mod changes;
 mod corners;
+mod frame_rows;
+mod frames;
 mod harmless_texts;
 mod heard_keys;
 mod laws;

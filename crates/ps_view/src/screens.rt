@@ -1,12 +1,14 @@
 //! What the rows of a terminal show.
 
 ghost use Rattle.std.specs.Prelude.{◌≡◌, ◌++◌, ◌∷◌, [], IfOk, OnOk};
+ghost use Rattle.ps_view.specs.Frames.{texts_of};
 ghost use Rattle.ps_view.specs.HarmlessTexts.{harmless_text};
 ghost use Rattle.ps_view.specs.Rows.{cut};
 ghost use Rattle.ps_view.specs.Screens.{keys_line, level_line, line_rows, news_rows, rows_below, screen_of, told_key};
 ghost use Rattle.ps_view.specs.ToldLines.{told_of};
 
 use crate::corners::Corner;
+use crate::frame_rows::FrameRow;
 use crate::harmless_texts::harmless_text;
 use crate::heard_keys::HeardKeys;
 use crate::lines::Line;
@@ -17,6 +19,7 @@ use crate::sizes::Size;
 use crate::texts::Text;
 use ps_model::Memory;
 use std::alloc::Global;
+use std::rc::Rc;
 
 /// What is told beside the board. Each line is empty until it comes; that of the keys tells those that are heard.
 #[derive(Drop)]
@@ -144,10 +147,10 @@ pub fn screen_of(
     alloc: Global,
     size: Size,
     corner: Corner,
-    frame: &[Text],
+    frame: &[Rc<FrameRow, Global>],
     told: &ToldLines,
 ) -> Result<Vec<Text>, Memory>
-    ensures { IfOk result (λ screen. screen.items ≡ screen_of size corner frame.now (told_of told.now)) }
+    ensures { IfOk result (λ screen. screen.items ≡ screen_of size corner (texts_of frame.now) (told_of told.now)) }
 {
     let mut below = rows_below(alloc, size, told)?;
     let rows = size.rows().saturating_sub(below.len());
