@@ -66,7 +66,7 @@ impl Model for TerminalView {
     ghost Value = { View };
 
     ghost view = { λ view. record {
-      game = record { players = view.frames.players };
+      game = record { players = view.frames.players; heard = view.told.heard };
       size = view.size;
       told = told_of view.told;
       frame = view.frames.last;
