@@ -14,9 +14,10 @@ use crate::harmless_texts::harmless_text;
 use crate::line_kinds::{LineKind, kind_of};
 use crate::lines::Line;
 use crate::row_shares::frame_rows;
-use crate::screens::{ToldLines, screen_of};
+use crate::screens::screen_of;
 use crate::sizes::Size;
 use crate::texts::Text;
+use crate::told_lines::ToldLines;
 use crate::viewed_games::ViewedGame;
 use ps_model::Memory;
 use std::alloc::Global;
@@ -62,14 +63,13 @@ pub struct TerminalView {
 impl Model for TerminalView {
     ghost use Rattle.ps_view.specs.Views.{View};
     ghost use Rattle.ps_view.specs.ToldGames.{known_of};
-    ghost use Rattle.ps_view.specs.ToldLines.{told_of};
 
     ghost Value = { View };
 
     ghost view = { λ view. record {
       game = known_of view.game;
       size = view.size;
-      told = told_of view.told;
+      told = view.told;
       frame = view.frame.items;
       corner = view.corner;
       changed = view.changed;
@@ -91,13 +91,7 @@ impl TerminalView {
             alloc,
             game,
             size,
-            told: ToldLines {
-                title: Line::new(alloc),
-                level: Line::new(alloc),
-                note: Line::new(alloc),
-                heard,
-                news: Line::new(alloc),
-            },
+            told: ToldLines::new(alloc, heard),
             frame: Vec::new(alloc),
             corner: FIRST_CORNER,
             changed: FIRST_CELL,
@@ -263,18 +257,14 @@ impl TerminalView {
     fn tell_title(&mut self)
         ensures { self.new ≡ (line_told self.old Title).view }
     {
-        mem::swap(&mut self.told.title, &mut self.line);
-        self.line.clear();
+        self.told.set_title(&mut self.line);
     }
 
     /// Keeps which level starts, and forgets the last frame.
     fn tell_level(&mut self)
         ensures { self.new ≡ (line_told self.old Level).view }
     {
-        mem::swap(&mut self.told.level, &mut self.line);
-        self.line.clear();
-        self.told.note.clear();
-        self.told.news.clear();
+        self.told.set_level(&mut self.line);
         self.frame.clear();
         self.corner = FIRST_CORNER;
         self.changed = FIRST_CELL;
@@ -285,9 +275,8 @@ impl TerminalView {
         ensures view { OnOk result (self.new ≡ (line_told self.old Message).view) }
         ensures added { OnOk result (orders.new ≡ orders.old ++ (line_told self.old Message).bytes) }
     {
-        mem::swap(&mut self.told.news, &mut self.line);
-        self.line.clear();
-        self.told.news.add(GO_ON)?;
+        self.line.add(GO_ON)?;
+        self.told.set_news(&mut self.line);
         self.draw(orders)
     }
 
@@ -295,8 +284,7 @@ impl TerminalView {
     fn tell_note(&mut self) -> Result<(), Memory>
         ensures { OnOk result (self.new ≡ (line_told self.old Note).view) }
     {
-        self.told.note.clear();
-        self.told.note.add(text_of(self.line.bytes()))?;
+        self.told.set_note(text_of(self.line.bytes()))?;
         self.line.clear();
         Ok(())
     }
@@ -306,8 +294,7 @@ impl TerminalView {
         ensures view { OnOk result (self.new ≡ (line_told self.old Question).view) }
         ensures added { OnOk result (orders.new ≡ orders.old ++ (line_told self.old Question).bytes) }
     {
-        self.told.news.clear();
-        self.told.news.add(text_of(self.line.bytes()))?;
+        self.told.tell_last(text_of(self.line.bytes()))?;
         self.line.clear();
         self.draw(orders)
     }
@@ -317,8 +304,7 @@ impl TerminalView {
         ensures view { OnOk result (self.new ≡ (line_told self.old Ending).view) }
         ensures added { OnOk result (orders.new ≡ orders.old ++ (line_told self.old Ending).bytes) }
     {
-        mem::swap(&mut self.told.news, &mut self.line);
-        self.line.clear();
+        self.told.set_news(&mut self.line);
         self.draw(orders)?;
         add_closing(self.alloc, self.screen.len(), orders)?;
         self.is_over = true;
@@ -346,7 +332,7 @@ impl TerminalView {
         mem::swap(&mut self.frame, &mut self.begun);
         self.begun.clear();
         self.line.clear();
-        self.told.news.clear();
+        self.told.clear_news();
         self.draw(orders)
     }
 
@@ -365,7 +351,13 @@ impl TerminalView {
         ensures view { OnOk result (self.new ≡ (drawn self.old).view) }
         ensures added { OnOk result (orders.new ≡ orders.old ++ (drawn self.old).bytes) }
     {
-        let screen = screen_of(self.alloc, self.size, self.corner, &self.frame, &self.told)?;
+        let screen = screen_of(
+            self.alloc,
+            self.size,
+            self.corner,
+            &self.frame,
+            &mut self.told,
+        )?;
         add_opening(self.is_open, orders)?;
         add_changes(self.alloc, &self.screen, &screen, orders)?;
         self.screen = screen;
