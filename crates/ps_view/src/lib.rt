@@ -25,6 +25,7 @@ mod screens;
 mod sizes;
 mod tellers;
 mod texts;
+mod told_lines;
 mod viewed;
 mod viewed_games;
 mod views;

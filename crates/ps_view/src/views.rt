@@ -16,9 +16,10 @@ use crate::frames::Frames;
 use crate::line_kinds::{LineKind, kind_of};
 use crate::lines::{Line, first_line};
 use crate::row_shares::frame_rows;
-use crate::screens::{ToldLines, screen_of};
+use crate::screens::screen_of;
 use crate::sizes::Size;
 use crate::texts::Text;
+use crate::told_lines::ToldLines;
 use crate::viewed_games::ViewedGame;
 use ps_model::Memory;
 use std::alloc::Global;
@@ -61,14 +62,13 @@ pub struct TerminalView {
 
 impl Model for TerminalView {
     ghost use Rattle.ps_view.specs.Views.{View};
-    ghost use Rattle.ps_view.specs.ToldLines.{told_of};
 
     ghost Value = { View };
 
     ghost view = { λ view. record {
       game = record { players = view.frames.players; heard = view.told.heard };
       size = view.size;
-      told = told_of view.told;
+      told = view.told;
       frame = view.frames.last;
       corner = view.corner;
       changed = view.changed;
@@ -89,13 +89,7 @@ impl TerminalView {
         TerminalView {
             alloc,
             size,
-            told: ToldLines {
-                title: Line::new(alloc),
-                level: Line::new(alloc),
-                note: Line::new(alloc),
-                heard,
-                news: Line::new(alloc),
-            },
+            told: ToldLines::new(alloc, heard),
             frames: Frames::new(alloc, game.players),
             corner: FIRST_CORNER,
             changed: FIRST_CELL,
@@ -285,18 +279,14 @@ impl TerminalView {
     fn tell_title(&mut self)
         ensures { self.new ≡ (line_told self.old Title).view }
     {
-        mem::swap(&mut self.told.title, &mut self.line);
-        self.line.clear();
+        self.told.set_title(&mut self.line);
     }
 
     /// Keeps which level starts, and forgets the last frame.
     fn tell_level(&mut self)
         ensures { self.new ≡ (line_told self.old Level).view }
     {
-        mem::swap(&mut self.told.level, &mut self.line);
-        self.line.clear();
-        self.told.note.clear();
-        self.told.news.clear();
+        self.told.set_level(&mut self.line);
         self.frames.forget();
         self.corner = FIRST_CORNER;
         self.changed = FIRST_CELL;
@@ -307,9 +297,8 @@ impl TerminalView {
         ensures view { OnOk result (self.new ≡ (line_told self.old Message).view) }
         ensures added { OnOk result (orders.new ≡ orders.old ++ (line_told self.old Message).bytes) }
     {
-        mem::swap(&mut self.told.news, &mut self.line);
-        self.line.clear();
-        self.told.news.add(GO_ON)?;
+        self.line.add(GO_ON)?;
+        self.told.set_news(&mut self.line);
         self.draw(orders)
     }
 
@@ -317,8 +306,7 @@ impl TerminalView {
     fn tell_note(&mut self) -> Result<(), Memory>
         ensures { OnOk result (self.new ≡ (line_told self.old Note).view) }
     {
-        self.told.note.clear();
-        self.told.note.add(text_of(self.line.bytes()))?;
+        self.told.set_note(text_of(self.line.bytes()))?;
         self.line.clear();
         Ok(())
     }
@@ -328,8 +316,7 @@ impl TerminalView {
         ensures view { OnOk result (self.new ≡ (line_told self.old Question).view) }
         ensures added { OnOk result (orders.new ≡ orders.old ++ (line_told self.old Question).bytes) }
     {
-        self.told.news.clear();
-        self.told.news.add(text_of(self.line.bytes()))?;
+        self.told.tell_last(text_of(self.line.bytes()))?;
         self.line.clear();
         self.draw(orders)
     }
@@ -339,8 +326,7 @@ impl TerminalView {
         ensures view { OnOk result (self.new ≡ (line_told self.old Ending).view) }
         ensures added { OnOk result (orders.new ≡ orders.old ++ (line_told self.old Ending).bytes) }
     {
-        mem::swap(&mut self.told.news, &mut self.line);
-        self.line.clear();
+        self.told.set_news(&mut self.line);
         self.draw(orders)?;
         add_closing(self.alloc, self.screen.len(), orders)?;
         self.is_over = true;
@@ -357,7 +343,7 @@ impl TerminalView {
         self.frames.end();
         self.corner = self.corner_in(self.size);
         self.line.clear();
-        self.told.news.clear();
+        self.told.clear_news();
         self.draw(orders)
     }
 
@@ -380,7 +366,7 @@ impl TerminalView {
             self.size,
             self.corner,
             self.frames.last(),
-            &self.told,
+            &mut self.told,
         )?;
         add_opening(self.is_open, orders)?;
         add_changes(self.alloc, &self.screen, &screen, orders)?;
