@@ -29,15 +29,15 @@ line_is_harmless : (columns : ℕ) (line : List ℕ) → IsHarmlessRow (cut colu
 line_is_harmless columns line = cut_is_harmless columns (harmless_text line) (text_is_harmless line)
 
 -- what is told last
-news_are_harmless : (size : Size) (news : List ℕ) → AreHarmlessRows (news_rows size news)
-news_are_harmless size news =
+news_are_harmless : (rows columns : ℕ) (news : List ℕ) → AreHarmlessRows (news_rows rows columns news)
+news_are_harmless rows columns news =
     let text : List ℕ = harmless_text news in
-    let rows : List (List ℕ) = wrapped size.columns (narrowed size.columns text) in
-    either AreHarmlessRows (most_news size == 1) (cut size.columns text ∷ []) (shortened (most_news size) rows)
-    (All-cons IsHarmlessRow (cut size.columns text) [] (line_is_harmless size.columns news) (All-nil IsHarmlessRow))
-    (shortened_are_harmless (most_news size) rows
-    (wrapped_is_harmless size.columns (narrowed size.columns text)
-    (narrowed_is_harmless size.columns text (text_is_harmless news))))
+    let most : ℕ = most_news rows in
+    let all : List (List ℕ) = wrapped columns (narrowed columns text) in
+    either AreHarmlessRows (most == 1) (cut columns text ∷ []) (shortened most all)
+    (All-cons IsHarmlessRow (cut columns text) [] (line_is_harmless columns news) (All-nil IsHarmlessRow))
+    (shortened_are_harmless most all
+    (wrapped_is_harmless columns (narrowed columns text) (narrowed_is_harmless columns text (text_is_harmless news))))
 
 lines_are_harmless : (columns : ℕ) (told : LinesBelow) → AreHarmlessRows (line_rows columns told)
 lines_are_harmless columns told =
@@ -48,22 +48,23 @@ lines_are_harmless columns told =
     (All-cons IsHarmlessRow (line level) (line keys ∷ []) (line_is_harmless columns level)
     (All-cons IsHarmlessRow (line keys) [] (line_is_harmless columns keys) (All-nil IsHarmlessRow)))
 
-below_is_harmless : (size : Size) (told : LinesBelow) → AreHarmlessRows (rows_below size told)
+below_is_harmless : (rows columns : ℕ) (told : LinesBelow) → AreHarmlessRows (rows_below rows columns told)
 unfolding rows_below
-below_is_harmless size told =
-    let lines : List (List ℕ) = line_rows size.columns told in
-    let news : List (List ℕ) = news_rows size told.news in
-    either AreHarmlessRows (has_lines size) (lines ++ news) (cond (length told.news == 0) [] news)
-    (All-append IsHarmlessRow lines news (lines_are_harmless size.columns told) (news_are_harmless size told.news))
-    (either AreHarmlessRows (length told.news == 0) [] news (All-nil IsHarmlessRow) (news_are_harmless size told.news))
+below_is_harmless rows columns told =
+    let lines : List (List ℕ) = line_rows columns told in
+    let news : List (List ℕ) = news_rows rows columns told.news in
+    either AreHarmlessRows (has_lines rows) (lines ++ news) (cond (length told.news == 0) [] news)
+    (All-append IsHarmlessRow lines news (lines_are_harmless columns told) (news_are_harmless rows columns told.news))
+    (either AreHarmlessRows (length told.news == 0) [] news (All-nil IsHarmlessRow)
+    (news_are_harmless rows columns told.news))
 
 -- a screen of a harmless frame
 screen_is_harmless : (size : Size) (corner : Corner) (frame : List (List ℕ)) (told : LinesBelow) →
     AreHarmlessRows frame → AreHarmlessRows (screen_of size corner frame told)
 screen_is_harmless size corner frame told are =
-    let below : List (List ℕ) = rows_below size told in
+    let below : List (List ℕ) = rows_below size.rows size.columns told in
     All-append IsHarmlessRow (frame_part (size.rows - length below) size.columns corner frame) below
-    (part_is_harmless (size.rows - length below) size.columns corner frame are) (below_is_harmless size told)
+    (part_is_harmless (size.rows - length below) size.columns corner frame are) (below_is_harmless size.rows size.columns told)
 
 -- a view whose rows have no orders
 record IsHarmless (view : View) : Type 0 where

@@ -38,11 +38,11 @@ few_by most row rows true is some = omega (arith, some)
 few_by most row rows false is some =
     let two : 2 ≤ most = grind (arith, nat_tests) in shortened_few most rows two
 
-news_few : (size : Size) (news : List ℕ) → length (news_rows size news) ≤ most_news size
-news_few size news =
+news_few : (rows columns : ℕ) (news : List ℕ) → 1 ≤ rows → length (news_rows rows columns news) ≤ most_news rows
+news_few rows columns news some =
     let text : List ℕ = harmless_text news in
-    few_by (most_news size) (cut size.columns text) (wrapped size.columns (narrowed size.columns text)) _ refl
-    (some_by size.rows _ refl size.tall)
+    few_by (most_news rows) (cut columns text) (wrapped columns (narrowed columns text)) _ refl
+    (some_by rows _ refl some)
 
 -- so there is a place for all that stands below a frame
 below_by : (rows : ℕ) (tall : Bool) (lines news : List (List ℕ)) (is_empty : Bool) → nat_le 8 rows ≡ tall →
@@ -54,16 +54,16 @@ below_by rows true lines news is_empty is three few =
 below_by rows false lines news true is three few = omega arith
 below_by rows false lines news false is three few = omega (arith, few)
 
-below_few : (size : Size) (told : LinesBelow) → length (rows_below size told) ≤ size.rows
+below_few : (rows columns : ℕ) (told : LinesBelow) → 1 ≤ rows → length (rows_below rows columns told) ≤ rows
 unfolding rows_below
-below_few size told =
-    below_by size.rows (has_lines size) (line_rows size.columns told) (news_rows size told.news) (length told.news == 0)
-    refl (omega arith) (news_few size told.news)
+below_few rows columns told some =
+    below_by rows (has_lines rows) (line_rows columns told) (news_rows rows columns told.news) (length told.news == 0)
+    refl (omega arith) (news_few rows columns told.news some)
 
 pub screens_fit : ScreensFit
 screens_fit size corner frame told =
-    let below : List (List ℕ) = rows_below size told in
-    let few = below_few size told in
+    let below : List (List ℕ) = rows_below size.rows size.columns told in
+    let few = below_few size.rows size.columns told size.tall in
     let part = frame_few (size.rows - length below) size.columns corner frame in
     rw (length-append (frame_part (size.rows - length below) size.columns corner frame) below)
     (omega (arith, few, part))

@@ -1,6 +1,6 @@
+pub mod Such
 pub mod Steps
 pub mod ShownRows
-pub mod Such
 pub mod HarmlessRows
 pub mod HarmlessViews
 pub mod Heights
@@ -9,3 +9,4 @@ pub mod WordRows
 mod ViewRows
 pub mod OneSize
 pub mod Sight
+pub mod FrameRows

@@ -1,11 +1,13 @@
 -- A view, bytes and pieces further; and lists that grow by one more.
 use Rattle.std.proofs.Common.{◌≡◌, ◌∙◌, ℕ, suc, zero, ◌+◌, ◌<◌, List, [], ◌∷◌, ◌++◌, length, take, get_or, refl, sym}
-use Rattle.std.proofs.Common.{ap}
-use Rattle.std.proofs.Common.{append_assoc, append-nil, arith}
-use Rattle.std.proofs.lemmas.List.{take_more}
+use Rattle.std.proofs.Common.{ap, ap₂, append_assoc, append-nil, arith, ◌≢◌, ◌==◌, Bool, true, false}
 use Rattle.std.specs.List.{flat_map, range_with_len}
-use Rattle.ps_view.specs.Views.{View, byte_step, handed_on, view_behind}
+use Rattle.std.proofs.lemmas.Bool.Decides.{nat_tests}
+use Rattle.ps_view.specs.LineFeeds.{EndsNoLine}
+use Rattle.ps_view.specs.LineKinds.{kind_of}
+use Rattle.ps_view.specs.Views.{View, Step, byte_step, handed_on, line_told, quietly, view_behind, with_byte, with_bytes}
 use Rattle.ps_view.specs.Pieces.{PiecesAreAsTheWhole, PiecesLeaveTheSame}
+use Rattle.ps_view.proofs.Such.{first_of, others_of}
 
 -- the view behind two pieces
 pub view_behind-append : PiecesLeaveTheSame
@@ -20,19 +22,88 @@ handed_on-append view (byte ∷ first) second =
     (handed_on-append (byte_step view byte).view first second)
     ∙ sym (append_assoc (byte_step view byte).bytes (handed_on (byte_step view byte).view first) _)
 
--- one byte more of a piece
-pub view_behind-more : (view : View) (bytes : List ℕ) (place : ℕ) → place < length bytes →
-    view_behind view (take (place + 1) bytes)
-    ≡ (byte_step (view_behind view (take place bytes)) (get_or bytes place 0)).view
-view_behind-more view bytes place within =
-    rw (take_more bytes place 0 within) (view_behind-append view (take place bytes) (get_or bytes place 0 ∷ []))
+-- behind the ending nothing is heard
+pub over_behind : (view : View) (bytes : List ℕ) → view.is_over ≡ true → view_behind view bytes ≡ view
+over_behind view [] over = refl
+over_behind view (byte ∷ bytes) over =
+    let same : byte_step view byte ≡ quietly view = rw over refl in
+    ap (λ (step : Step). view_behind step.view bytes) same ∙ over_behind view bytes over
 
-pub handed_on-more : (view : View) (bytes : List ℕ) (place : ℕ) → place < length bytes →
-    handed_on view (take (place + 1) bytes) ≡ handed_on view (take place bytes)
-    ++ (byte_step (view_behind view (take place bytes)) (get_or bytes place 0)).bytes
-handed_on-more view bytes place within =
-    rw (take_more bytes place 0 within) (handed_on-append view (take place bytes) (get_or bytes place 0 ∷ [])
-    ∙ ap (λ (more : List ℕ). handed_on view (take place bytes) ++ more) (append-nil _))
+pub over_handed_on : (view : View) (bytes : List ℕ) → view.is_over ≡ true → handed_on view bytes ≡ []
+over_handed_on view [] over = refl
+over_handed_on view (byte ∷ bytes) over =
+    let same : byte_step view byte ≡ quietly view = rw over refl in
+    ap (λ (step : Step). step.bytes ++ handed_on step.view bytes) same ∙ over_handed_on view bytes over
+
+-- bytes that end no line are gathered
+gathered : (view : View) (byte : ℕ) → view.is_over ≡ false → byte ≢ 10 →
+    byte_step view byte ≡ quietly (with_byte view byte)
+gathered view byte goes other =
+    let no : (byte == 10) ≡ false = grind (arith, nat_tests) in
+    ap₂ (λ (over ends : Bool). let step : Step = elim over [
+      | true ↦ quietly view
+      | false ↦ elim ends [
+        | true ↦ line_told view (kind_of view.line)
+        | false ↦ quietly (with_byte view byte)
+      ]
+    ] in step) goes no
+
+pub front_behind : (view : View) (bytes : List ℕ) → view.is_over ≡ false → EndsNoLine bytes →
+    view_behind view bytes ≡ with_bytes view bytes
+front_behind view [] goes none = ap (λ (line : List ℕ). let v : View = record view { line = line } in v) (sym (append-nil view.line))
+front_behind view (byte ∷ bytes) goes none =
+    let first = gathered view byte goes (first_of (λ (b : ℕ). b ≢ 10) byte bytes none) in
+    let others = others_of (λ (b : ℕ). b ≢ 10) byte bytes none in
+    ap (λ (step : Step). view_behind step.view bytes) first ∙ front_behind (with_byte view byte) bytes goes others
+    ∙ ap (λ (line : List ℕ). let v : View = record view { line = line } in v) (append_assoc view.line (byte ∷ []) bytes)
+
+pub front_handed_on : (view : View) (bytes : List ℕ) → view.is_over ≡ false → EndsNoLine bytes →
+    handed_on view bytes ≡ []
+front_handed_on view [] goes none = refl
+front_handed_on view (byte ∷ bytes) goes none =
+    let first = gathered view byte goes (first_of (λ (b : ℕ). b ≢ 10) byte bytes none) in
+    let others = others_of (λ (b : ℕ). b ≢ 10) byte bytes none in
+    ap (λ (step : Step). step.bytes ++ handed_on step.view bytes) first
+    ∙ front_handed_on (with_byte view byte) bytes goes others
+
+pub quiet_handed_on : (view : View) (bytes : List ℕ) (over : Bool) → view.is_over ≡ over → EndsNoLine bytes →
+    handed_on view bytes ≡ []
+quiet_handed_on view bytes true is none = over_handed_on view bytes is
+quiet_handed_on view bytes false is none = front_handed_on view bytes is none
+
+-- and a line feed tells the line
+ended : (view : View) → view.is_over ≡ false → byte_step view 10 ≡ line_told view (kind_of view.line)
+ended view goes = rw goes refl
+
+pub line_behind : (view : View) (bytes : List ℕ) → view.is_over ≡ false → EndsNoLine bytes →
+    view_behind view (bytes ++ 10 ∷ []) ≡ (line_told (with_bytes view bytes) (kind_of (view.line ++ bytes))).view
+line_behind view bytes goes none =
+    view_behind-append view bytes (10 ∷ [])
+    ∙ ap (λ (v : View). (byte_step v 10).view) (front_behind view bytes goes none)
+    ∙ ap (λ (step : Step). step.view) (ended (with_bytes view bytes) goes)
+
+pub line_handed_on : (view : View) (bytes : List ℕ) → view.is_over ≡ false → EndsNoLine bytes →
+    handed_on view (bytes ++ 10 ∷ []) ≡ (line_told (with_bytes view bytes) (kind_of (view.line ++ bytes))).bytes
+line_handed_on view bytes goes none =
+    handed_on-append view bytes (10 ∷ [])
+    ∙ ap (λ (orders : List ℕ). orders ++ handed_on (view_behind view bytes) (10 ∷ [])) (front_handed_on view bytes goes none)
+    ∙ append-nil (byte_step (view_behind view bytes) 10).bytes
+    ∙ ap (λ (v : View). (byte_step v 10).bytes) (front_behind view bytes goes none)
+    ∙ ap (λ (step : Step). step.bytes) (ended (with_bytes view bytes) goes)
+
+-- a line, and then others
+pub cut_behind : (view : View) (bytes line others : List ℕ) → bytes ≡ line ++ 10 ∷ others →
+    view_behind view bytes ≡ view_behind (view_behind view (line ++ 10 ∷ [])) others
+cut_behind view bytes line others is =
+    ap (view_behind view) (is ∙ sym (append_assoc line (10 ∷ []) others))
+    ∙ view_behind-append view (line ++ 10 ∷ []) others
+
+pub cut_handed_on : (view : View) (bytes line others : List ℕ) → bytes ≡ line ++ 10 ∷ others →
+    handed_on view bytes
+    ≡ handed_on view (line ++ 10 ∷ []) ++ handed_on (view_behind view (line ++ 10 ∷ [])) others
+cut_handed_on view bytes line others is =
+    ap (handed_on view) (is ∙ sym (append_assoc line (10 ∷ []) others))
+    ∙ handed_on-append view (line ++ 10 ∷ []) others
 
 -- what one more number brings
 flat_map_range_more : (f : ℕ → List ℕ) (a n j : ℕ) → a + n ≡ j →

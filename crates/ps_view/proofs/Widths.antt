@@ -196,14 +196,16 @@ frame_fits rows columns corner frame =
 -- screens -------------------------------------------------------------------------------------------------------------
 
 -- what is told last
-news_fit : (size : Size) (news : List ℕ) → All (λ row. covered row ≤ size.columns) (news_rows size news)
-news_fit size news =
-    let within : List ℕ → Type 0 = λ row. covered row ≤ size.columns in
+news_fit : (rows columns : ℕ) (news : List ℕ) → 1 ≤ columns →
+    All (λ row. covered row ≤ columns) (news_rows rows columns news)
+news_fit rows columns news some =
+    let within : List ℕ → Type 0 = λ row. covered row ≤ columns in
     let text : List ℕ = harmless_text news in
-    let rows : List (List ℕ) = wrapped size.columns (narrowed size.columns text) in
-    either (All within) (most_news size == 1) (cut size.columns text ∷ []) (shortened (most_news size) rows)
-    (All-cons within (cut size.columns text) [] (cut_fits size.columns text size.wide) (All-nil within))
-    (shortened_fit size.columns (most_news size) rows size.wide (wrapped_fits size.columns (narrowed size.columns text)))
+    let most : ℕ = most_news rows in
+    let all : List (List ℕ) = wrapped columns (narrowed columns text) in
+    either (All within) (most == 1) (cut columns text ∷ []) (shortened most all)
+    (All-cons within (cut columns text) [] (cut_fits columns text some) (All-nil within))
+    (shortened_fit columns most all some (wrapped_fits columns (narrowed columns text)))
 
 lines_fit : (columns : ℕ) (told : LinesBelow) → 1 ≤ columns → All (λ row. covered row ≤ columns) (line_rows columns told)
 lines_fit columns told some =
@@ -215,20 +217,22 @@ lines_fit columns told some =
     (All-cons within (line level) (line keys ∷ []) (cut_fits columns (harmless_text level) some)
     (All-cons within (line keys) [] (cut_fits columns (harmless_text keys) some) (All-nil within)))
 
-below_fits : (size : Size) (told : LinesBelow) → All (λ row. covered row ≤ size.columns) (rows_below size told)
+below_fits : (rows columns : ℕ) (told : LinesBelow) → 1 ≤ columns →
+    All (λ row. covered row ≤ columns) (rows_below rows columns told)
 unfolding rows_below
-below_fits size told =
-    let within : List ℕ → Type 0 = λ row. covered row ≤ size.columns in
-    let lines : List (List ℕ) = line_rows size.columns told in
-    let news : List (List ℕ) = news_rows size told.news in
-    either (All within) (has_lines size) (lines ++ news) (cond (length told.news == 0) [] news)
-    (All-append within lines news (lines_fit size.columns told size.wide) (news_fit size told.news))
-    (either (All within) (length told.news == 0) [] news (All-nil within) (news_fit size told.news))
+below_fits rows columns told some =
+    let within : List ℕ → Type 0 = λ row. covered row ≤ columns in
+    let lines : List (List ℕ) = line_rows columns told in
+    let news : List (List ℕ) = news_rows rows columns told.news in
+    let last : All within news = news_fit rows columns told.news some in
+    either (All within) (has_lines rows) (lines ++ news) (cond (length told.news == 0) [] news)
+    (All-append within lines news (lines_fit columns told some) last)
+    (either (All within) (length told.news == 0) [] news (All-nil within) last)
 
 pub rows_fit : RowsFit
 rows_fit size corner frame told =
     let columns : ℕ = size.columns in
     let within : List ℕ → Type 0 = λ row. covered row ≤ columns in
-    let below : List (List ℕ) = rows_below size told in
+    let below : List (List ℕ) = rows_below size.rows size.columns told in
     All-append within (frame_part (size.rows - length below) columns corner frame) below
-    (frame_fits (size.rows - length below) columns corner frame) (below_fits size told)
+    (frame_fits (size.rows - length below) columns corner frame) (below_fits size.rows size.columns told size.wide)

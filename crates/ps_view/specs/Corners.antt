@@ -112,6 +112,6 @@ first_changed before frame =
       column = alike nat_eq (row_in before row) (row_in frame row);
     }
 
--- the cell that changed last, where that one did in a frame, if one did
-abbrev pub changed_behind : Cell → List (List ℕ) → Cell → Cell
-changed_behind last frame changed = if changed.row == length frame then last else changed
+-- the cell that changed last, where that one did in a frame of so many rows, if one did
+abbrev pub changed_behind : Cell → ℕ → Cell → Cell
+changed_behind last rows changed = if changed.row == rows then last else changed

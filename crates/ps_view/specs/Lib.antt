@@ -4,8 +4,10 @@ pub mod Rows
 pub mod Players
 pub mod Corners
 pub mod Games
+pub mod Frames
 pub mod ToldGames
 pub mod LineKinds
+pub mod LineFeeds
 pub mod RowShares
 pub mod Screens
 pub mod ToldLines

@@ -42,23 +42,24 @@ line_rows columns told =
     cut columns (harmless_text told.title) ∷ cut columns (harmless_text (level_line told.level told.note))
     ∷ cut columns (harmless_text (keys_line told.heard)) ∷ []
 
--- the rows of what is told last: it goes on in the next row, if it may take more than one
-abbrev pub news_rows : Size → List ℕ → List (List ℕ)
-news_rows size news = let text : List ℕ = harmless_text news in
-    if most_news size == 1 then cut size.columns text ∷ []
-    else shortened (most_news size) (wrapped size.columns (narrowed size.columns text))
+-- the rows of what is told last, on a terminal of so many rows and columns: it goes on in the next row, if it may take more
+-- than one
+abbrev pub news_rows : ℕ → ℕ → List ℕ → List (List ℕ)
+news_rows rows columns news = let text : List ℕ = harmless_text news in
+    if most_news rows == 1 then cut columns text ∷ []
+    else shortened (most_news rows) (wrapped columns (narrowed columns text))
 
 -- the rows below a frame: the lines, and what is told last; where there is no room for the lines, that alone, if there is
 -- any
-unfoldable pub rows_below : Size → LinesBelow → List (List ℕ)
-rows_below size told =
-    if has_lines size then line_rows size.columns told ++ news_rows size told.news
-    else (if length told.news == 0 then [] else news_rows size told.news)
+unfoldable pub rows_below : ℕ → ℕ → LinesBelow → List (List ℕ)
+rows_below rows columns told =
+    if has_lines rows then line_rows columns told ++ news_rows rows columns told.news
+    else (if length told.news == 0 then [] else news_rows rows columns told.news)
 
 -- the rows of a terminal from the top, as far as they show something
 abbrev pub screen_of : Size → Corner → List (List ℕ) → LinesBelow → List (List ℕ)
 screen_of size corner frame told =
-    let below : List (List ℕ) = rows_below size told in
+    let below : List (List ℕ) = rows_below size.rows size.columns told in
     frame_part (size.rows - length below) size.columns corner frame ++ below
 
 -- a row is drawn where it shows something else than before

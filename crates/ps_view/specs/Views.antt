@@ -17,6 +17,7 @@ use Rattle.ps_view.specs.Corners.{corner_following, first_changed, changed_behin
 use Rattle.ps_view.specs.Games.{KnownGame}
 use Rattle.ps_view.specs.RowShares.{frame_rows}
 use Rattle.ps_view.specs.Screens.{LinesBelow, screen_of, changes}
+use Rattle.ps_view.specs.ToldLines.{at_level, last_told, noted, nothing_told, titled}
 
 -- a view: what it knows of the game; the size of the terminal; what is told beside the board; the rows of the last whole frame, as characters,
 -- the corner of the part of it that is shown, the cell that changed last, and the rows of the frame that has begun; the
@@ -53,7 +54,7 @@ abbrev pub blank_view : KnownGame → Size → View
 blank_view game size = record {
   game = game;
   size = size;
-  told = record { title = []; level = []; note = []; heard = game.heard; news = [] };
+  told = nothing_told game.heard;
   frame = [];
   corner = first_corner;
   changed = first_cell;
@@ -98,14 +99,14 @@ left step = record {
 -- the view with another title, on the way to the next line
 abbrev pub with_title : View → List ℕ → View
 with_title view title = record view {
-  told = let told : LinesBelow = view.told in record told { title = title };
+  told = titled view.told title;
   line = [];
 }
 
 -- the view with another level, of which no frame has come yet
 abbrev pub with_level : View → List ℕ → View
 with_level view level = record view {
-  told = let told : LinesBelow = view.told in record told { level = level; note = []; news = [] };
+  told = at_level view.told level;
   frame = [];
   corner = first_corner;
   changed = first_cell;
@@ -114,12 +115,12 @@ with_level view level = record view {
 
 -- the view with another note
 abbrev pub with_note : View → List ℕ → View
-with_note view note = record view { told = let told : LinesBelow = view.told in record told { note = note }; line = [] }
+with_note view note = record view { told = noted view.told note; line = [] }
 
 -- the view with other news
 abbrev pub with_news : View → List ℕ → View
 with_news view news = record view {
-  told = let told : LinesBelow = view.told in record told { news = news };
+  told = last_told view.told news;
   line = [];
 }
 
@@ -130,12 +131,12 @@ corner_in view size frame changed =
 
 -- the cell that changed last, once the frame that has begun is shown
 abbrev pub changed_then : View → Cell
-changed_then view = changed_behind view.changed view.begun (first_changed view.frame view.begun)
+changed_then view = changed_behind view.changed (length view.begun) (first_changed view.frame view.begun)
 
 -- the view with the frame that has begun in place of the last one; what was told last is gone past
 abbrev pub with_frame : View → View
 with_frame view = record view {
-  told = let told : LinesBelow = view.told in record told { news = [] };
+  told = last_told view.told [];
   frame = view.begun;
   corner = corner_in view view.size view.begun (changed_then view);
   changed = changed_then view;
@@ -175,9 +176,13 @@ line_told view Row = quietly (with_row view view.line)
 
 -- bytes ---------------------------------------------------------------------------------------------------------------
 
+-- the view with more bytes in its line
+abbrev pub with_bytes : View → List ℕ → View
+with_bytes view bytes = record view { line = view.line ++ bytes }
+
 -- the view with one byte more in its line
 abbrev pub with_byte : View → ℕ → View
-with_byte view byte = record view { line = view.line ++ byte ∷ [] }
+with_byte view byte = with_bytes view (byte ∷ [])
 
 -- a byte of the output; behind the ending none is heard
 abbrev pub byte_step : View → ℕ → Step

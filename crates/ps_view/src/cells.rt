@@ -2,13 +2,17 @@
 
 ghost use Rattle.std.specs.Prelude.{◌≡◌, ◌<◌, ◌≤◌, length, min, nat_eq};
 ghost use Rattle.std.specs.Str.{bytes_eq};
+ghost use Rattle.ps_view.specs.Frames.{texts_of};
 ghost use Rattle.ps_view.specs.Corners.{alike, cell_width, room_across, row_in, widest};
 
+use crate::frame_rows::FrameRow;
 use crate::harmless_texts::columns_of;
 use crate::texts::Text;
+use std::alloc::Global;
+use std::rc::Rc;
 
 /// How many columns the widest character of a row covers, so many at least.
-fn widest(least: usize, row: &[char]) -> usize
+pub fn widest(least: usize, row: &[char]) -> usize
     ensures widest { result ≡ widest least row.now }
     ensures least { least ≤ result }
 {
@@ -20,27 +24,37 @@ fn widest(least: usize, row: &[char]) -> usize
 }
 
 /// How many columns the widest character of a frame covers, one at least.
-fn cell_width(frame: &[Text]) -> usize
-    ensures width { result ≡ cell_width frame.now }
+fn cell_width(frame: &[Rc<FrameRow, Global>]) -> usize
+    ensures width { result ≡ cell_width (texts_of frame.now) }
     ensures some { 0 < result }
 {
     let mut columns = 1;
     for row in frame {
-        columns = widest(columns, row.characters());
+        columns = row.columns().max(columns);
     }
     columns
 }
 
 /// How many characters of a frame's row so many columns have room for.
-pub fn room_across(columns: usize, frame: &[Text]) -> usize
-    ensures { result ≡ room_across columns frame.now }
+pub fn room_across(columns: usize, frame: &[Rc<FrameRow, Global>]) -> usize
+    ensures { result ≡ room_across columns (texts_of frame.now) }
 {
     columns / cell_width(frame)
 }
 
+/// The row of a screen, from 0.
+pub fn row_in(screen: &[Text], place: usize) -> &[char]
+    ensures { result.now ≡ row_in screen.now place }
+{
+    match screen.get(place) {
+        Some(row) => row.characters(),
+        None => &[],
+    }
+}
+
 /// The row of a frame, from 0.
-pub fn row_in(frame: &[Text], place: usize) -> &[char]
-    ensures { result.now ≡ row_in frame.now place }
+pub fn frame_row(frame: &[Rc<FrameRow, Global>], place: usize) -> &[char]
+    ensures { result.now ≡ row_in (texts_of frame.now) place }
 {
     match frame.get(place) {
         Some(row) => row.characters(),
@@ -49,12 +63,12 @@ pub fn row_in(frame: &[Text], place: usize) -> &[char]
 }
 
 /// In how many of their first rows two frames are alike.
-pub fn alike_rows(before: &[Text], frame: &[Text]) -> usize
-    ensures { result ≡ alike bytes_eq before.now frame.now }
+pub fn alike_rows(before: &[Rc<FrameRow, Global>], frame: &[Rc<FrameRow, Global>]) -> usize
+    ensures { result ≡ alike bytes_eq (texts_of before.now) (texts_of frame.now) }
 {
     let shorter = before.len().min(frame.len());
     for place in 0..shorter {
-        if before[place].characters() != frame[place].characters() {
+        if !before[place].is_like(&frame[place]) {
             return place;
         }
     }

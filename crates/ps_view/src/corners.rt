@@ -2,11 +2,14 @@
 
 ghost use Rattle.std.specs.Prelude.{◌≡◌};
 ghost use Rattle.ps_view.specs.Corners.{changed_behind, corner_following, corner_keeping, corner_showing};
-ghost use Rattle.ps_view.specs.Corners.{first_changed, kept_in, moved, moved_in, shown_in};
+ghost use Rattle.ps_view.specs.Corners.{kept_in, moved, moved_in, shown_in};
+ghost use Rattle.ps_view.specs.Frames.{texts_of};
 
-use crate::cells::{alike_characters, alike_rows, room_across, row_in};
-use crate::players::first_player;
-use crate::texts::Text;
+use crate::cells::{frame_row, room_across};
+use crate::frame_rows::FrameRow;
+use crate::frames::Frames;
+use std::alloc::Global;
+use std::rc::Rc;
 
 /// The upper left corner of the part of a frame that is shown: its row and its place in the row, from 0.
 #[derive(Clone, Copy, PartialEq, Eq, Debug)]
@@ -71,10 +74,16 @@ fn kept_in(room: usize, count: usize, place: usize, shown: usize) -> usize
 
 /// Where the part of a frame that began at a corner begins then, in so many rows of so many columns, so that it shows a
 /// cell: it moves by as little as does.
-fn corner_showing(rows: usize, columns: usize, corner: Corner, frame: &[Text], cell: Cell) -> Corner
-    ensures { result ≡ corner_showing rows columns corner frame.now cell }
+fn corner_showing(
+    rows: usize,
+    columns: usize,
+    corner: Corner,
+    frame: &[Rc<FrameRow, Global>],
+    cell: Cell,
+) -> Corner
+    ensures { result ≡ corner_showing rows columns corner (texts_of frame.now) cell }
 {
-    let across = row_in(frame, cell.row).len();
+    let across = frame_row(frame, cell.row).len();
     let room = room_across(columns, frame);
     Corner {
         top: moved_in(rows, frame.len(), corner.top, cell.row),
@@ -83,10 +92,16 @@ fn corner_showing(rows: usize, columns: usize, corner: Corner, frame: &[Text], c
 }
 
 /// The same where it keeps the cell away from its edges.
-fn corner_keeping(rows: usize, columns: usize, corner: Corner, frame: &[Text], cell: Cell) -> Corner
-    ensures { result ≡ corner_keeping rows columns corner frame.now cell }
+fn corner_keeping(
+    rows: usize,
+    columns: usize,
+    corner: Corner,
+    frame: &[Rc<FrameRow, Global>],
+    cell: Cell,
+) -> Corner
+    ensures { result ≡ corner_keeping rows columns corner (texts_of frame.now) cell }
 {
-    let across = row_in(frame, cell.row).len();
+    let across = frame_row(frame, cell.row).len();
     let room = room_across(columns, frame);
     Corner {
         top: kept_in(rows, frame.len(), corner.top, cell.row),
@@ -94,38 +109,29 @@ fn corner_keeping(rows: usize, columns: usize, corner: Corner, frame: &[Text], c
     }
 }
 
-/// Where the part of a frame is that keeps the player in view; where no cell shows the player, it shows the cell that
-/// changed last.
+/// Where the part of the last frame is that keeps the player in view; where no cell shows the player, it shows the cell
+/// that changed last.
 pub fn corner_following(
-    players: &[char],
+    frames: &Frames,
     rows: usize,
     columns: usize,
     corner: Corner,
-    frame: &[Text],
     changed: Cell,
 ) -> Corner
-    ensures { result ≡ corner_following players.now rows columns corner frame.now changed }
+    ensures { result ≡ corner_following frames.now.players rows columns corner frames.now.last changed }
 {
-    match first_player(players, frame) {
+    let frame = frames.last();
+    match frames.first_player() {
         Some(cell) => corner_keeping(rows, columns, corner, frame, cell),
         None => corner_showing(rows, columns, corner, frame, changed),
     }
 }
 
-/// The first cell of a frame that isn't as it was in another one; below the last row where each row is.
-pub fn first_changed(before: &[Text], frame: &[Text]) -> Cell
-    ensures { result ≡ first_changed before.now frame.now }
+/// The cell that changed last, where that one did in a frame of so many rows, if one did.
+pub fn changed_behind(last: Cell, rows: usize, changed: Cell) -> Cell
+    ensures { result ≡ changed_behind last rows changed }
 {
-    let row = alike_rows(before, frame);
-    let column = alike_characters(row_in(before, row), row_in(frame, row));
-    Cell { row, column }
-}
-
-/// The cell that changed last, where that one did in a frame, if one did.
-pub fn changed_behind(last: Cell, frame: &[Text], changed: Cell) -> Cell
-    ensures { result ≡ changed_behind last frame.now changed }
-{
-    if changed.row == frame.len() {
+    if changed.row == rows {
         return last;
     }
     changed

@@ -9,6 +9,8 @@
 mod cells;
 mod changes;
 mod corners;
+mod frame_rows;
+mod frames;
 mod harmless_texts;
 mod heard_keys;
 mod laws;
@@ -23,6 +25,7 @@ mod screens;
 mod sizes;
 mod tellers;
 mod texts;
+mod told_lines;
 mod viewed;
 mod viewed_games;
 mod views;

@@ -1,10 +1,21 @@
-//! Bytes that are gathered.
+//! Bytes of lines, and bytes that are gathered.
 
-ghost use Rattle.std.specs.Prelude.{◌≡◌, [], ◌∷◌, ◌++◌, OnErr, OnOk, encode_utf8};
+ghost use Rattle.std.specs.Prelude.{◌≡◌, [], ◌∷◌, ◌++◌, MatchOption, OnErr, OnOk, encode_utf8};
+ghost use Rattle.ps_view.specs.LineFeeds.{EndsNoLine, IsCutAt};
 
+use memchr::memchr;
 use ps_model::Memory;
 use std::alloc::Global;
 use std::marker::Model;
+
+/// The first line of some bytes, and what comes after the line feed that ends it.
+pub fn first_line(bytes: &[u8]) -> Option<(&[u8], &[u8])>
+    ensures { MatchOption result (EndsNoLine bytes.now) (λ cut. IsCutAt bytes.now cut.0.now cut.1.now) }
+{
+    let end = memchr(b'\n', bytes)?;
+    let (line, others) = bytes.split_at(end);
+    Some((line, &others[1..]))
+}
 
 /// The bytes of a line as far as it is made.
 #[derive(Drop)]

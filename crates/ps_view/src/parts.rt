@@ -2,14 +2,17 @@
 
 ghost use Rattle.std.specs.Prelude.{◌≡◌, ◌++◌, ◌∷◌, [], drop, map, take, IfOk, OnOk};
 ghost use Rattle.ps_view.specs.Corners.{edge, frame_part, part_from};
+ghost use Rattle.ps_view.specs.Frames.{texts_of};
 ghost use Rattle.ps_view.specs.Rows.{more_mark};
 
 use crate::cells::room_across;
 use crate::corners::{Corner, ROOM_WITH_EDGES, shown_in};
+use crate::frame_rows::FrameRow;
 use crate::rows::MORE_MARK;
 use crate::texts::Text;
 use ps_model::Memory;
 use std::alloc::Global;
+use std::rc::Rc;
 
 /// A character at the edge of a row: a mark where there is more, and else a blank.
 fn edge_character(more: bool) -> char
@@ -41,7 +44,7 @@ fn plain_part(alloc: Global, room: usize, place: usize, row: &[char]) -> Result<
 fn row_part(alloc: Global, room: usize, place: usize, row: &[char]) -> Result<Text, Memory>
     ensures { IfOk result (λ part. part ≡ part_from room place more_mark 32 row.now) }
 {
-    let mut part = Text::new(alloc);
+    let mut part = Text::with_room(alloc, room.min(row.len()))?;
     if row.len() <= room {
         part.add_all(row)?;
         return Ok(part);
@@ -79,11 +82,11 @@ fn add_row_parts(
     alloc: Global,
     room: usize,
     place: usize,
-    rows: &[Text],
+    rows: &[Rc<FrameRow, Global>],
     screen: &mut Vec<Text>,
 ) -> Result<(), Memory>
     ensures { OnOk result (screen.new.items
-        ≡ screen.old.items ++ map (part_from room place more_mark 32) rows.now) }
+        ≡ screen.old.items ++ map (part_from room place more_mark 32) (texts_of rows.now)) }
 {
     for row in rows {
         add_row_part(alloc, room, place, row.characters(), screen)?;
@@ -101,10 +104,11 @@ pub fn add_frame_part(
     rows: usize,
     columns: usize,
     corner: Corner,
-    frame: &[Text],
+    frame: &[Rc<FrameRow, Global>],
     screen: &mut Vec<Text>,
 ) -> Result<(), Memory>
-    ensures { OnOk result (screen.new.items ≡ screen.old.items ++ frame_part rows columns corner frame.now) }
+    ensures { OnOk result (screen.new.items
+        ≡ screen.old.items ++ frame_part rows columns corner (texts_of frame.now)) }
 {
     let room = room_across(columns, frame);
     if frame.len() <= rows {

@@ -1,10 +1,9 @@
 //! The cell of a frame that shows the player.
 
 ghost use Rattle.std.specs.Prelude.{◌≡◌, None};
-ghost use Rattle.ps_view.specs.Players.{cell_at, first_cell_of, first_player, player_place, shows_player};
+ghost use Rattle.ps_view.specs.Players.{cell_at, first_cell_of, player_place, shows_player};
 
 use crate::corners::Cell;
-use crate::texts::Text;
 
 /// Whether a character shows the player.
 fn shows_player(players: &[char], character: char) -> bool
@@ -14,7 +13,7 @@ fn shows_player(players: &[char], character: char) -> bool
 }
 
 /// The first place of a row whose character shows the player.
-fn player_place(players: &[char], row: &[char]) -> Option<usize>
+pub fn player_place(players: &[char], row: &[char]) -> Option<usize>
     ensures { result ≡ player_place players.now row.now }
 {
     row.iter()
@@ -22,7 +21,7 @@ fn player_place(players: &[char], row: &[char]) -> Option<usize>
 }
 
 /// The cell at a place of the row with that number.
-fn cell_at(row: usize, place: Option<usize>) -> Option<Cell>
+pub fn cell_at(row: usize, place: Option<usize>) -> Option<Cell>
     ensures { result ≡ cell_at row place }
 {
     match place {
@@ -32,7 +31,7 @@ fn cell_at(row: usize, place: Option<usize>) -> Option<Cell>
 }
 
 /// The first of two cells, column by column, where the second is in a row below the first.
-fn first_cell_of(upper: Option<Cell>, lower: Option<Cell>) -> Option<Cell>
+pub fn first_cell_of(upper: Option<Cell>, lower: Option<Cell>) -> Option<Cell>
     ensures { result ≡ first_cell_of upper lower }
 {
     let Some(first) = upper else {
@@ -42,16 +41,4 @@ fn first_cell_of(upper: Option<Cell>, lower: Option<Cell>) -> Option<Cell>
         Some(second) if second.column < first.column => lower,
         _ => upper,
     }
-}
-
-/// The first cell of a frame that shows the player: that of the leftmost column that has one, and there the topmost.
-pub fn first_player(players: &[char], frame: &[Text]) -> Option<Cell>
-    ensures { result ≡ first_player players.now frame.now }
-{
-    let mut first = None;
-    for number in 0..frame.len() {
-        let place = player_place(players, frame[number].characters());
-        first = first_cell_of(first, cell_at(number, place));
-    }
-    first
 }

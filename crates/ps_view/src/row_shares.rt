@@ -1,6 +1,6 @@
 //! How the rows of a terminal are shared out between a frame and the lines below it.
 
-ghost use Rattle.std.specs.Prelude.{◌≡◌, ◌<◌};
+ghost use Rattle.std.specs.Prelude.{◌≡◌};
 ghost use Rattle.ps_view.specs.RowShares.{frame_rows, has_lines, most_news};
 
 use crate::sizes::Size;
@@ -14,11 +14,11 @@ const ROWS_BELOW: usize = 4;
 /// How many rows are kept from what is told last: three lines, and three rows of a frame.
 const ROWS_KEPT: usize = 6;
 
-/// Whether there is room for the lines of the title, the level and the keys.
-pub fn has_lines(size: Size) -> bool
-    ensures { result ≡ has_lines size }
+/// Whether so many rows have room for the lines of the title, the level and the keys.
+pub fn has_lines(rows: usize) -> bool
+    ensures { result ≡ has_lines rows }
 {
-    size.rows() >= ROWS_WITH_LINES
+    rows >= ROWS_WITH_LINES
 }
 
 /// How many rows a frame has where nothing is told last.
@@ -31,13 +31,12 @@ pub fn frame_rows(size: Size) -> usize
     size.rows()
 }
 
-/// How many rows may be taken by what is told last, at least one.
-pub fn most_news(size: Size) -> usize
-    ensures most { result ≡ most_news size }
-    ensures some { 0 < result }
+/// How many of so many rows may be taken by what is told last.
+pub fn most_news(rows: usize) -> usize
+    ensures { result ≡ most_news rows }
 {
-    if size.rows() >= ROWS_WITH_LINES {
-        return size.rows() - ROWS_KEPT;
+    if rows >= ROWS_WITH_LINES {
+        return rows - ROWS_KEPT;
     }
-    size.rows() - size.rows() / 2
+    rows - rows / 2
 }

@@ -112,6 +112,21 @@ fn add_row(alloc: Global, characters: &[char], rows: &mut Vec<Text>) -> Result<(
     Ok(())
 }
 
+/// The same rows once more.
+///
+/// # Errors
+///
+/// `Memory`.
+pub fn copies(alloc: Global, rows: &[Text]) -> Result<Vec<Text>, Memory>
+    ensures { IfOk result (λ copies. copies.items ≡ rows.now) }
+{
+    let mut copies = Vec::with_capacity(alloc, rows.len())?;
+    for row in rows {
+        add_row(alloc, row.characters(), &mut copies)?;
+    }
+    Ok(copies)
+}
+
 /// A text in as many rows of so many columns as it takes, at least one, broken between words.
 ///
 /// # Errors

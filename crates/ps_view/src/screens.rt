@@ -1,12 +1,13 @@
 //! What the rows of a terminal show.
 
 ghost use Rattle.std.specs.Prelude.{◌≡◌, ◌++◌, ◌∷◌, [], IfOk, OnOk};
+ghost use Rattle.ps_view.specs.Frames.{texts_of};
 ghost use Rattle.ps_view.specs.HarmlessTexts.{harmless_text};
 ghost use Rattle.ps_view.specs.Rows.{cut};
 ghost use Rattle.ps_view.specs.Screens.{keys_line, level_line, line_rows, news_rows, rows_below, screen_of, told_key};
-ghost use Rattle.ps_view.specs.ToldLines.{told_of};
 
 use crate::corners::Corner;
+use crate::frame_rows::FrameRow;
 use crate::harmless_texts::harmless_text;
 use crate::heard_keys::HeardKeys;
 use crate::lines::Line;
@@ -15,18 +16,10 @@ use crate::row_shares::{has_lines, most_news};
 use crate::rows::{cut, narrowed, shortened, wrapped};
 use crate::sizes::Size;
 use crate::texts::Text;
+use crate::told_lines::ToldLines;
 use ps_model::Memory;
 use std::alloc::Global;
-
-/// What is told beside the board. Each line is empty until it comes; that of the keys tells those that are heard.
-#[derive(Drop)]
-pub struct ToldLines {
-    pub title: Line,
-    pub level: Line,
-    pub note: Line,
-    pub heard: HeardKeys,
-    pub news: Line,
-}
+use std::rc::Rc;
 
 /// The line of the level, and after it the note, if there is one.
 fn level_line(alloc: Global, level: &[u8], note: &[u8]) -> Result<Line, Memory>
@@ -91,47 +84,52 @@ fn one_row(alloc: Global, columns: usize, text: Text) -> Result<Vec<Text>, Memor
 }
 
 /// The rows of what is told last.
-fn news_rows(alloc: Global, size: Size, news: &[u8]) -> Result<Vec<Text>, Memory>
-    ensures { IfOk result (λ rows. rows.items ≡ news_rows size news.now) }
+fn news_rows(alloc: Global, rows: usize, columns: usize, news: &[u8]) -> Result<Vec<Text>, Memory>
+    ensures { IfOk result (λ shown. shown.items ≡ news_rows rows columns news.now) }
 {
     let text = harmless_text(alloc, news)?;
-    let most = most_news(size);
+    let most = most_news(rows);
     if most == 1 {
-        return one_row(alloc, size.columns(), text);
+        return one_row(alloc, columns, text);
     }
-    let text = narrowed(alloc, size.columns(), text.characters())?;
-    let rows = wrapped(alloc, size.columns(), text.characters())?;
-    shortened(alloc, most, rows)
+    let text = narrowed(alloc, columns, text.characters())?;
+    let all = wrapped(alloc, columns, text.characters())?;
+    shortened(alloc, most, all)
 }
 
 /// The rows of the lines of the title, the level and the keys.
 fn line_rows(alloc: Global, columns: usize, told: &ToldLines) -> Result<Vec<Text>, Memory>
-    ensures { IfOk result (λ rows. rows.items ≡ line_rows columns (told_of told.now)) }
+    ensures { IfOk result (λ rows. rows.items ≡ line_rows columns told.now) }
 {
     let mut rows = Vec::new(alloc);
-    add_line(alloc, columns, told.title.bytes(), &mut rows)?;
-    let level = level_line(alloc, told.level.bytes(), told.note.bytes())?;
+    add_line(alloc, columns, told.title(), &mut rows)?;
+    let level = level_line(alloc, told.level(), told.note())?;
     add_line(alloc, columns, level.bytes(), &mut rows)?;
-    let keys = keys_line(alloc, told.heard)?;
+    let keys = keys_line(alloc, told.heard())?;
     add_line(alloc, columns, keys.bytes(), &mut rows)?;
     Ok(rows)
 }
 
 /// The rows below a frame.
+///
+/// # Errors
+///
+/// `Memory`.
 #[tactic(auto, unfolding(crate::specs::Screens::rows_below))]
-fn rows_below(alloc: Global, size: Size, told: &ToldLines) -> Result<Vec<Text>, Memory>
-    ensures { IfOk result (λ below. below.items ≡ rows_below size (told_of told.now)) }
+pub fn rows_below(alloc: Global, size: Size, told: &ToldLines) -> Result<Vec<Text>, Memory>
+    ensures { IfOk result (λ below. below.items ≡ rows_below size.rows size.columns told.now) }
 {
-    if has_lines(size) {
-        let mut below = line_rows(alloc, size.columns(), told)?;
-        let mut news = news_rows(alloc, size, told.news.bytes())?;
+    let (rows, columns) = (size.rows(), size.columns());
+    if has_lines(rows) {
+        let mut below = line_rows(alloc, columns, told)?;
+        let mut news = news_rows(alloc, rows, columns, told.news())?;
         below.append(&mut news)?;
         return Ok(below);
     }
-    if told.news.bytes().is_empty() {
+    if told.news().is_empty() {
         return Ok(Vec::new(alloc));
     }
-    news_rows(alloc, size, told.news.bytes())
+    news_rows(alloc, rows, columns, told.news())
 }
 
 /// What the rows of a terminal show from the top: a frame, and the lines below it. There are at most as many as the
@@ -144,12 +142,14 @@ pub fn screen_of(
     alloc: Global,
     size: Size,
     corner: Corner,
-    frame: &[Text],
-    told: &ToldLines,
+    frame: &[Rc<FrameRow, Global>],
+    told: &mut ToldLines,
 ) -> Result<Vec<Text>, Memory>
-    ensures { IfOk result (λ screen. screen.items ≡ screen_of size corner frame.now (told_of told.now)) }
+    ensures screen { IfOk result (λ screen.
+        screen.items ≡ screen_of size corner (texts_of frame.now) told.old) }
+    ensures same { told.new ≡ told.old }
 {
-    let mut below = rows_below(alloc, size, told)?;
+    let mut below = told.rows(alloc, size)?;
     let rows = size.rows().saturating_sub(below.len());
     let mut screen = Vec::new(alloc);
     add_frame_part(alloc, rows, size.columns(), corner, frame, &mut screen)?;

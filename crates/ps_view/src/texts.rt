@@ -1,6 +1,6 @@
 //! Characters that are gathered.
 
-ghost use Rattle.std.specs.Prelude.{◌≡◌, [], ◌∷◌, ◌++◌, OnOk};
+ghost use Rattle.std.specs.Prelude.{◌≡◌, [], ◌∷◌, ◌++◌, IfOk, OnOk};
 
 use ps_model::Memory;
 use std::alloc::Global;
@@ -28,6 +28,18 @@ impl Text {
         Text {
             characters: Vec::new(alloc),
         }
+    }
+
+    /// Without characters, and with room for so many.
+    ///
+    /// # Errors
+    ///
+    /// `Memory`.
+    pub fn with_room(alloc: Global, count: usize) -> Result<Text, Memory>
+        ensures { IfOk result (λ text. text ≡ []) }
+    {
+        let characters = Vec::with_capacity(alloc, count)?;
+        Ok(Text { characters })
     }
 
     /// These characters.

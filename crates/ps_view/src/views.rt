@@ -1,22 +1,25 @@
 //! A view in the making: the bytes of an output, one after the other.
 
-ghost use Rattle.std.specs.Prelude.{◌≡◌, ◌++◌, List, ℕ, OnOk, false, true, ◌==◌, ◌&&◌};
+ghost use Rattle.std.specs.Prelude.{◌≡◌, ◌++◌, [], ◌∷◌, List, ℕ, OnOk, false, true, ◌==◌, ◌&&◌};
 ghost use Rattle.ps_view.specs.LineKinds.{kind_of};
+ghost use Rattle.ps_view.specs.LineFeeds.{EndsNoLine};
 ghost use Rattle.ps_view.specs.ToldGames.{known_of};
-ghost use Rattle.ps_view.specs.Views.{anew, blank_view, byte_step, corner_in, drawn, handed_on, is_size, left};
-ghost use Rattle.ps_view.specs.Views.{line_told, piece_step, size_step, text_of, told_step, view_behind, with_size};
+ghost use Rattle.ps_view.specs.Views.{anew, blank_view, corner_in, drawn, handed_on, is_size, left};
+ghost use Rattle.ps_view.specs.Views.{line_told, piece_step, size_step, text_of, told_step, view_behind, with_bytes};
+ghost use Rattle.ps_view.specs.Views.{with_size};
 ghost use Rattle.ps_view.specs.declared.line_kinds.LineKind.TheVariants.{Title, Level, Message, Note, Question};
 ghost use Rattle.ps_view.specs.declared.line_kinds.LineKind.TheVariants.{Ending, Empty, Row};
 
 use crate::changes::{add_changes, add_closing, add_opening};
-use crate::corners::{Cell, Corner, changed_behind, corner_following, first_changed};
-use crate::harmless_texts::harmless_text;
+use crate::corners::{Cell, Corner, changed_behind, corner_following};
+use crate::frames::Frames;
 use crate::line_kinds::{LineKind, kind_of};
-use crate::lines::Line;
+use crate::lines::{Line, first_line};
 use crate::row_shares::frame_rows;
-use crate::screens::{ToldLines, screen_of};
+use crate::screens::screen_of;
 use crate::sizes::Size;
 use crate::texts::Text;
+use crate::told_lines::ToldLines;
 use crate::viewed_games::ViewedGame;
 use ps_model::Memory;
 use std::alloc::Global;
@@ -46,13 +49,11 @@ fn text_of(line: &[u8]) -> &[u8]
 #[derive(Drop)]
 pub struct TerminalView {
     alloc: Global,
-    game: ViewedGame,
     size: Size,
     told: ToldLines,
-    frame: Vec<Text>,
+    frames: Frames,
     corner: Corner,
     changed: Cell,
-    begun: Vec<Text>,
     line: Line,
     screen: Vec<Text>,
     is_open: bool,
@@ -61,19 +62,17 @@ pub struct TerminalView {
 
 impl Model for TerminalView {
     ghost use Rattle.ps_view.specs.Views.{View};
-    ghost use Rattle.ps_view.specs.ToldGames.{known_of};
-    ghost use Rattle.ps_view.specs.ToldLines.{told_of};
 
     ghost Value = { View };
 
     ghost view = { λ view. record {
-      game = known_of view.game;
+      game = record { players = view.frames.players; heard = view.told.heard };
       size = view.size;
-      told = told_of view.told;
-      frame = view.frame.items;
+      told = view.told;
+      frame = view.frames.last;
       corner = view.corner;
       changed = view.changed;
-      begun = view.begun.items;
+      begun = view.frames.begun;
       line = view.line;
       screen = view.screen.items;
       is_open = view.is_open;
@@ -89,19 +88,11 @@ impl TerminalView {
         let heard = game.heard;
         TerminalView {
             alloc,
-            game,
             size,
-            told: ToldLines {
-                title: Line::new(alloc),
-                level: Line::new(alloc),
-                note: Line::new(alloc),
-                heard,
-                news: Line::new(alloc),
-            },
-            frame: Vec::new(alloc),
+            told: ToldLines::new(alloc, heard),
+            frames: Frames::new(alloc, game.players),
             corner: FIRST_CORNER,
             changed: FIRST_CELL,
-            begun: Vec::new(alloc),
             line: Line::new(alloc),
             screen: Vec::new(alloc),
             is_open: false,
@@ -132,21 +123,24 @@ impl TerminalView {
         self.size.rows() == size.rows() && self.size.columns() == size.columns()
     }
 
+    /// Where the part of the last frame is in a terminal of that size.
+    fn corner_in(&self, size: Size) -> Corner
+        ensures { result ≡ corner_in self.now size self.now.frame self.now.changed }
+    {
+        corner_following(
+            &self.frames,
+            frame_rows(size),
+            size.columns(),
+            self.corner,
+            self.changed,
+        )
+    }
+
     /// Takes another size, of which nothing is drawn yet.
     fn set_size(&mut self, size: Size)
         ensures { self.new ≡ with_size self.old size }
     {
-        let rows = frame_rows(size);
-        let columns = size.columns();
-        let players = &self.game.players;
-        self.corner = corner_following(
-            players,
-            rows,
-            columns,
-            self.corner,
-            &self.frame,
-            self.changed,
-        );
+        self.corner = self.corner_in(size);
         self.size = size;
         self.screen.clear();
         self.is_open = false;
@@ -211,24 +205,46 @@ impl TerminalView {
         ensures view { OnOk result (self.new ≡ view_behind self.old bytes.now) }
         ensures added { OnOk result (orders.new ≡ orders.old ++ handed_on self.old bytes.now) }
     {
-        for byte in bytes {
-            self.take_byte(*byte, orders)?;
+        let mut rest = bytes;
+        while let Some((line, others)) = first_line(rest) {
+            self.take_line(line, orders)?;
+            rest = others;
         }
+        self.take_front(rest)?;
         Ok(())
     }
 
-    /// Takes a byte of the output; behind the ending none is heard.
-    fn take_byte(&mut self, byte: u8, orders: &mut Line) -> Result<(), Memory>
-        ensures view { OnOk result (self.new ≡ (byte_step self.old byte).view) }
-        ensures added { OnOk result (orders.new ≡ orders.old ++ (byte_step self.old byte).bytes) }
+    /// Takes the last bytes of a line, and the line feed that ends it; behind the ending none is heard.
+    fn take_line(&mut self, bytes: &[u8], orders: &mut Line) -> Result<(), Memory>
+        requires { EndsNoLine bytes.now }
+        ensures view { OnOk result (self.new ≡ view_behind self.old (bytes.now ++ 10 ∷ [])) }
+        ensures added { OnOk result (orders.new ≡ orders.old ++ handed_on self.old (bytes.now ++ 10 ∷ [])) }
     {
         if self.is_over {
             return Ok(());
         }
-        if byte == b'\n' {
-            return self.end_line(orders);
+        self.gather(bytes)?;
+        self.end_line(orders)
+    }
+
+    /// Gathers bytes of a line.
+    fn gather(&mut self, bytes: &[u8]) -> Result<(), Memory>
+        ensures { OnOk result (self.new ≡ with_bytes self.old bytes.now) }
+    {
+        self.line.add(bytes)?;
+        Ok(())
+    }
+
+    /// Takes bytes of a line that goes on; behind the ending none is heard.
+    fn take_front(&mut self, bytes: &[u8]) -> Result<(), Memory>
+        requires { EndsNoLine bytes.now }
+        ensures { OnOk result (self.new ≡ view_behind self.old bytes.now) }
+    {
+        if self.is_over {
+            return Ok(());
         }
-        self.line.add_byte(byte)
+        self.gather(bytes)?;
+        Ok(())
     }
 
     /// Tells the line that has ended.
@@ -263,19 +279,15 @@ impl TerminalView {
     fn tell_title(&mut self)
         ensures { self.new ≡ (line_told self.old Title).view }
     {
-        mem::swap(&mut self.told.title, &mut self.line);
-        self.line.clear();
+        self.told.set_title(&mut self.line);
     }
 
     /// Keeps which level starts, and forgets the last frame.
     fn tell_level(&mut self)
         ensures { self.new ≡ (line_told self.old Level).view }
     {
-        mem::swap(&mut self.told.level, &mut self.line);
-        self.line.clear();
-        self.told.note.clear();
-        self.told.news.clear();
-        self.frame.clear();
+        self.told.set_level(&mut self.line);
+        self.frames.forget();
         self.corner = FIRST_CORNER;
         self.changed = FIRST_CELL;
     }
@@ -285,9 +297,8 @@ impl TerminalView {
         ensures view { OnOk result (self.new ≡ (line_told self.old Message).view) }
         ensures added { OnOk result (orders.new ≡ orders.old ++ (line_told self.old Message).bytes) }
     {
-        mem::swap(&mut self.told.news, &mut self.line);
-        self.line.clear();
-        self.told.news.add(GO_ON)?;
+        self.line.add(GO_ON)?;
+        self.told.set_news(&mut self.line);
         self.draw(orders)
     }
 
@@ -295,8 +306,7 @@ impl TerminalView {
     fn tell_note(&mut self) -> Result<(), Memory>
         ensures { OnOk result (self.new ≡ (line_told self.old Note).view) }
     {
-        self.told.note.clear();
-        self.told.note.add(text_of(self.line.bytes()))?;
+        self.told.set_note(text_of(self.line.bytes()))?;
         self.line.clear();
         Ok(())
     }
@@ -306,8 +316,7 @@ impl TerminalView {
         ensures view { OnOk result (self.new ≡ (line_told self.old Question).view) }
         ensures added { OnOk result (orders.new ≡ orders.old ++ (line_told self.old Question).bytes) }
     {
-        self.told.news.clear();
-        self.told.news.add(text_of(self.line.bytes()))?;
+        self.told.tell_last(text_of(self.line.bytes()))?;
         self.line.clear();
         self.draw(orders)
     }
@@ -317,8 +326,7 @@ impl TerminalView {
         ensures view { OnOk result (self.new ≡ (line_told self.old Ending).view) }
         ensures added { OnOk result (orders.new ≡ orders.old ++ (line_told self.old Ending).bytes) }
     {
-        mem::swap(&mut self.told.news, &mut self.line);
-        self.line.clear();
+        self.told.set_news(&mut self.line);
         self.draw(orders)?;
         add_closing(self.alloc, self.screen.len(), orders)?;
         self.is_over = true;
@@ -330,23 +338,12 @@ impl TerminalView {
         ensures view { OnOk result (self.new ≡ (line_told self.old Empty).view) }
         ensures added { OnOk result (orders.new ≡ orders.old ++ (line_told self.old Empty).bytes) }
     {
-        let rows = frame_rows(self.size);
-        let columns = self.size.columns();
-        let changed = first_changed(&self.frame, &self.begun);
-        let players = &self.game.players;
-        self.changed = changed_behind(self.changed, &self.begun, changed);
-        self.corner = corner_following(
-            players,
-            rows,
-            columns,
-            self.corner,
-            &self.begun,
-            self.changed,
-        );
-        mem::swap(&mut self.frame, &mut self.begun);
-        self.begun.clear();
+        let changed = self.frames.first_changed();
+        self.changed = changed_behind(self.changed, self.frames.begun_rows(), changed);
+        self.frames.end();
+        self.corner = self.corner_in(self.size);
         self.line.clear();
-        self.told.news.clear();
+        self.told.clear_news();
         self.draw(orders)
     }
 
@@ -354,8 +351,7 @@ impl TerminalView {
     fn add_row(&mut self) -> Result<(), Memory>
         ensures { OnOk result (self.new ≡ (line_told self.old Row).view) }
     {
-        let row = harmless_text(self.alloc, self.line.bytes())?;
-        self.begun.push(row)?;
+        self.frames.add_row(self.line.bytes())?;
         self.line.clear();
         Ok(())
     }
@@ -365,7 +361,13 @@ impl TerminalView {
         ensures view { OnOk result (self.new ≡ (drawn self.old).view) }
         ensures added { OnOk result (orders.new ≡ orders.old ++ (drawn self.old).bytes) }
     {
-        let screen = screen_of(self.alloc, self.size, self.corner, &self.frame, &self.told)?;
+        let screen = screen_of(
+            self.alloc,
+            self.size,
+            self.corner,
+            self.frames.last(),
+            &mut self.told,
+        )?;
         add_opening(self.is_open, orders)?;
         add_changes(self.alloc, &self.screen, &screen, orders)?;
         self.screen = screen;

@@ -1,9 +1,10 @@
 use Rattle.std.proofs.Common.{◌≡◌, ◌++◌, map, take}
 use Rattle.ps_view.specs.Corners.{part_from}
 use Rattle.ps_view.specs.Rows.{more_mark}
+use Rattle.ps_view.specs.Frames.{texts_of}
 use Rattle.ps_view.proofs.parts.add_row_parts.Given as goal
 
 -- the parts of the rows passed by are added
 abbrev pub invariant-loop-row : goal.invariant-loop-row
 invariant-loop-row l =
-    l.screen.items ≡ l.fn.screen.items ++ map (part_from l.room l.place more_mark 32) (take l.row-index l.rows)
+    l.screen.items ≡ l.fn.screen.items ++ map (part_from l.room l.place more_mark 32) (take l.row-index (texts_of l.rows))

@@ -1,21 +1,27 @@
-use Rattle.std.proofs.Common.{◌∙◌, ◌++◌, ℕ, List, append_assoc, take, sym, ap, ap₂, get_or}
-use Rattle.ps_view.specs.Views.{View, byte_step, handed_on}
-use Rattle.ps_view.proofs.Steps.{view_behind-more, handed_on-more}
+use Rattle.std.proofs.Common.{◌≡◌, ◌∙◌, ◌++◌, ℕ, List, [], ◌∷◌, append_assoc, append-nil, sym, ap, ap₂, refl}
+use Rattle.ps_view.specs.Views.{View, handed_on, view_behind}
+use Rattle.ps_view.proofs.Steps.{cut_behind, cut_handed_on, quiet_handed_on}
 use Rattle.ps_view.proofs.views.TerminalView.take.Goals as goal
 
-pub loop-byte-preserved : goal.loop-byte-preserved
-loop-byte-preserved c =
-    let place = c.loop-byte.byte-index in
-    let byte = get_or c.args.bytes.now place 0 in
-    let start = c.args.self.now in
+pub loop-line-preserved : goal.loop-line-preserved
+loop-line-preserved c =
+    let before = c.loop-line.self in
+    let line = c.in-Some.line.now in
+    let others = c.in-Some.others.now in
+    let rest = c.loop-line.rest.now in
     record {
-      view = c.in_ok-take_byte.ensures.view
-          ∙ ap (λ (view : View). (byte_step view byte).view) c.loop-byte.invariant.view
-          ∙ sym (view_behind-more start c.args.bytes.now place c.loop-byte-test.true);
-      added = c.in_ok-take_byte.ensures.added
-          ∙ ap₂ (λ (orders : List ℕ) (view : View). orders ++ (byte_step view byte).bytes) c.loop-byte.invariant.added
-          c.loop-byte.invariant.view
-          ∙ append_assoc c.args.orders.now (handed_on start (take place c.args.bytes.now)) _
-          ∙ ap (λ (more : List ℕ). c.args.orders.now ++ more)
-          (sym (handed_on-more start c.args.bytes.now place c.loop-byte-test.true));
+      view = ap (λ (view : View). view_behind view others) c.in_ok-take_line.ensures.view
+          ∙ sym (cut_behind before rest line others c.in-Some.ensures.whole) ∙ c.loop-line.invariant.view;
+      added = ap₂ (λ (orders : List ℕ) (view : View). orders ++ handed_on view others)
+          c.in_ok-take_line.ensures.added c.in_ok-take_line.ensures.view
+          ∙ append_assoc c.loop-line.orders (handed_on before (line ++ 10 ∷ [])) _
+          ∙ ap (λ (more : List ℕ). c.loop-line.orders ++ more)
+          (sym (cut_handed_on before rest line others c.in-Some.ensures.whole))
+          ∙ c.loop-line.invariant.added;
     }
+
+pub returns-clause-added : goal.returns-clause-added
+returns-clause-added c =
+    sym (append-nil c.loop-line.orders) ∙ ap (λ (more : List ℕ). c.loop-line.orders ++ more)
+    (sym (quiet_handed_on c.loop-line.self c.loop-line.rest.now _ refl c.in_default.ensures))
+    ∙ c.loop-line.invariant.added
