@@ -1,8 +1,8 @@
-use Rattle.std.proofs.Common.{◌≡◌, ◌∙◌, ℕ, ◌-◌, ap, arith, length, take, drop, min, [], ◌∷◌}
+use Rattle.std.proofs.Common.{◌≡◌, ◌∙◌, ℕ, ◌-◌, ◌/◌, ap, arith, length, take, drop, min, [], ◌∷◌}
 use Rattle.std.specs.Prelude.{nat_lt}
 use Rattle.ps_view.proofs.FrameRows.{texts_count, texts_dropped, texts_taken}
 use Rattle.ps_view.proofs.ShownRows.{frame_parted}
-use Rattle.ps_view.specs.Corners.{edge, part_from}
+use Rattle.ps_view.specs.Corners.{edge, row_part}
 use Rattle.ps_view.specs.Frames.{texts_of}
 use Rattle.ps_view.specs.Rows.{more_mark}
 use Rattle.ps_view.proofs.parts.add_frame_part.Goals as goal
@@ -16,8 +16,8 @@ returns c =
     let left = texts_count from in
     let all : length rows ≡ length frame = omega (arith, count) in
     let rest : length from ≡ length (texts_of from) = omega (arith, left) in
-    rw (← c.room_across-room.ensures)
-    (frame_parted (part_from c.room_across-room.result c.args.corner.left more_mark 32) c.args.rows c.args.corner.top
+    rw (← c.cell_width-width.ensures.width)
+    (frame_parted (row_part c.cell_width-width.result (c.args.columns / c.cell_width-width.result) c.args.corner.left) c.args.rows c.args.corner.top
     frame (texts_of from) (texts_of c.split_at-2.result.0.now) c.args.screen.now.items c.add_row_part.new.screen.items
     c.add_row_parts-2.new.screen.items c.add_row_part-2.new.screen.items c.edge_row.result.now c.edge_row-2.result.now
     (omega (arith, all, c.if-frame-rows.false))
