@@ -185,6 +185,12 @@ part_with_player : frame_part 4 10 (corner_following (codes "P") 4 10 (record { 
 unfolding unicode_width
 part_with_player = refl
 
+-- beside a wide character each cell covers two columns
+part_of_mixed_width : frame_part 4 16 (record { top = 0; left = 0 }) (codes "a漢" ∷ codes "bc" ∷ [])
+    ≡ codes "a 漢" ∷ codes "b c " ∷ []
+unfolding unicode_width
+part_of_mixed_width = refl
+
 -- a frame without a player, of two rows of six in four rows of five columns: the fourth cell of its second row is the
 -- first that changed
 part_of_frame : frame_part 4 5 (corner_following (codes "P") 4 5 (record { top = 0; left = 0 })
