@@ -1,7 +1,8 @@
 -- How many columns the rows of a screen cover.
 use Rattle.std.proofs.Common.{◌≡◌, ℕ, zero, suc, min, ◌+◌, ◌-◌, ◌*◌, ◌/◌, ◌≤◌, Bool, true, false, cond, Option, Some}
 use Rattle.std.proofs.Common.{None}
-use Rattle.std.proofs.Common.{List, [], ◌∷◌, ◌++◌, length, take, drop, fold, max, replicate, refl, subst, arith, ◌==◌, get_or}
+use Rattle.std.proofs.Common.{List, [], ◌∷◌, ◌++◌, length, take, drop, fold, max, replicate, refl, subst}
+use Rattle.std.proofs.Common.{arith, ◌==◌, get_or}
 use Rattle.std.specs.Prelude.{All, nat_le, unwrap_or}
 use Rattle.std.proofs.Math.Nat.{div-mul-le_self, mul-le-mul_right}
 use Rattle.std.proofs.lemmas.Bool.Decides.{nat_tests}

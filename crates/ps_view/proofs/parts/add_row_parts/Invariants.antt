@@ -6,4 +6,6 @@ use Rattle.ps_view.proofs.parts.add_row_parts.Given as goal
 -- the parts of the rows passed by are added
 abbrev pub invariant-loop-row : goal.invariant-loop-row
 invariant-loop-row l =
-    l.screen.items ≡ l.fn.screen.items ++ map (row_part l.across.width l.across.room l.across.left) (take l.row-index (texts_of l.rows))
+    l.screen.items
+    ≡ l.fn.screen.items
+    ++ map (row_part l.across.width l.across.room l.across.left) (take l.row-index (texts_of l.rows))
