@@ -252,11 +252,11 @@ fn plain_option(alloc: Global) -> Arg<'static> {
         .action(ArgAction::SetTrue)
 }
 
-/// `--fresh`, which is as this program always plays without `--level`: it stands here as at `play`.
+/// `--fresh`, which is as this program always plays: it stands here as at `play`.
 fn fresh_option(alloc: Global) -> Arg<'static> {
     Arg::new(alloc, "fresh")
         .long("fresh")
-        .help("Begins at the first level, which is so without --level")
+        .help("Begins at the first level, as this program always does")
         .action(ArgAction::SetTrue)
 }
 
