@@ -12,6 +12,8 @@ use std::convert::AsStr;
 pub struct Play<'w> {
     /// The file with the game's text, or `-` for standard input.
     pub game: &'w str,
+    /// The number of the level at which it begins, from 1, if it doesn't at its start.
+    pub level: Option<usize>,
     /// The file with the keys; standard input, where none is named.
     pub keys: Option<&'w str>,
     /// The size of the terminal on which the board is to stay in place, if it is.
@@ -56,6 +58,7 @@ pub fn read_command<'w, S: AsStr>(alloc: Global, words: &'w [S]) -> Result<Asked
         .arg(further_argument(alloc)?)?
         .arg(check_option(alloc))?
         .arg(why_option(alloc)?)?
+        .arg(level_option(alloc)?)?
         .arg(keys_option(alloc))?
         .arg(view_option(alloc))?
         .arg(sizes_option(alloc)?)?
@@ -76,11 +79,16 @@ fn asked_by<'w>(alloc: Global, matches: &ArgMatches<'w>) -> Result<Asked<'w>, St
         None => None,
         Some(word) => Some(size_of(word).ok_or(Stop::NoSize)?),
     };
+    let level = match matches.get_str("level") {
+        None => None,
+        Some(word) => Some(level_of(word).ok_or(Stop::NoLevel)?),
+    };
     if matches.get_flag("check") {
         return asked_check(alloc, matches, path);
     }
     Ok(Asked::Play(Play {
         game: path,
+        level,
         keys: matches.get_str("keys"),
         size,
         sizes: matches.get_str("sizes"),
@@ -163,6 +171,24 @@ fn why_option(alloc: Global) -> Result<Arg<'static>, AllocError> {
         .requires_arg("check")
 }
 
+/// The number of a level that a word gives, from 1.
+fn level_of(word: &str) -> Option<usize> {
+    match word.parse::<usize>() {
+        Ok(level) if level > 0 => Some(level),
+        _ => None,
+    }
+}
+
+/// `--level N`.
+fn level_option(alloc: Global) -> Result<Arg<'static>, AllocError> {
+    Arg::new(alloc, "level")
+        .long("level")
+        .value_name("N")
+        .help("Begins at the level of this number, from 1, without what comes before it")
+        .action(ArgAction::Set)
+        .conflicts_with_all(&["check"])
+}
+
 /// `--keys FILE`.
 fn keys_option(alloc: Global) -> Arg<'static> {
     Arg::new(alloc, "keys")
@@ -198,5 +224,7 @@ fn explain_option(alloc: Global) -> Result<Arg<'static>, AllocError> {
         .value_name("CODE")
         .help("Says in a sentence what the fault of this code is, as RU7")
         .action(ArgAction::Set)
-        .conflicts_with_all(&["GAME", "FURTHER", "check", "why", "keys", "view", "sizes"])
+        .conflicts_with_all(&[
+            "GAME", "FURTHER", "check", "why", "level", "keys", "view", "sizes",
+        ])
 }
