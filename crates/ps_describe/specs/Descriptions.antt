@@ -73,14 +73,20 @@ ignored_keys options =
 abbrev pub level_count : Game → ℕ
 level_count read = length (filter is_level read.entries)
 
--- all of it. The members of an object are in the order of their names
+-- an object with these parts. The members of an object are in the order of their names
+abbrev pub object_with : List Data → List Data → ℕ → List ℕ → List ℕ → Data
+object_with glyphs ignored levels player_glyphs title =
+    object (member (codes "glyphs") (array (items_of glyphs))
+    (member (codes "ignored_keys") (array (items_of ignored))
+    (member (codes "levels") (number (unsigned levels))
+    (member (codes "player_glyphs") (string player_glyphs)
+    (member (codes "title") (string title) no_members)))))
+
+-- all of it
 unfoldable pub description : Game → List Declared → Data
 description read names_declared =
-    object (member (codes "glyphs") (array (items_of (map (glyph_told read.names names_declared) read.names.glyphs)))
-    (member (codes "ignored_keys") (array (items_of (map string (ignored_keys read.options))))
-    (member (codes "levels") (number (unsigned (level_count read)))
-    (member (codes "player_glyphs") (string (flat_map encode_utf8 (player_characters read.names)))
-    (member (codes "title") (string read.title) no_members)))))
+    object_with (map (glyph_told read.names names_declared) read.names.glyphs) (map string (ignored_keys read.options))
+    (level_count read) (flat_map encode_utf8 (player_characters read.names)) read.title
 
 -- the line on a text that is a game
 abbrev pub description_line : List ℕ → Game → List ℕ

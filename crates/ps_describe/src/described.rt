@@ -9,7 +9,7 @@ ghost use Rattle.ps_model.specs.session.Sessions.{is_level};
 ghost use Rattle.ps_levels.specs.EntriesShown.{entries_shown};
 ghost use Rattle.ps_facts.specs.NamesShown.{names_shown};
 ghost use Rattle.ps_describe.specs.Descriptions.{IsDescribed, description, description_line, ignored_keys};
-ghost use Rattle.ps_describe.specs.Descriptions.{player_characters, word_if};
+ghost use Rattle.ps_describe.specs.Descriptions.{object_with, player_characters, word_if};
 ghost use Rattle.serde_json.specs.Data.{string};
 ghost use Rattle.serde_json.specs.View.{view};
 
@@ -22,7 +22,7 @@ use ps_model::{Memory, Options, Refusal};
 use ps_names::Names;
 use ps_text::Source;
 use serde_json::{Value, json};
-use std::alloc::Global;
+use std::alloc::{AllocError, Global};
 
 /// The text of characters.
 fn text_of(alloc: Global, characters: &[char]) -> Result<String, Memory>
@@ -79,22 +79,48 @@ fn levels_among(entries: &[Entry]) -> usize
     count
 }
 
+/// What a description is made of.
+#[derive(Drop)]
+struct Parts {
+    glyphs: Vec<Value>,
+    ignored_keys: Vec<Value>,
+    levels: usize,
+    player_glyphs: String,
+    title: String,
+}
+
+/// The object that has these parts.
+fn object_with(alloc: Global, parts: Parts) -> Result<Value, AllocError>
+    ensures { IfOk result (λ told. view told ≡ object_with (map view parts.glyphs.items)
+        (map view parts.ignored_keys.items) parts.levels (string_bytes parts.player_glyphs)
+        (string_bytes parts.title)) }
+{
+    json!(in alloc; {
+        "glyphs": Value::Array(parts.glyphs),
+        "ignored_keys": Value::Array(parts.ignored_keys),
+        "levels": parts.levels,
+        "player_glyphs": parts.player_glyphs,
+        "title": parts.title
+    })
+}
+
 /// What a game is, where its text declares these names.
-#[tactic(auto, unfolding(crate::specs::Descriptions::description))]
+#[tactic(auto, using(crate::proofs::Texts::described_by))]
 fn description(alloc: Global, game: &Game, declared: &[Named<'_>]) -> Result<Value, Memory>
     ensures { IfOk result (λ told. view told ≡ description game.now (names_shown declared.now)) }
 {
     let glyphs = glyphs_told(alloc, &game.names, declared)?;
-    let ignored = ignored_keys(alloc, game.options)?;
-    let players = players_told(alloc, &game.names)?;
+    let ignored_keys = ignored_keys(alloc, game.options)?;
+    let player_glyphs = players_told(alloc, &game.names)?;
     let title = String::from_str(alloc, game.title.as_str())?;
-    let told = json!(in alloc; {
-        "glyphs": Value::Array(glyphs),
-        "ignored_keys": Value::Array(ignored),
-        "levels": levels_among(&game.entries),
-        "player_glyphs": players,
-        "title": title
-    })?;
+    let parts = Parts {
+        glyphs,
+        ignored_keys,
+        levels: levels_among(&game.entries),
+        player_glyphs,
+        title,
+    };
+    let told = object_with(alloc, parts)?;
     Ok(told)
 }
 

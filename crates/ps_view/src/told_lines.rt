@@ -23,8 +23,8 @@ struct MadeRows {
     rows: Vec<Text>,
 }
 
-/// What is told beside the board. Each line is empty until it comes; that of the keys tells those that are heard. The rows
-/// that were made of it last are kept until something else is told.
+/// What is told beside the board. Each line is empty until it comes; that of the keys tells those that are heard. The
+/// rows that were made of it last are kept until something else is told.
 #[derive(Drop)]
 pub struct ToldLines {
     title: Line,
