@@ -9,9 +9,10 @@ use Rattle.std.proofs.lemmas.List.Elements.{All-nil, All-cons, All-append, All-t
 use Rattle.ps_view.specs.HarmlessTexts.{columns_of, is_order, harmless, harmless_text}
 use Rattle.ps_view.specs.Rows.{more_mark, fitting, cut, narrowed, break_of, row_before_break, rows_of_words, wrapped}
 use Rattle.ps_view.specs.Rows.{shortened}
-use Rattle.ps_view.specs.Corners.{part_from, frame_part, room_across}
+use Rattle.ps_view.specs.Corners.{part_from, frame_part, cell_width, room_across, row_part}
 use Rattle.ps_view.specs.declared.corners.Corner.{Corner}
 use Rattle.ps_view.specs.Bounds.{IsHarmlessRow, AreHarmlessRows}
+use Rattle.ps_view.proofs.LinedUp.{lined_up_is_such}
 use Rattle.ps_view.proofs.Such.{either, part_is_such}
 
 -- a character that was made harmless is
@@ -87,8 +88,11 @@ pub part_is_harmless : (rows columns : ℕ) (corner : Corner) (frame : List (Lis
     AreHarmlessRows (frame_part rows columns corner frame)
 part_is_harmless rows columns corner frame are =
     let part : List (List ℕ) = part_from rows corner.top (more_mark ∷ []) [] frame in
-    let shown : List ℕ → List ℕ = part_from (room_across columns frame) corner.left more_mark 32 in
+    let width : ℕ = cell_width frame in
+    let room : ℕ = room_across columns frame in
+    let P : ℕ → Type 0 = λ c. is_order c ≡ false in
     let all : AreHarmlessRows part =
     part_is_such IsHarmlessRow rows corner.top (more_mark ∷ []) [] frame mark_alone none_alone are in
-    All-map IsHarmlessRow shown part (λ k d within. part_is_such (λ (c : ℕ). is_order c ≡ false)
-    (room_across columns frame) corner.left more_mark 32 _ refl refl (all k d within))
+    All-map IsHarmlessRow (row_part width room corner.left) part
+    (λ k d within. lined_up_is_such P width (part_from room corner.left more_mark 32 (get_or part k d)) refl
+    (part_is_such P room corner.left more_mark 32 (get_or part k d) refl refl (all k d within)))

@@ -1,4 +1,5 @@
 pub mod Such
+pub mod LinedUp
 pub mod Steps
 pub mod ShownRows
 pub mod HarmlessRows

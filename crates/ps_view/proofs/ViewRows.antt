@@ -185,6 +185,29 @@ part_with_player : frame_part 4 10 (corner_following (codes "P") 4 10 (record { 
 unfolding unicode_width
 part_with_player = refl
 
+-- beside a wide character each cell covers two columns
+part_of_mixed_width : frame_part 4 16 (record { top = 0; left = 0 }) (codes "a漢" ∷ codes "bc" ∷ [])
+    ≡ codes "a 漢" ∷ codes "b c " ∷ []
+unfolding unicode_width
+part_of_mixed_width = refl
+
+-- six columns have room for three such cells, two of them edges; five have room for two, without edges; one has room for
+-- none
+edges_of_mixed_width : frame_part 4 6 (record { top = 0; left = 1 }) (codes "a漢bcd" ∷ codes "efghi" ∷ [])
+    ≡ codes "… 漢… " ∷ codes "… f … " ∷ []
+unfolding unicode_width
+edges_of_mixed_width = refl
+
+two_cells_of_mixed_width : frame_part 4 5 (record { top = 0; left = 1 }) (codes "a漢bcd" ∷ codes "efghi" ∷ [])
+    ≡ codes "漢b " ∷ codes "f g " ∷ []
+unfolding unicode_width
+two_cells_of_mixed_width = refl
+
+narrower_than_a_cell : frame_part 4 1 (record { top = 0; left = 1 }) (codes "a漢bcd" ∷ codes "efghi" ∷ [])
+    ≡ [] ∷ [] ∷ []
+unfolding unicode_width
+narrower_than_a_cell = refl
+
 -- a frame without a player, of two rows of six in four rows of five columns: the fourth cell of its second row is the
 -- first that changed
 part_of_frame : frame_part 4 5 (corner_following (codes "P") 4 5 (record { top = 0; left = 0 })

@@ -1,7 +1,8 @@
 -- How many columns the rows of a screen cover.
 use Rattle.std.proofs.Common.{◌≡◌, ℕ, zero, suc, min, ◌+◌, ◌-◌, ◌*◌, ◌/◌, ◌≤◌, Bool, true, false, cond, Option, Some}
 use Rattle.std.proofs.Common.{None}
-use Rattle.std.proofs.Common.{List, [], ◌∷◌, ◌++◌, length, take, drop, fold, max, refl, subst, arith, ◌==◌, get_or}
+use Rattle.std.proofs.Common.{List, [], ◌∷◌, ◌++◌, length, take, drop, fold, max, replicate, refl, subst}
+use Rattle.std.proofs.Common.{arith, ◌==◌, get_or}
 use Rattle.std.specs.Prelude.{All, nat_le, unwrap_or}
 use Rattle.std.proofs.Math.Nat.{div-mul-le_self, mul-le-mul_right}
 use Rattle.std.proofs.lemmas.Bool.Decides.{nat_tests}
@@ -13,7 +14,7 @@ use Rattle.ps_view.specs.declared.corners.Corner.{Corner}
 use Rattle.ps_view.specs.HarmlessTexts.{columns_of, harmless_text}
 use Rattle.ps_view.specs.Rows.{more_mark, fitting, cut, narrowed, break_of, row_before_break, rows_of_words, wrapped}
 use Rattle.ps_view.specs.Rows.{shortened}
-use Rattle.ps_view.specs.Corners.{part_from, frame_part, room_across, widest, cell_width}
+use Rattle.ps_view.specs.Corners.{part_from, frame_part, in_cell, lined_up, room_across, row_part, widest, cell_width}
 use Rattle.ps_view.specs.Screens.{LinesBelow, level_line, keys_line, line_rows, news_rows, rows_below}
 use Rattle.ps_view.specs.RowShares.{has_lines, most_news}
 use Rattle.ps_view.specs.declared.sizes.Size.{Size}
@@ -150,18 +151,28 @@ width_all least (row ∷ frame) =
     All-cons (λ (row : List ℕ). All (λ c. columns_of c ≤ most) row) row frame
     (λ k d within. let this = one k d within in omega (arith, this, more)) (width_all next frame)
 
--- a row of characters that are no wider than that
-covered_few : (width : ℕ) (row : List ℕ) → All (λ c. columns_of c ≤ width) row → covered row ≤ length row * width
-covered_few width [] all = omega arith
-covered_few width (c ∷ row) all =
+-- blanks cover a column each
+covered_blanks : (count : ℕ) → covered (replicate count 32) ≡ count
+covered_blanks zero = refl
+covered_blanks (suc count) =
+    let rest = covered_blanks count in
+    let blank = blank_covers in omega (arith, rest, blank)
+
+-- cells of characters that are no wider than that
+covered_few : (width : ℕ) (row : List ℕ) → 1 ≤ width → All (λ c. columns_of c ≤ width) row →
+    covered (lined_up width row) ≤ length row * width
+covered_few width [] some all = omega arith
+covered_few width (c ∷ row) some all =
     let one = first_of (λ (c : ℕ). columns_of c ≤ width) c row all in
-    let rest = covered_few width row (others_of (λ (c : ℕ). columns_of c ≤ width) c row all) in
+    let rest = covered_few width row some (others_of (λ (c : ℕ). columns_of c ≤ width) c row all) in
+    let both = covered-append (in_cell width c) (lined_up width row) in
+    let blanks = covered_blanks (width - max 1 (columns_of c)) in
     let n : suc (length row) * width ≡ width + length row * width = omega arith in
-    omega (arith, one, rest, n)
+    omega (arith, one, rest, both, blanks, n, some)
 
 -- a part of a row
 row_part_fits : (columns width left : ℕ) (row : List ℕ) → 1 ≤ width →
-    All (λ c. columns_of c ≤ width) row → covered (part_from (columns / width) left more_mark 32 row) ≤ columns
+    All (λ c. columns_of c ≤ width) row → covered (row_part width (columns / width) left row) ≤ columns
 row_part_fits columns width left row some all =
     let shown : List ℕ = part_from (columns / width) left more_mark 32 row in
     let mark = mark_covers in
@@ -169,7 +180,7 @@ row_part_fits columns width left row some all =
     let narrow : All (λ c. columns_of c ≤ width) shown =
     part_is_such (λ (c : ℕ). columns_of c ≤ width) (columns / width) left more_mark 32 row (omega (arith, mark, some))
     (omega (arith, blank, some)) all in
-    let few = covered_few width shown narrow in
+    let few = covered_few width shown some narrow in
     let short : length shown ≤ columns / width = part_few (columns / width) left more_mark 32 row in
     let product : length shown * width ≤ columns / width * width = mul-le-mul_right width short in
     let whole = div-mul-le_self columns width in
@@ -189,7 +200,7 @@ frame_fits rows columns corner frame =
     let all : All narrow part = part_is_such narrow rows corner.top (more_mark ∷ []) [] frame marked none
     (width_all 1 frame) in
     All-map (λ (row : List ℕ). covered row ≤ columns)
-    (part_from (room_across columns frame) corner.left more_mark 32) part
+    (row_part width (room_across columns frame) corner.left) part
     (λ k d within. row_part_fits columns width corner.left (get_or part k d) one
     (all k d within))
 

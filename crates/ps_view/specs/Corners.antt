@@ -4,6 +4,8 @@
 use Rattle.std.specs.Prelude.{ℕ, suc, ◌+◌, ◌-◌, ◌*◌, ◌/◌, ◌==◌, nat_eq, nat_lt, nat_le, Bool, true, false}
 use Rattle.std.specs.Prelude.{if◌then◌else◌, Some, None}
 use Rattle.std.specs.Prelude.{List, [], ◌∷◌, ◌++◌, length, take, drop, map, fold, max, min, slice_index_or}
+use Rattle.std.specs.Prelude.{replicate}
+use Rattle.std.specs.List.{flat_map}
 use Rattle.std.specs.Str.{bytes_eq}
 use Rattle.ps_view.specs.declared.corners.Cell.{Cell}
 use Rattle.ps_view.specs.declared.corners.Corner.{Corner}
@@ -42,10 +44,23 @@ cell_width frame = fold widest 1 frame
 abbrev pub room_across : ℕ → List (List ℕ) → ℕ
 room_across columns frame = columns / cell_width frame
 
--- what so many rows of so many columns show of a frame: the part at a corner, where it isn't whole
+-- a character in a cell of so many columns: blanks stand after one that covers fewer. One that covers none counts as one
+abbrev pub in_cell : ℕ → ℕ → List ℕ
+in_cell width character = character ∷ replicate (width - max 1 (columns_of character)) 32
+
+-- characters in cells of so many columns
+abbrev pub lined_up : ℕ → List ℕ → List ℕ
+lined_up width characters = flat_map (in_cell width) characters
+
+-- what is shown of a row in cells of so many columns, where so many have room: its characters from a place on
+abbrev pub row_part : ℕ → ℕ → ℕ → List ℕ → List ℕ
+row_part width room left row = lined_up width (part_from room left more_mark 32 row)
+
+-- what so many rows of so many columns show of a frame: the part at a corner, where it isn't whole. Each cell covers as
+-- many columns as the widest character of the frame
 abbrev pub frame_part : ℕ → ℕ → Corner → List (List ℕ) → List (List ℕ)
 frame_part rows columns corner frame =
-    map (part_from (room_across columns frame) corner.left more_mark 32)
+    map (row_part (cell_width frame) (room_across columns frame) corner.left)
     (part_from rows corner.top (more_mark ∷ []) [] frame)
 
 -- where a part moves --------------------------------------------------------------------------------------------------

@@ -24,7 +24,7 @@ pub fn widest(least: usize, row: &[char]) -> usize
 }
 
 /// How many columns the widest character of a frame covers, one at least.
-fn cell_width(frame: &[Rc<FrameRow, Global>]) -> usize
+pub fn cell_width(frame: &[Rc<FrameRow, Global>]) -> usize
     ensures width { result ≡ cell_width (texts_of frame.now) }
     ensures some { 0 < result }
 {

@@ -1,8 +1,8 @@
-use Rattle.std.proofs.Common.{◌≡◌, ◌∙◌, ◌-◌, ◌≤◌, ℕ, arith, ap, length, take, drop, min, [], ◌∷◌}
+use Rattle.std.proofs.Common.{◌≡◌, ◌∙◌, ◌-◌, ◌/◌, ◌≤◌, ℕ, arith, ap, length, take, drop, min, [], ◌∷◌}
 use Rattle.std.specs.Prelude.{nat_lt}
 use Rattle.ps_view.proofs.FrameRows.{texts_count, texts_dropped, texts_taken}
 use Rattle.ps_view.proofs.ShownRows.{edged_room, frame_parted, plain_part_cut}
-use Rattle.ps_view.specs.Corners.{edge, part_from}
+use Rattle.ps_view.specs.Corners.{edge, row_part}
 use Rattle.ps_view.specs.Frames.{texts_of}
 use Rattle.ps_view.specs.Rows.{more_mark}
 use Rattle.ps_view.proofs.parts.add_frame_part.Goals as goal
@@ -25,7 +25,7 @@ returns-then-rows-lt-ROOM_WITH_EDGES c =
     ≡ take (min c.shown_in-size.result (length (texts_of from))) (texts_of from) =
     ap texts_of (c.split_at-2.ensures.front ∙ ap (λ (n : ℕ). take n from)
     (c.min-2.ensures ∙ ap (λ (n : ℕ). min c.shown_in-size.result n) rest)) ∙ texts_taken from _ in
-    rw (← c.room_across-room.ensures, cut, ← shown) c.add_row_parts-then-rows-lt-ROOM_WITH_EDGES.ensures
+    rw (← c.cell_width-width.ensures.width, cut, ← shown) c.add_row_parts-then-rows-lt-ROOM_WITH_EDGES.ensures
 
 pub returns : goal.returns
 returns c =
@@ -38,9 +38,10 @@ returns c =
     let left = texts_count from in
     let all : length rows ≡ length frame = omega (arith, count) in
     let rest : length from ≡ length (texts_of from) = omega (arith, left) in
-    rw (← c.room_across-room.ensures)
-    (frame_parted (part_from c.room_across-room.result c.args.corner.left more_mark 32) c.args.rows c.args.corner.top
-    frame (texts_of from) (texts_of c.split_at-2.result.0.now) c.args.screen.now.items c.add_row_part.new.screen.items
+    rw (← c.cell_width-width.ensures.width)
+    (frame_parted
+    (row_part c.cell_width-width.result (c.args.columns / c.cell_width-width.result) c.args.corner.left) c.args.rows
+    c.args.corner.top frame (texts_of from) (texts_of c.split_at-2.result.0.now) c.args.screen.now.items c.add_row_part.new.screen.items
     c.add_row_parts-2.new.screen.items c.add_row_part-2.new.screen.items c.edge_row.result.now c.edge_row-2.result.now
     (omega (arith, all, c.if-frame-rows.false)) some
     (ap texts_of (c.split_at.ensures.back ∙ ap (λ (n : ℕ). drop n rows)
