@@ -37,7 +37,7 @@ pub struct Show<'w> {
 }
 
 /// The version, which `--version` tells.
-const VERSION: &str = "0.2.0";
+const VERSION: &str = "0.3.0";
 
 /// What help says below the arguments.
 const AFTER_HELP: &str =
