@@ -128,6 +128,8 @@ def end(run):
     """Takes back what a run has left. Whether it ended well."""
     left = out_of(run.copy, run.task.crate)
     if run.task.goes_on:
+        # A check by hand may have made the folder anew meanwhile: what this run left is more.
+        shutil.rmtree(out_of(TOP, run.task.crate), ignore_errors=True)
         left.rename(out_of(TOP, run.task.crate))
     else:
         shutil.move(left / run.task.log().name, run.task.log())
