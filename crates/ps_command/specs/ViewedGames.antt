@@ -1,4 +1,4 @@
--- What a view is told of the game that it shows.
+-- What a view knows of the game that it shows.
 use Rattle.std.specs.Prelude.{◌≡◌, ℕ, not, Some, List}
 use Rattle.ps_model.specs.declared.options.Options.{Options}
 use Rattle.ps_model.specs.game.Games.{Game, game}

@@ -1,4 +1,4 @@
-//! What a front end is told of a game before it is played.
+//! What a front end needs to know of a game before it is played.
 
 ghost use Rattle.std.specs.Prelude.{◌≡◌, false, OnOk};
 ghost use Rattle.ps_command.specs.Told.{TellsOfDescribed};

@@ -1,4 +1,4 @@
-//! What a view is told of the game that it shows.
+//! What a view knows of the game that it shows.
 
 ghost use Rattle.std.specs.Prelude.{◌≡◌, ◌≢◌, IfErr, IfOk};
 ghost use Rattle.ps_command.specs.ViewedGames.{IsToldOf, heard_by};
@@ -9,7 +9,7 @@ use ps_describe::{Options, facts_of};
 use ps_view::{HeardKeys, ViewedGame};
 use std::alloc::Global;
 
-/// What a view is told that no game is known of.
+/// What a view knows where no game is known.
 fn unknown_game(alloc: Global) -> ViewedGame {
     ViewedGame {
         players: Vec::new(alloc),
@@ -32,7 +32,7 @@ fn heard_keys(options: Options) -> HeardKeys
     }
 }
 
-/// What a view is told of the game of a text. Of a text with a fault it doesn't matter: no run of it writes anything.
+/// What a view knows of the game of a text. Of a text with a fault it doesn't matter: no run of it writes anything.
 pub fn viewed_game(alloc: Global, text: &[u8]) -> Result<ViewedGame, Stop>
     ensures told { IfOk result (λ told. IsToldOf text.now told.players.items told.heard) }
     ensures fault { IfErr result (λ stop. stop ≢ Stop.NotAccepted) }

@@ -1,4 +1,4 @@
-//! What a view is told of a game.
+//! What a view knows of a game.
 
 ghost use Rattle.std.specs.Prelude.{◌≡◌, IfOk, IfSome, is_some};
 ghost use Rattle.ps_model.specs.game.Games.{game};
@@ -9,7 +9,7 @@ use ps_game::read_game;
 use ps_model::{Memory, Options, Refusal};
 use std::alloc::Global;
 
-/// What a view is told of a game.
+/// What a view knows of a game.
 #[derive(Drop)]
 pub struct GameFacts {
     /// The characters of the glyphs that show an object of Player, alone or with others.
@@ -17,7 +17,7 @@ pub struct GameFacts {
     pub options: Options,
 }
 
-/// What a view is told of the game of a text; nothing where the text has a fault.
+/// What a view knows of the game of a text; nothing where the text has a fault.
 ///
 /// # Errors
 ///
