@@ -15,7 +15,7 @@ _play_games() {
 _play() {
     local word=${COMP_WORDS[COMP_CWORD]} before=${COMP_WORDS[COMP_CWORD - 1]} options
     case $before in
-    --view | --explain)
+    --level | --view | --explain)
         COMPREPLY=()
         return
         ;;
@@ -30,7 +30,7 @@ _play() {
         return
         ;;
     esac
-    options='--fresh --plain --check --why --help --version'
+    options='--level --fresh --plain --check --why --help --version'
     case ${COMP_WORDS[0]##*/} in
     ps_play) options+=' --keys --view --sizes --show --describe --explain' ;;
     *) options+=' --prove --keep --install' ;;

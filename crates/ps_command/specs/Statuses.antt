@@ -5,6 +5,8 @@ use Rattle.clap.specs.declared.error.Error.{Error}
 use Rattle.clap.specs.declared.error.kind.ErrorKind.TheVariants as kind
 use Rattle.ps_check.specs.declared.faults.CheckFault.{CheckFault}
 use Rattle.ps_check.specs.declared.faults.CheckFault.TheVariants as check
+use Rattle.ps_devices.specs.declared.players.LevelFault.{LevelFault}
+use Rattle.ps_devices.specs.declared.players.LevelFault.TheVariants as level
 use Rattle.ps_devices.specs.declared.players.RunFault.TheVariants as fault
 use Rattle.ps_command.specs.declared.stops.Stop.{Stop}
 use Rattle.ps_command.specs.declared.stops.Stop.TheVariants as stop
@@ -26,12 +28,19 @@ abbrev pub stop_of_check : CheckFault → Stop
 stop_of_check check.Memory = stop.Run fault.Memory
 stop_of_check check.Write = stop.Run fault.Write
 
+-- what a run ends the program with that began at a level and came to a fault
+abbrev pub stop_of_level : ℕ → LevelFault → Stop
+stop_of_level number (level.NoSuchLevel levels) = stop.NoSuchLevel number levels
+stop_of_level number (level.Run found) = stop.Run found
+
 -- 2 for what is wrong with a command line, 1 for a fault
 abbrev pub IsStatusOf : Stop → ℕ → Type 0
 IsStatusOf (stop.CommandLine error) status = IsStatusOfLine error status
 IsStatusOf stop.NotText status = status ≡ 2
 IsStatusOf stop.NoSuchCode status = status ≡ 2
 IsStatusOf stop.NoSize status = status ≡ 2
+IsStatusOf stop.NoLevel status = status ≡ 2
 IsStatusOf stop.Game status = status ≡ 1
+IsStatusOf (stop.NoSuchLevel _ _) status = status ≡ 1
 IsStatusOf stop.NotAccepted status = status ≡ 1
 IsStatusOf (stop.Run _) status = status ≡ 1

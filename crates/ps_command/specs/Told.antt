@@ -1,17 +1,20 @@
 -- What is told on the screen.
-use Rattle.std.specs.Prelude.{◌≡◌, ◌<◌, ◌⊎◌, ℕ, Bool, true, false, Option, Err, List, [], ◌++◌, is_some, length}
-use Rattle.std.specs.Prelude.{slice_index_or}
+use Rattle.std.specs.Prelude.{◌≡◌, ◌<◌, ◌⊎◌, ℕ, Bool, true, false, Option, Some, None, Err, List, [], ◌++◌}
+use Rattle.std.specs.Prelude.{is_some, length, slice_index_or}
 use Rattle.std.specs.List.{concat}
 use Rattle.ps_model.specs.declared.play.Ending.{Ending}
 use Rattle.ps_model.specs.game.Games.{game}
 use Rattle.ps_model.specs.game.Headline.{Ends, RunsRightly}
+use Rattle.ps_model.specs.game.LevelRuns.{Plays, RunsRightlyFromLevel}
 use Rattle.ps_model.specs.game.Tellings.{ReaderState, WriterState}
 use Rattle.ps_check.specs.Checks.{check_line, named_line}
 use Rattle.ps_describe.specs.Descriptions.{IsDescribed}
-use Rattle.ps_devices.specs.Answers.{answer_of}
+use Rattle.ps_devices.specs.Answers.{answer_of, level_answer_of}
 use Rattle.ps_devices.specs.Devices.{Grows, Loses}
+use Rattle.ps_devices.specs.declared.players.LevelFault.{LevelFault}
 use Rattle.ps_devices.specs.declared.players.RunFault.{RunFault}
 use Rattle.ps_command.specs.Details.{IsDetail, TellsOn}
+use Rattle.ps_command.specs.Statuses.{stop_of_level}
 use Rattle.ps_command.specs.declared.details.Detail.{Detail}
 use Rattle.ps_command.specs.declared.stops.Stop.{Stop}
 use Rattle.ps_command.specs.declared.stops.Stop.TheVariants.{Run}
@@ -97,14 +100,33 @@ pub record StopsRightly (text : List ℕ) (keys left : ReaderState) (before afte
     pub is : stop ≡ Run fault
     pub rightly : RunsRightly text keys left before after (answer_of (Err fault))
 
+-- the same of a run that began at a level
+pub record StopsRightlyFromLevel (level : ℕ) (text : List ℕ) (keys left : ReaderState) (before after : WriterState)
+    (stop : Stop) : Type 0 where
+  pub fault : LevelFault
+  pub is : stop ≡ stop_of_level level fault
+  pub rightly : RunsRightlyFromLevel text level keys left before after (level_answer_of (Err fault))
+
+-- from the start, or from the level of that number
+abbrev pub StopsRightlyFrom : Option ℕ → List ℕ → ReaderState → ReaderState → WriterState → WriterState → Stop → Type 0
+StopsRightlyFrom None text keys left before after stop = StopsRightly text keys left before after stop
+StopsRightlyFrom (Some level) text keys left before after stop =
+    StopsRightlyFromLevel level text keys left before after stop
+
+-- a text's game was played to this end with these keys, from the start or from the level of that number
+abbrev pub RunsToEndFrom : Option ℕ → List ℕ → ReaderState → ReaderState → WriterState → WriterState → Ending → Type 0
+RunsToEndFrom None text keys left before after ending = RunsRightly text keys left before after (Ends ending)
+RunsToEndFrom (Some level) text keys left before after ending =
+    RunsRightlyFromLevel text level keys left before after (Plays (Ends ending))
+
 -- a text's game was played to an end, with some keys
-pub record EndsRightly (text : List ℕ) (before after : WriterState) : Type 0 where
+pub record EndsRightly (level : Option ℕ) (text : List ℕ) (before after : WriterState) : Type 0 where
   pub ending : Ending
   pub keys : ReaderState
   pub left : ReaderState
-  pub rightly : RunsRightly text keys left before after (Ends ending)
+  pub rightly : RunsToEndFrom level text keys left before after ending
 
 -- some text's game was played to an end, with some keys
-pub record PlaysToAnEnd (before after : WriterState) : Type 0 where
+pub record PlaysToAnEnd (level : Option ℕ) (before after : WriterState) : Type 0 where
   pub text : List ℕ
-  pub ended : EndsRightly text before after
+  pub ended : EndsRightly level text before after

@@ -13,6 +13,8 @@ use std::convert::AsStr;
 pub struct Play<'w> {
     /// The file with the game's text, or `-` for standard input.
     pub game: &'w str,
+    /// The number of the level at which it begins, from 1, if it doesn't at its start.
+    pub level: Option<usize>,
     /// The file with the keys; standard input, where none is named.
     pub keys: Option<&'w str>,
     /// The size of the terminal on which the board is to stay in place, if it is.
@@ -35,7 +37,7 @@ pub struct Show<'w> {
 }
 
 /// The version, which `--version` tells.
-const VERSION: &str = "0.2.0";
+const VERSION: &str = "0.3.0";
 
 /// What help says below the arguments.
 const AFTER_HELP: &str =
@@ -74,6 +76,7 @@ pub fn read_command<'w, S: AsStr>(alloc: Global, words: &'w [S]) -> Result<Asked
         .arg(further_argument(alloc)?)?
         .arg(check_option(alloc))?
         .arg(why_option(alloc)?)?
+        .arg(level_option(alloc)?)?
         .arg(keys_option(alloc))?
         .arg(view_option(alloc))?
         .arg(sizes_option(alloc)?)?
@@ -98,17 +101,26 @@ fn asked_by<'w>(alloc: Global, matches: &ArgMatches<'w>) -> Result<Asked<'w>, St
         None => None,
         Some(word) => Some(size_of(word).ok_or(Stop::NoSize)?),
     };
+    let level = match matches.get_str("level") {
+        None => None,
+        Some(word) => Some(level_of(word).ok_or(Stop::NoLevel)?),
+    };
     if matches.get_flag("check") {
         return asked_check(alloc, matches, path);
     }
     if matches.get_flag("describe") {
         return Ok(Asked::Description(path));
     }
-    Ok(asked_play(matches, path, size))
+    Ok(asked_play(matches, path, level, size))
 }
 
 /// What the matches of a command line ask for that plays a game, or shows the output of a run, which wants a size.
-fn asked_play<'w>(matches: &ArgMatches<'w>, path: &'w str, size: Option<Size>) -> Asked<'w> {
+fn asked_play<'w>(
+    matches: &ArgMatches<'w>,
+    path: &'w str,
+    level: Option<usize>,
+    size: Option<Size>,
+) -> Asked<'w> {
     let sizes = matches.get_str("sizes");
     if let (Some(output), Some(size)) = (matches.get_str("show"), size) {
         return Asked::Show(Show {
@@ -120,6 +132,7 @@ fn asked_play<'w>(matches: &ArgMatches<'w>, path: &'w str, size: Option<Size>) -
     }
     Asked::Play(Play {
         game: path,
+        level,
         keys: keys_named(matches.get_str("keys")),
         size,
         sizes,
@@ -216,6 +229,24 @@ fn why_option(alloc: Global) -> Result<Arg<'static>, AllocError> {
         .requires_arg("check")
 }
 
+/// The number of a level that a word gives, from 1.
+fn level_of(word: &str) -> Option<usize> {
+    match word.parse::<usize>() {
+        Ok(level) if level > 0 => Some(level),
+        _ => None,
+    }
+}
+
+/// `--level N`.
+fn level_option(alloc: Global) -> Result<Arg<'static>, AllocError> {
+    Arg::new(alloc, "level")
+        .long("level")
+        .value_name("N")
+        .help("Begins at the level of this number, from 1, without what comes before it")
+        .action(ArgAction::Set)
+        .conflicts_with_all(&["check"])
+}
+
 /// `--keys FILE`.
 fn keys_option(alloc: Global) -> Arg<'static> {
     Arg::new(alloc, "keys")
@@ -270,7 +301,7 @@ fn show_option(alloc: Global) -> Result<Arg<'static>, AllocError> {
         )
         .action(ArgAction::Set)
         .requires_arg("view")?
-        .conflicts_with_all(&["check", "keys"])
+        .conflicts_with_all(&["check", "keys", "level"])
 }
 
 /// `--describe`.
@@ -279,7 +310,7 @@ fn describe_option(alloc: Global) -> Result<Arg<'static>, AllocError> {
         .long("describe")
         .help("Says in a line of JSON what a front end needs to know of the game; plays nothing")
         .action(ArgAction::SetTrue)
-        .conflicts_with_all(&["FURTHER", "check", "keys", "view", "show"])
+        .conflicts_with_all(&["FURTHER", "check", "keys", "level", "view", "show"])
 }
 
 /// `--explain CODE`.
@@ -290,6 +321,6 @@ fn explain_option(alloc: Global) -> Result<Arg<'static>, AllocError> {
         .help("Says in a sentence what the fault of this code is, as RU7")
         .action(ArgAction::Set)
         .conflicts_with_all(&[
-            "GAME", "FURTHER", "check", "why", "keys", "view", "sizes", "show", "describe",
+            "GAME", "FURTHER", "check", "why", "level", "keys", "view", "sizes", "show", "describe",
         ])
 }

@@ -2,19 +2,27 @@
 
 ghost use Rattle.std.specs.Prelude.{◌≡◌, false, IfErr, None, OnOk};
 ghost use Rattle.ps_model.specs.declared.play.Ending.{Ending};
-ghost use Rattle.ps_model.specs.game.Headline.{Ends, RunsRightly};
-ghost use Rattle.ps_command.specs.Told.{EndsRightly, PlaysToAnEnd, StopsRightly};
+ghost use Rattle.ps_command.specs.Statuses.{stop_of_level};
+ghost use Rattle.ps_command.specs.Told.{EndsRightly, PlaysToAnEnd, RunsToEndFrom, StopsRightlyFrom};
 
 use crate::command::Play;
 use crate::files::read_text;
 use crate::sizes::FileSizes;
 use crate::stops::{Stop, stop_for};
 use crate::viewed_games::viewed_game;
-use ps_devices::{ByteReader, ByteWriter, FromStd, Player, RunFault};
+use ps_devices::{ByteReader, ByteWriter, FromStd, LevelFault, Player, RunFault};
 use ps_view::{Lent, Size, Viewed};
 use std::alloc::Global;
 use std::fs;
 use std::rt::Files;
+
+/// A text, and from where on its game is played.
+#[derive(Clone, Copy)]
+struct Start<'t> {
+    text: &'t [u8],
+    /// The number of the level at which it begins, if it doesn't at its start.
+    level: Option<usize>,
+}
 
 /// Plays a game: on the screen as it is, or in a view of that size, or of another one that a file tells meanwhile, in
 /// which the board stays in place. Where its text comes from standard input, the keys are what stands behind it there,
@@ -28,12 +36,17 @@ pub fn play_asked<R: Files + AllocGlobal, P: Player, I: ByteReader, O: ByteWrite
 ) -> Result<(), Stop>
     requires heard { (I.state keys.old).has_failed ≡ false }
     requires well { (O.state screen.old).has_failed ≡ false }
-    ensures ended { asked.entry.size ≡ None → OnOk result (PlaysToAnEnd (O.state screen.old) (O.state screen.new)) }
+    ensures ended { asked.entry.size ≡ None → OnOk result
+        (PlaysToAnEnd asked.entry.level (O.state screen.old) (O.state screen.new)) }
 {
     let text = read_text(rt, asked.game, keys)?;
+    let start = Start {
+        text: &text,
+        level: asked.level,
+    };
     match asked.size {
-        None => play_from(rt, player, &text, asked.keys, keys, screen),
-        Some(size) => play_in_view(rt, player, &text, asked, size, keys, screen),
+        None => play_from(rt, player, start, asked.keys, keys, screen),
+        Some(size) => play_in_view(rt, player, start, asked, size, keys, screen),
     }
 }
 
@@ -41,7 +54,7 @@ pub fn play_asked<R: Files + AllocGlobal, P: Player, I: ByteReader, O: ByteWrite
 fn play_in_view<R: Files + AllocGlobal, P: Player, I: ByteReader, O: ByteWriter>(
     rt: &R,
     player: &P,
-    text: &[u8],
+    start: Start<'_>,
     asked: Play<'_>,
     size: Size,
     keys: &mut I,
@@ -50,10 +63,10 @@ fn play_in_view<R: Files + AllocGlobal, P: Player, I: ByteReader, O: ByteWriter>
     requires heard { (I.state keys.old).has_failed ≡ false }
     requires well { (O.state screen.old).has_failed ≡ false }
 {
-    let game = viewed_game(rt.alloc(), text)?;
+    let game = viewed_game(rt.alloc(), start.text)?;
     let sizes = FileSizes::new(rt, asked.sizes);
     let mut view = Viewed::new(rt.alloc(), game, size, sizes, Lent::new(screen));
-    let played = play_from(rt, player, text, asked.keys, keys, &mut view);
+    let played = play_from(rt, player, start, asked.keys, keys, &mut view);
     if view.wants_memory() {
         return Err(Stop::Run(RunFault::Memory));
     }
@@ -65,42 +78,59 @@ fn play_in_view<R: Files + AllocGlobal, P: Player, I: ByteReader, O: ByteWriter>
 fn play_from<R: Files + AllocGlobal, P: Player, I: ByteReader, O: ByteWriter>(
     rt: &R,
     player: &P,
-    text: &[u8],
+    start: Start<'_>,
     file: Option<&str>,
     keys: &mut I,
     screen: &mut O,
 ) -> Result<(), Stop>
     requires heard { (I.state keys.old).has_failed ≡ false }
     requires well { (O.state screen.old).has_failed ≡ false }
-    ensures ended { OnOk result (EndsRightly text.now (O.state screen.old) (O.state screen.new)) }
-    ensures stopped { file.entry ≡ None → IfErr result (λ stop. StopsRightly text.now (I.state keys.old)
-        (I.state keys.new) (O.state screen.old) (O.state screen.new) stop) }
+    ensures ended { OnOk result
+        (EndsRightly start.entry.level start.entry.text.now (O.state screen.old) (O.state screen.new)) }
+    ensures stopped { file.entry ≡ None → IfErr result (λ stop. StopsRightlyFrom start.entry.level start.entry.text.now
+        (I.state keys.old) (I.state keys.new) (O.state screen.old) (O.state screen.new) stop) }
 {
     let Some(file) = file else {
-        return play(rt.alloc(), player, text, keys, screen);
+        return play(rt.alloc(), player, start, keys, screen);
     };
     let file = fs::open(rt, file).map_err(|error| stop_for(error, Stop::Run(RunFault::Read)))?;
     let mut keys = FromStd::new(file);
-    play(rt.alloc(), player, text, &mut keys, screen)
+    play(rt.alloc(), player, start, &mut keys, screen)
 }
 
 /// Plays a game with keys from a reader.
 fn play<P: Player, I: ByteReader, O: ByteWriter>(
     alloc: Global,
     player: &P,
-    text: &[u8],
+    start: Start<'_>,
     keys: &mut I,
     screen: &mut O,
 ) -> Result<(), Stop>
     requires heard { (I.state keys.old).has_failed ≡ false }
     requires well { (O.state screen.old).has_failed ≡ false }
-    ensures ended { OnOk result ((ending : Ending) × RunsRightly text.now (I.state keys.old) (I.state keys.new)
-        (O.state screen.old) (O.state screen.new) (Ends ending)) }
-    ensures stopped { IfErr result (λ stop. StopsRightly text.now (I.state keys.old) (I.state keys.new)
-        (O.state screen.old) (O.state screen.new) stop) }
+    ensures ended { OnOk result ((ending : Ending) × RunsToEndFrom start.entry.level start.entry.text.now
+        (I.state keys.old) (I.state keys.new) (O.state screen.old) (O.state screen.new) ending) }
+    ensures stopped { IfErr result (λ stop. StopsRightlyFrom start.entry.level start.entry.text.now
+        (I.state keys.old) (I.state keys.new) (O.state screen.old) (O.state screen.new) stop) }
 {
-    match player.play(alloc, text, keys, screen) {
+    let Some(level) = start.level else {
+        return match player.play(alloc, start.text, keys, screen) {
+            Ok(_ending) => Ok(()),
+            Err(fault) => Err(Stop::Run(fault)),
+        };
+    };
+    match player.play_from_level(alloc, start.text, level, keys, screen) {
         Ok(_ending) => Ok(()),
-        Err(fault) => Err(Stop::Run(fault)),
+        Err(fault) => Err(stop_of_level(level, fault)),
+    }
+}
+
+/// What ends the program where a run from a level came to a fault.
+fn stop_of_level(level: usize, fault: LevelFault) -> Stop
+    ensures { result ≡ stop_of_level level fault }
+{
+    match fault {
+        LevelFault::NoSuchLevel { levels } => Stop::NoSuchLevel { level, levels },
+        LevelFault::Run(fault) => Stop::Run(fault),
     }
 }

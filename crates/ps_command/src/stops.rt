@@ -17,6 +17,11 @@ const NO_SIZE: &str = "error: --view takes rows, x and columns, as 24x80: at lea
 
 For more information, try '--help'.";
 
+/// What is told where no number of a level is given.
+const NO_LEVEL: &str = "error: --level takes the number of a level, from 1
+
+For more information, try '--help'.";
+
 /// Why the program ends in place of a run's end.
 #[derive(Drop)]
 pub enum Stop {
@@ -28,8 +33,12 @@ pub enum Stop {
     NoSuchCode,
     /// The command line gives no size of a terminal where it is to, or one without a row or a column.
     NoSize,
+    /// The command line gives no number of a level where it is to.
+    NoLevel,
     /// The game can't be read.
     Game,
+    /// The game has no level of this number, but so many others.
+    NoSuchLevel { level: usize, levels: usize },
     /// The text that was checked is no game, which the check has said already.
     NotAccepted,
     /// The run came to a fault, or memory ran out or the screen failed where nothing is played.
@@ -128,15 +137,26 @@ pub fn tell<R: Print + Eprint>(rt: &R, stop: Stop) -> u8
             let _ = rt.eprintln(NO_SIZE);
             return 2;
         }
+        Stop::NoLevel => {
+            let _ = rt.eprintln(NO_LEVEL);
+            return 2;
+        }
         Stop::Game => {
             let _ = rt.eprintln("cannot read game");
         }
+        Stop::NoSuchLevel { level, levels } => tell_no_such_level(rt, level, levels),
         Stop::NotAccepted => {}
         Stop::Run(fault) => {
             let _ = rt.eprintln(fault);
         }
     }
     1
+}
+
+/// Says that the game has no level of this number, and how many it has.
+fn tell_no_such_level<R: Eprint>(rt: &R, level: usize, levels: usize) {
+    let word = if levels == 1 { "level" } else { "levels" };
+    let _ = eprintln!(rt; "the game has {levels} {word}: there is no level {level}");
 }
 
 /// Says what is wrong with a command line, or the help or the version that it asks for, and gives the status.

@@ -11,5 +11,5 @@ mod traits;
 
 pub use from_std::FromStd;
 pub use in_memory::{MemoryReader, MemoryWriter};
-pub use players::{Player, RunFault};
+pub use players::{LevelFault, Player, RunFault};
 pub use traits::{ByteReader, ByteWriter, Failed, write_whole};

@@ -6,6 +6,7 @@ mod GameRows
 mod GameFactRows
 mod LanguageRows
 mod OutputRows
+mod LevelRunRows
 mod HeldRows
 mod RefusedRows
 mod PlayedGames1Rows

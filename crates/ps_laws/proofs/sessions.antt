@@ -6,4 +6,5 @@ pub mod EqualKeys
 pub mod EqualRuns
 pub mod AlikeScripts
 pub mod SessionBoards
+pub mod LevelNumbers
 pub mod RoomFrames

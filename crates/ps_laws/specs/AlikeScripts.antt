@@ -11,7 +11,7 @@ use Rattle.ps_model.specs.board.GameGrids.{IsGridOf}
 use Rattle.ps_model.specs.board.Attempts.{State}
 use Rattle.ps_model.specs.board.Programs.{Section, program_run}
 use Rattle.ps_model.specs.board.RulePrograms.{program_of}
-use Rattle.ps_model.specs.board.Turns.{Script, script_of, Outcome, turn}
+use Rattle.ps_model.specs.board.Turns.{Script, script_at, Outcome, turn}
 use Rattle.ps_model.specs.session.Sessions.{Session, Step}
 use Rattle.ps_model.specs.session.KeySteps.{key_step}
 use Rattle.ps_model.specs.game.Games.{Game, game}
@@ -34,19 +34,21 @@ pub record AlikeScripts (a b : Script) : Type 0 where
   pub options : a.options ≡ b.options
   pub names : a.names ≡ b.names
   pub entries : a.entries ≡ b.entries
+  pub first_entry : a.first_entry ≡ b.first_entry
   pub wins : a.wins ≡ b.wins
   pub plain : RunAlike a.names a.plain b.plain
   pub late : RunAlike a.names a.late b.late
 
--- a game that is played by these programs instead of its rules
-abbrev pub script_by : Game → List Section → List Section → Script
-script_by read plain late = record {
+-- a game that begins at that entry and is played by these programs instead of its rules
+abbrev pub script_by : Game → ℕ → List Section → List Section → Script
+script_by read entry plain late = record {
   title = read.title;
   options = read.options;
   names = read.names;
   plain = plain;
   late = late;
   entries = read.entries;
+  first_entry = entry;
   wins = read.wins;
 }
 
@@ -94,16 +96,17 @@ AlikeKeys =
 abbrev pub AlikeRuns : Type 0
 AlikeRuns = (a b : Script) → AlikeScripts a b → All (LoadsAsGrid a.names) a.entries → SameRuns a b
 
--- the game of a text has the runs of each script that is alike with its own, whose rules are as they are written
+-- the game of a text, begun at any entry, has the runs of each script that is alike with its own, whose rules are as
+-- they are written
 abbrev pub AlikeGames : Type 0
 AlikeGames =
-    (text : List ℕ) (read : Game) → game text ≡ Some read → (script : Script) → AlikeScripts script (script_of read) →
-    SameRuns script (script_of read)
+    (text : List ℕ) (read : Game) → game text ≡ Some read → (entry : ℕ) (script : Script) →
+    AlikeScripts script (script_at read entry) → SameRuns script (script_at read entry)
 
 -- so has a game that is played by other programs than those of its rules, if they run alike with these
 abbrev pub AlikeProgramsOfGames : Type 0
 AlikeProgramsOfGames =
-    (text : List ℕ) (read : Game) → game text ≡ Some read → (plain late : List Section) →
+    (text : List ℕ) (read : Game) → game text ≡ Some read → (entry : ℕ) (plain late : List Section) →
     RunAlike read.names plain (program_of read.names Plain read.rules) →
     RunAlike read.names late (program_of read.names Late read.rules) →
-    SameRuns (script_by read plain late) (script_of read)
+    SameRuns (script_by read entry plain late) (script_at read entry)

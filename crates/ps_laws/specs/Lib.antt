@@ -21,4 +21,5 @@ pub mod AgainTurns
 pub mod SessionBoards
 pub mod AlikeScripts
 pub mod RunsNotAllowed
+pub mod LevelNumbers
 pub mod RoomFrames

@@ -86,10 +86,11 @@ UndoOfNothing = (script : Script) (play : Play) → play.history ≡ [] →
 
 -- runs ----------------------------------------------------------------------------------------------------------------
 
--- the opening is the title, and what the first entry brings
+-- the opening is the title, and what the entry brings at which the game begins
 abbrev pub OpeningsAreEntered : Type 0
 OpeningsAreEntered =
-    (script : Script) → opening_step script ≡ after (written_line (codes "= ") script.title) (enter script 0)
+    (script : Script) →
+    opening_step script ≡ after (written_line (codes "= ") script.title) (enter script script.first_entry)
 
 -- the front of all keys is the text of the opening, and those of the keys
 abbrev pub FrontsAreTexts : Type 0

@@ -18,6 +18,8 @@ ghost use Rattle.ps_laws.specs.RunsNotAllowed.{NoEndingUnwritten, NoWriteUncount
 ghost use Rattle.ps_laws.specs.RunsNotAllowed.{WritesFronts, AnswersAreTrueOfTexts};
 ghost use Rattle.ps_laws.specs.OneGame.{AtMostOneGame, FaultBarsGame, FaultlessIsGame, GameIsFaultless, GameOrFault};
 ghost use Rattle.ps_laws.specs.OneGame.{FirstIsFault, HiddenAreBehind};
+ghost use Rattle.ps_laws.specs.LevelNumbers.{FoundLevelsAreNumbered, LackedLevelsAreBeyond, FirstLevelIsStart};
+ghost use Rattle.ps_laws.specs.LevelNumbers.{AnswersFromStart, AnswersAreTrueOfLevels, NumberedLevelsAreFound};
 
 /// The readings of a rule can be made stage by stage, by directions, by moves and by members, each stage splitting all
 /// that is made so far by one occurrence after the other: they are the same, in the same order, and as many as are
@@ -113,4 +115,15 @@ pub fn one_game()
     ensures either { GameOrFault }
     ensures first { FirstIsFault }
     ensures hidden { HiddenAreBehind }
+{}
+
+/// Each level is found for its number and for no other, and none is found where there are fewer. A run from the first
+/// level is a run from the start, where the game begins with that level.
+pub fn runs_from_levels()
+    ensures numbered { FoundLevelsAreNumbered }
+    ensures found { NumberedLevelsAreFound }
+    ensures lacked { LackedLevelsAreBeyond }
+    ensures first { FirstLevelIsStart }
+    ensures start { AnswersFromStart }
+    ensures true_of_level { AnswersAreTrueOfLevels }
 {}

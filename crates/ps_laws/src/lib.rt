@@ -36,7 +36,7 @@ pub use laws_of_rules::{
 };
 pub use laws_of_runs::{
     answers_of_texts, ends_of_output, fronts_of_output, held_bytes, keys_in_pieces, one_game,
-    readings_by_stages, runs_not_allowed,
+    readings_by_stages, runs_from_levels, runs_not_allowed,
 };
 pub use laws_of_sessions::{
     again_turns, alike_scripts, session_boards, session_steps, session_texts,

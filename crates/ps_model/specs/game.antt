@@ -2,4 +2,5 @@ pub mod Games
 pub mod Outputs
 pub mod Tellings
 pub mod Headline
+pub mod LevelRuns
 pub mod HeldFaults

@@ -51,9 +51,9 @@ meant_alike names part lines sections own alike runs table_for gives =
     (alike own)
 
 pub games-play_as_written : CompiledGamesPlayAsWritten
-games-play_as_written text read e plain late compiled table_for gives =
+games-play_as_written text read e entry plain late compiled table_for gives =
     let own : All (IsLineOf read.names) read.rules = game-rules text read e in
-    alike_programs_of_games text read e (sections_meaning (table_for read.names.layers) plain)
+    alike_programs_of_games text read e entry (sections_meaning (table_for read.names.layers) plain)
     (sections_meaning (table_for read.names.layers) late)
     (meant_alike read.names Plain read.rules plain own compiled.plain_alike compiled.plain_runs table_for gives)
     (meant_alike read.names Late read.rules late own compiled.late_alike compiled.late_runs table_for gives)

@@ -6,7 +6,7 @@ use Rattle.ps_model.specs.declared.rules.Part.TheVariants.{Plain, Late}
 use Rattle.ps_model.specs.names.Names.{Names}
 use Rattle.ps_model.specs.rules.SourceRules.{RuleLine}
 use Rattle.ps_model.specs.board.Programs.{Section}
-use Rattle.ps_model.specs.board.Turns.{Script, script_of}
+use Rattle.ps_model.specs.board.Turns.{Script, script_at}
 use Rattle.ps_model.specs.meaning.Compiled as model
 use Rattle.ps_model.specs.game.Games.{Game, game}
 use Rattle.ps_laws.specs.AlikeScripts.{SameRuns}
@@ -18,15 +18,15 @@ use Rattle.ps_compile.specs.RunnablePrograms.{RunsOnBoards}
 use Rattle.ps_engine.specs.RulesInRoom.{sections_meaning}
 use Rattle.ps_stage.specs.Standings.{SessionParts, script_for}
 
--- a game without its rules
-abbrev pub parts_of : Game → SessionParts
-parts_of read = record {
+-- a game without its rules, begun at an entry
+abbrev pub parts_at : Game → ℕ → SessionParts
+parts_at read entry = record {
   title = read.title;
   options = read.options;
   names = read.names;
   entries = read.entries;
-  wins =
-      read.wins;
+  first_entry = entry;
+  wins = read.wins;
 }
 
 -- a kind of board gives every object room on its own layer, by the table that its boards have for layers
@@ -45,14 +45,15 @@ pub record AreCompiled (names : Names) (lines : List RuleLine) (plain late : Lis
 abbrev pub meant_of : List CompiledSection → Option (List ℕ) → List Section
 meant_of sections table = sections_meaning table sections
 
--- a game, played by these sections on this kind of board
-abbrev pub played_by : (List ℕ → Option (List ℕ)) → Game → List CompiledSection → List CompiledSection → Script
-played_by table_for read plain late = script_for table_for (parts_of read) (meant_of plain) (meant_of late)
+-- a game begun at an entry, played by these sections on this kind of board
+abbrev pub played_by : (List ℕ → Option (List ℕ)) → Game → ℕ → List CompiledSection → List CompiledSection → Script
+played_by table_for read entry plain late = script_for table_for (parts_at read entry) (meant_of plain) (meant_of late)
 
--- the law: a game that is played by programs compiled of its names and rules has the runs of the game as it is written
+-- the law: a game that is played by programs compiled of its names and rules has the runs of the game as it is written,
+-- at whatever entry it is begun
 abbrev pub CompiledGamesPlayAsWritten : Type 0
 CompiledGamesPlayAsWritten =
-    (text : List ℕ) (read : Game) → game text ≡ Some read → (plain late : List CompiledSection) →
+    (text : List ℕ) (read : Game) → game text ≡ Some read → (entry : ℕ) (plain late : List CompiledSection) →
     AreCompiled read.names read.rules (sections_shown plain) (sections_shown late) →
     (table_for : List ℕ → Option (List ℕ)) → GivesRoom table_for →
-    SameRuns (played_by table_for read plain late) (script_of read)
+    SameRuns (played_by table_for read entry plain late) (script_at read entry)

@@ -1,12 +1,11 @@
 -- From a run by other rules to a run on a text.
 use Rattle.std.proofs.Common.{◌≡◌, ◌∙◌, ℕ, ◌+◌, List, ◌++◌, length, take, inl, inr}
-use Rattle.std.proofs.Common.{sym, ap, arith, Ok, Err}
-use Rattle.std.specs.Prelude.{option_map}
+use Rattle.std.proofs.Common.{refl, sym, ap, arith, Ok, Err}
 use Rattle.std.specs.List.{concat}
 use Rattle.std.proofs.lemmas.Grind.{common_steps}
 use Rattle.std.proofs.lemmas.List.{length-append}
 use Rattle.ps_model.specs.declared.play.Key.{Key}
-use Rattle.ps_model.specs.board.Turns.{Script, script_of}
+use Rattle.ps_model.specs.board.Turns.{Script}
 use Rattle.ps_model.specs.session.Keys.{keys_of}
 use Rattle.ps_model.specs.session.HeldKeys.{held}
 use Rattle.ps_model.specs.game.Outputs.{Output, output_of_keys, opening_step, ending_of, texts_of_keys}
@@ -93,48 +92,45 @@ stops a b same told so =
     }
 
 pub answers_carry_over : AnswersCarryOver
-answers_carry_over text played script is same told (Ok ending) so =
-    let source : Script = script_of played in (
-      source,
-      ap (option_map script_of) is,
-      record {
-        reads = same_reading script source same told.reading told.left so.reads;
-        reader_is_well = so.reader_is_well;
-        writer_is_well = so.writer_is_well;
-        ending_is = sym (ap (λ (out : Output). out.ending) (same.outputs (read told.reading ++ told.left)))
-            ∙ so.ending_is;
-        wrote = so.wrote ∙ ap (λ (out : Output). out.written) (same.outputs (read told.reading ++ told.left));
-        brought = sym (ap (λ (out : Output). out.ending) (same.outputs (read told.reading))) ∙ so.brought;
-        silent = so.silent;
-        few_writes = so.few_writes;
-      },
-    )
-answers_carry_over text played script is same told (Err (fault.Refused refused)) so = absurd so
-answers_carry_over text played script is same told (Err fault.Memory) so =
-    inr (script_of played, ap (option_map script_of) is, stops script (script_of played) same told so)
-answers_carry_over text played script is same told (Err fault.Read) so =
-    let source : Script = script_of played in (
-      source,
-      ap (option_map script_of) is,
-      record {
-        reads = same_reading script source same told.reading told.left so.reads;
-        writer_is_well = so.writer_is_well;
-        cause = so.cause;
-        goes_on = same_going_on script source same (read told.reading) so.goes_on;
-        wrote = so.wrote ∙ same_texts script source same (read told.reading);
-        few_writes = so.few_writes;
-      },
-    )
-answers_carry_over text played script is same told (Err fault.Write) so =
-    let source : Script = script_of played in (
-      source,
-      ap (option_map script_of) is,
-      record {
-        reads = same_reading script source same told.reading told.left so.reads;
-        reader_is_well = so.reader_is_well;
-        cause = so.cause;
-        wrote = same_cut script source same told so.wrote;
-        whole_before = same_whole script source same told.reading told.wrote so.whole_before;
-        few_writes = so.few_writes;
-      },
-    )
+answers_carry_over text source script same told (Ok ending) so = (
+  source,
+  refl,
+  record {
+    reads = same_reading script source same told.reading told.left so.reads;
+    reader_is_well = so.reader_is_well;
+    writer_is_well = so.writer_is_well;
+    ending_is = sym (ap (λ (out : Output). out.ending) (same.outputs (read told.reading ++ told.left)))
+        ∙ so.ending_is;
+    wrote = so.wrote ∙ ap (λ (out : Output). out.written) (same.outputs (read told.reading ++ told.left));
+    brought = sym (ap (λ (out : Output). out.ending) (same.outputs (read told.reading))) ∙ so.brought;
+    silent = so.silent;
+    few_writes = so.few_writes;
+  },
+)
+answers_carry_over text source script same told (Err (fault.Refused refused)) so = absurd so
+answers_carry_over text source script same told (Err fault.Memory) so =
+    inr (source, refl, stops script source same told so)
+answers_carry_over text source script same told (Err fault.Read) so = (
+  source,
+  refl,
+  record {
+    reads = same_reading script source same told.reading told.left so.reads;
+    writer_is_well = so.writer_is_well;
+    cause = so.cause;
+    goes_on = same_going_on script source same (read told.reading) so.goes_on;
+    wrote = so.wrote ∙ same_texts script source same (read told.reading);
+    few_writes = so.few_writes;
+  },
+)
+answers_carry_over text source script same told (Err fault.Write) so = (
+  source,
+  refl,
+  record {
+    reads = same_reading script source same told.reading told.left so.reads;
+    reader_is_well = so.reader_is_well;
+    cause = so.cause;
+    wrote = same_cut script source same told so.wrote;
+    whole_before = same_whole script source same told.reading told.wrote so.whole_before;
+    few_writes = so.few_writes;
+  },
+)

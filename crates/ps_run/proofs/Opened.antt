@@ -11,25 +11,36 @@ use Rattle.ps_program.specs.declared.program.CompiledSection.{CompiledSection}
 use Rattle.ps_stage.specs.Standings.{SessionParts}
 use Rattle.ps_run.specs.GamesInPlay.{script_on}
 
-pub opened_session : (script : Script) (session : Session) → session ≡ (enter script 0).session →
-    session ≡ (opening_step script).session
-opened_session script session e = e ∙ sym (ap (λ (step : Step). step.session) (openings_are_entered script))
-
 title_of : (game : SessionParts) (plain late : List CompiledSection) → (script_on game plain late).title ≡ game.title
 unfolding script_on
 title_of game plain late = refl
 
--- the title, and then what the first entry writes
+first_of : (game : SessionParts) (plain late : List CompiledSection) →
+    (script_on game plain late).first_entry ≡ game.first_entry
+unfolding script_on
+first_of game plain late = refl
+
+pub opened_session : (game : SessionParts) (plain late : List CompiledSection) (session : Session) →
+    session ≡ (enter (script_on game plain late) game.first_entry).session →
+    session ≡ (opening_step (script_on game plain late)).session
+opened_session game plain late session e =
+    let script : Script = script_on game plain late in
+    e
+    ∙ ap (λ (entry : ℕ). (enter script entry).session) (sym (first_of game plain late))
+    ∙ sym (ap (λ (step : Step). step.session) (openings_are_entered script))
+
+-- the title, and then what the entry writes at which the game begins
 pub opened_text :
     (game : SessionParts) (plain late : List CompiledSection) (before titled now : List ℕ) →
     titled ≡ before ++ written_line (codes "= ") game.title →
-    now ≡ titled ++ (enter (script_on game plain late) 0).text →
+    now ≡ titled ++ (enter (script_on game plain late) game.first_entry).text →
     now ≡ before ++ (opening_step (script_on game plain late)).text
 opened_text game plain late before titled now title text =
     let script : Script = script_on game plain late in
+    let entered : List ℕ = (enter script script.first_entry).text in
     text
-    ∙ ap (λ (line : List ℕ). line ++ (enter script 0).text) title
-    ∙ append_assoc before (written_line (codes "= ") game.title) (enter script 0).text
-    ∙ ap (λ (own : List ℕ). before ++ (written_line (codes "= ") own ++ (enter script 0).text))
-    (sym (title_of game plain late))
+    ∙ ap (λ (entry : ℕ). titled ++ (enter script entry).text) (sym (first_of game plain late))
+    ∙ ap (λ (line : List ℕ). line ++ entered) title
+    ∙ append_assoc before (written_line (codes "= ") game.title) entered
+    ∙ ap (λ (own : List ℕ). before ++ (written_line (codes "= ") own ++ entered)) (sym (title_of game plain late))
     ∙ ap (λ (step : Step). before ++ step.text) (sym (openings_are_entered script))

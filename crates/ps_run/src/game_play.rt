@@ -74,8 +74,8 @@ impl<'g> Model for GamePlay<'g> {
 }
 
 impl<'g> GamePlay<'g> {
-    /// Starts a game of which each level has boards with room for it: adds its title to the output, and what its first
-    /// entry writes.
+    /// Starts a game of which each level has boards with room for it: adds its title to the output, and what the entry
+    /// writes at which it begins.
     ///
     /// # Errors
     ///
@@ -93,7 +93,8 @@ impl<'g> GamePlay<'g> {
         ensures written { IfOk result (λ play. output.new ≡ output.old ++ (opening_step (script_in play)).text) }
     {
         output.add_line("= ", game.title())?;
-        let play = SizedPlay::start_at(alloc, game.copied(), plain, late, 0, output)?;
+        let entry = game.first_entry();
+        let play = SizedPlay::start_at(alloc, game.copied(), plain, late, entry, output)?;
         Ok(GamePlay {
             alloc,
             game,

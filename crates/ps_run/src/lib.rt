@@ -7,6 +7,7 @@ mod game_run;
 mod laws;
 mod play;
 mod player;
+mod read_run;
 mod row_play;
 mod sized_play;
 mod text_run;
@@ -14,6 +15,6 @@ mod writing;
 
 pub use laws::answers_carry_over;
 pub use player::GamePlayer;
-pub use ps_devices::{ByteReader, ByteWriter, Player, RunFault};
+pub use ps_devices::{ByteReader, ByteWriter, LevelFault, Player, RunFault};
 pub use ps_model::{Ending, Fault, FaultKind};
-pub use text_run::run;
+pub use text_run::{run, run_from_level};

@@ -1,11 +1,11 @@
 //! What plays games as a run does.
 
-use crate::text_run::run;
-use ps_devices::{ByteReader, ByteWriter, Player, RunFault};
+use crate::text_run::{run, run_from_level};
+use ps_devices::{ByteReader, ByteWriter, LevelFault, Player, RunFault};
 use ps_model::Ending;
 use std::alloc::Global;
 
-/// Plays games by [`run`].
+/// Plays games by [`run`] and [`run_from_level`].
 pub struct GamePlayer;
 
 impl Player for GamePlayer {
@@ -17,5 +17,16 @@ impl Player for GamePlayer {
         writer: &mut W,
     ) -> Result<Ending, RunFault> {
         run(alloc, text, reader, writer)
+    }
+
+    fn play_from_level<I: ByteReader, W: ByteWriter>(
+        &self,
+        alloc: Global,
+        text: &[u8],
+        level: usize,
+        reader: &mut I,
+        writer: &mut W,
+    ) -> Result<Ending, LevelFault> {
+        run_from_level(alloc, text, level, reader, writer)
     }
 }

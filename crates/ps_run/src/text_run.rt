@@ -1,21 +1,16 @@
-//! A run: a game's text and the keys in, the frames out.
+//! A run: a game's text and the keys in, the frames out; from its start, or from one of its levels.
 
-ghost use Rattle.std.specs.Prelude.{◌≡◌, ℕ, List, Some, false};
-ghost use Rattle.ps_model.specs.declared.limits.TheConstants.{SIDE_LIMIT};
-ghost use Rattle.ps_model.specs.game.Games.{Game as GameRead, game as game_in};
-ghost use Rattle.ps_model.specs.session.RoomSizes.{HasRoomSize};
+ghost use Rattle.std.specs.Prelude.{◌≡◌, false};
 ghost use Rattle.ps_model.specs.game.Headline.{RunsRightly, IsTrueOfText};
-ghost use Rattle.ps_rulebook.specs.PlayedGames.{AreCompiled, parts_of};
-ghost use Rattle.ps_devices.specs.Answers.{answer_of};
-ghost use Rattle.ps_stage.specs.Playable.{ArePlayable, EntriesFit};
+ghost use Rattle.ps_model.specs.game.LevelRuns.{RunsRightlyFromLevel, IsTrueOfLevel};
+ghost use Rattle.ps_devices.specs.Answers.{answer_of, level_answer_of};
 
 use crate::faults::fault_of_refusal;
-use crate::game_run::run_game;
-use ps_compile::{CompiledPrograms, compile};
-use ps_devices::{ByteReader, ByteWriter, RunFault};
-use ps_game::{Game, read_game};
+use crate::read_run::run_read;
+use ps_devices::{ByteReader, ByteWriter, LevelFault, RunFault};
+use ps_game::read_game;
 use ps_model::Ending;
-use ps_stage::SessionGame;
+use ps_stage::{level_entry, levels_among};
 use std::alloc::Global;
 
 /// Plays the game whose text is `text`: reads keys from `reader` and writes frames to `writer`, until the game has
@@ -45,53 +40,39 @@ pub fn run<I: ByteReader, W: ByteWriter>(
         Ok(game) => game,
         Err(refusal) => return Err(fault_of_refusal(refusal)),
     };
-    let compiled = match compile(alloc, &game.names, &game.rules) {
-        Ok(compiled) => compiled,
-        Err(_) => return Err(RunFault::Memory),
-    };
-    run_compiled(alloc, &game, &compiled, reader, writer)
+    run_read(alloc, &game, 0, reader, writer)
 }
 
-/// What a session plays of a game.
-fn parts_of_game(game: &Game) -> SessionGame<'_>
-    requires playable { ArePlayable game.now.names game.now.entries }
-    requires rooms { HasRoomSize game.now.options }
-    ensures parts { result ≡ parts_of game.entry.now }
-    ensures fit { EntriesFit SIDE_LIMIT result.entries }
-{
-    SessionGame::new(
-        game.title.as_str(),
-        game.options,
-        &game.names,
-        &game.entries,
-        &game.wins,
-    )
-}
-
-/// Plays a game by its compiled programs.
-fn run_compiled<I: ByteReader, W: ByteWriter>(
+/// Plays the game whose text is `text` from the level of that number on, as [`run`] does from its start: levels alone
+/// are counted, from 1. The title is written first, and then what the entry of that level writes.
+///
+/// # Errors
+///
+/// `NoSuchLevel` where the text has no fault and the game no such level: neither device is called then. `Run` with the
+/// faults of [`run`].
+pub fn run_from_level<I: ByteReader, W: ByteWriter>(
     alloc: Global,
-    game: &Game,
-    compiled: &CompiledPrograms<'_>,
+    text: &[u8],
+    level: usize,
     reader: &mut I,
     writer: &mut W,
-) -> Result<Ending, RunFault>
+) -> Result<Ending, LevelFault>
     requires heard { (I.state reader.old).has_failed ≡ false }
     requires well { (W.state writer.old).has_failed ≡ false }
-    requires playable { ArePlayable game.now.names game.now.entries }
-    requires rooms { HasRoomSize game.now.options }
-    ensures rightly { (text : List ℕ) → game_in text ≡ Some game.now
-        → AreCompiled game.now.names game.now.rules compiled.now.plain compiled.now.late
-        → RunsRightly text (I.state reader.old) (I.state reader.new) (W.state writer.old) (W.state writer.new)
-        (answer_of result) }
-    ensures true_of_text { (text : List ℕ) → game_in text ≡ Some game.now → IsTrueOfText text (answer_of result) }
+    ensures rightly { RunsRightlyFromLevel text.now level (I.state reader.old) (I.state reader.new) (W.state writer.old)
+        (W.state writer.new) (level_answer_of result) }
+    ensures true_of_level { IsTrueOfLevel text.now level (level_answer_of result) }
 {
-    run_game(
-        alloc,
-        parts_of_game(game),
-        compiled.plain.sections(),
-        compiled.late.sections(),
-        reader,
-        writer,
-    )
+    let game = match read_game(alloc, text) {
+        Ok(game) => game,
+        Err(refusal) => return Err(LevelFault::Run(fault_of_refusal(refusal))),
+    };
+    let Some(entry) = level_entry(&game.entries, level) else {
+        let levels = levels_among(&game.entries);
+        return Err(LevelFault::NoSuchLevel { levels });
+    };
+    match run_read(alloc, &game, entry, reader, writer) {
+        Ok(ending) => Ok(ending),
+        Err(fault) => Err(LevelFault::Run(fault)),
+    }
 }

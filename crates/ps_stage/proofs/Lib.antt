@@ -3,6 +3,7 @@ mod Entered
 pub mod EntriesFound
 mod KeyChanges
 mod KeyTurns
+mod LevelPlaces
 mod OwnRooms
 mod PartLoaded
 mod Results

@@ -13,13 +13,25 @@ use Rattle.ps_model.specs.session.Sessions.{Play, Session}
 use Rattle.ps_turn.specs.States.{TurnParts}
 use Rattle.ps_turn.specs.declared.outcomes.DoneTurn.{DoneTurn}
 
--- a game without its rules
+-- a game without its rules, which begins at one of its entries
 pub record SessionParts : Type 0 where
   pub title : List ℕ
   pub options : Options
   pub names : Names
   pub entries : List Entry
+  pub first_entry : ℕ
   pub wins : List Win
+
+-- that game, begun at an entry
+abbrev pub begun_at : SessionParts → ℕ → SessionParts
+begun_at parts entry = record {
+  title = parts.title;
+  options = parts.options;
+  names = parts.names;
+  entries = parts.entries;
+  first_entry = entry;
+  wins = parts.wins;
+}
 
 -- that game with these programs
 abbrev pub script_of : SessionParts → List Section → List Section → Script
@@ -30,6 +42,7 @@ script_of parts plain late = record {
   plain = plain;
   late = late;
   entries = parts.entries;
+  first_entry = parts.first_entry;
   wins = parts.wins;
 }
 

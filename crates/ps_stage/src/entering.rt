@@ -1,12 +1,12 @@
 //! Entries as they begin, levels that are done, and restarts.
 
 ghost use Rattle.std.specs.Prelude.{◌≡◌, ◌<◌, ◌≤◌, Bool, IfErr, IfOk, suc, ℕ, Option, Some};
-ghost use Rattle.std.specs.Prelude.{List, [], ◌∷◌, filter, length, take};
+ghost use Rattle.std.specs.Prelude.{List, []};
 ghost use Rattle.ps_model.specs.board.Grid.{Grid};
 ghost use Rattle.ps_model.specs.session.LevelLines.{LevelEntry};
-ghost use Rattle.ps_model.specs.session.Sessions.{after, is_level, level_number};
+ghost use Rattle.ps_model.specs.session.Sessions.{after, level_number};
 ghost use Rattle.ps_model.specs.session.StartSteps.{entered, enter, level_done, restarted};
-ghost use Rattle.ps_levels.specs.EntriesShown.{entry_shown, entries_shown};
+ghost use Rattle.ps_levels.specs.EntriesShown.{entries_shown};
 ghost use Rattle.ps_stage.specs.Playable.{IsPlayable, LevelFits};
 ghost use Rattle.ps_stage.specs.Standings.{Basis, basis_of, play_of, script_for, script_of};
 ghost use Rattle.ps_stage.specs.Sides.{side_at};
@@ -17,6 +17,7 @@ ghost use Rattle.ps_stage.specs.Touched.{AreTouched, IsTouchedAt};
 use crate::entries::EntryNumber;
 use crate::levels::PlayedLevel;
 use crate::locations::{Location, Pending};
+use crate::numbers::level_number;
 use crate::sides::side_at;
 use crate::stage::Stage;
 use crate::stops::Stop;
@@ -25,39 +26,6 @@ use ps_levels::{Entry, Level};
 use ps_model::{Ending, Memory};
 use ps_text::Text;
 use ps_turn::{Rules, TurnRules};
-
-/// One for an entry that is a level, and nothing for a message.
-fn level_count(entry: &Entry) -> usize
-    ensures counted { result ≡ length (filter is_level (entry_shown entry.now ∷ [])) }
-    ensures few { result ≤ 1 }
-{
-    match entry {
-        Entry::Message(_) => 0,
-        Entry::Level(_) => 1,
-    }
-}
-
-/// How many of the entries are levels.
-fn levels_among(entries: &[Entry]) -> usize
-    ensures { result ≡ length (filter is_level (entries_shown entries.now)) }
-{
-    let mut count = 0;
-    for entry in entries {
-        count += level_count(entry);
-    }
-    count
-}
-
-/// The number of a level: the levels up to it, itself counted. Behind the last entry it is that of the last level.
-fn level_number(entries: &[Entry], entry: &EntryNumber) -> usize
-    ensures { result ≡ length (filter is_level (take (suc entry.now) (entries_shown entries.now))) }
-{
-    if entries.len() <= entry.number() {
-        return levels_among(entries);
-    }
-    let (front, _) = entries.split_at(entry.next());
-    levels_among(front)
-}
 
 /// A level in which a message waits, or none.
 pub(crate) fn located<B: Board>(

@@ -8,7 +8,7 @@ ghost use Rattle.ps_model.specs.session.RoomSizes.{HasRoomSize};
 ghost use Rattle.ps_model.specs.session.Rooms.{room_after};
 ghost use Rattle.ps_stage.specs.Playable.{ArePlayable, EntriesFit};
 ghost use Rattle.ps_stage.specs.Sides.{side_at};
-ghost use Rattle.ps_stage.specs.Standings.{turn_parts};
+ghost use Rattle.ps_stage.specs.Standings.{begun_at, turn_parts};
 
 use crate::sides::side_at;
 use ps_board::Board;
@@ -19,13 +19,14 @@ use ps_screen::room_of;
 use ps_turn::TurnGame;
 use std::marker::Model;
 
-/// A game without its rules: its title, options, names, entries and win conditions.
+/// A game without its rules: its title, options, names, entries and win conditions, and the entry at which it begins.
 #[derive(Drop)]
 pub struct SessionGame<'g> {
     title: &'g str,
     options: Options,
     names: &'g Names,
     entries: &'g [Entry],
+    first_entry: usize,
     turns: TurnGame<'g>,
 }
 
@@ -43,6 +44,7 @@ impl<'g> Model for SessionGame<'g> {
       options = g.options;
       names = g.names.now;
       entries = entries_shown g.entries.now;
+      first_entry = g.first_entry;
       wins = g.turns.wins;
     } };
 
@@ -51,8 +53,8 @@ impl<'g> Model for SessionGame<'g> {
 }
 
 impl<'g> SessionGame<'g> {
-    /// The game of these parts. The sides of its levels are those of a board, and so are those of its rooms, if it has
-    /// rooms.
+    /// The game of these parts, from its start. The sides of its levels are those of a board, and so are those of its
+    /// rooms, if it has rooms.
     pub fn new(
         title: &'g str,
         options: Options,
@@ -66,6 +68,7 @@ impl<'g> SessionGame<'g> {
         ensures options { result.options ≡ options }
         ensures names { result.names ≡ names.entry.now }
         ensures entries { result.entries ≡ entries_shown entries.entry.now }
+        ensures first { result.first_entry ≡ 0 }
         ensures wins { result.wins ≡ wins_shown wins.entry.now }
         ensures fit { EntriesFit SIDE_LIMIT result.entries }
     {
@@ -74,8 +77,30 @@ impl<'g> SessionGame<'g> {
             options,
             names,
             entries,
+            first_entry: 0,
             turns: TurnGame::new(names, options, wins),
         }
+    }
+
+    /// The same game, begun at an entry.
+    pub fn begun_at(self, entry: usize) -> SessionGame<'g>
+        ensures { result ≡ begun_at self.entry entry }
+    {
+        SessionGame {
+            title: self.title,
+            options: self.options,
+            names: self.names,
+            entries: self.entries,
+            first_entry: entry,
+            turns: self.turns.copied(),
+        }
+    }
+
+    /// The entry at which it begins.
+    pub fn first_entry(&self) -> usize
+        ensures { result ≡ self.now.first_entry }
+    {
+        self.first_entry
     }
 
     /// The title.
@@ -109,6 +134,7 @@ impl<'g> SessionGame<'g> {
             options: self.options,
             names: self.names,
             entries: self.entries,
+            first_entry: self.first_entry,
             turns: self.turns.copied(),
         }
     }

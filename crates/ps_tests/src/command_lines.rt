@@ -61,7 +61,7 @@ const UNBOUND: &str =
     "Nothing on the left decides which is meant by a property, or by a word of several moves, on the right.\n";
 
 /// The words of command lines that aren't right.
-const BAD_LINES: [&[&str]; 26] = [
+const BAD_LINES: [&[&str]; 32] = [
     &["ps_play", "a.game", "--show", "-"],
     &["ps_play", "--view", "24x80", "--show", "-"],
     &["ps_play", "--describe"],
@@ -90,10 +90,16 @@ const BAD_LINES: [&[&str]; 26] = [
     &["ps_play", "a.game", "--sizes", "small.size"],
     &["ps_play", "a.game", "--view", "24x80", "--sizes"],
     &["ps_play", "--explain", "RU7", "--sizes", "small.size"],
+    &["ps_play", "a.game", "--level"],
+    &["ps_play", "a.game", "--level", "0"],
+    &["ps_play", "a.game", "--level", "two"],
+    &["ps_play", "a.game", "--level", "1", "--level", "1"],
+    &["ps_play", "a.game", "--level", "1", "--check"],
+    &["ps_play", "--explain", "RU7", "--level", "1"],
 ];
 
 /// Command lines that ask for a game to be played, and what must come of each.
-const PLAYS: [(Told, &[Line]); 8] = [
+const PLAYS: [(Told, &[Line]); 11] = [
     // A game is won by the key from standard input.
     (
         Told {
@@ -190,6 +196,55 @@ const PLAYS: [(Told, &[Line]); 8] = [
             ),
         ],
     ),
+    // It is played from a level on: what comes before that isn't shown.
+    (
+        Told {
+            input: b"d",
+            reads: 1,
+            status: 0,
+            shown: "= T\n# level 2\n.PO\n\n..P\n\n* level 2 done\n* the end\n",
+            printed: "",
+            complained: "",
+        },
+        &[
+            (&["ps_play", "two.game", "--level", "2"], "two.game\n"),
+            (&["ps_play", "--level=2", "two.game"], "two.game\n"),
+        ],
+    ),
+    // A level that the game doesn't have is told of, and no key is asked for.
+    (
+        Told {
+            input: b"d",
+            reads: 0,
+            status: 1,
+            shown: "",
+            printed: "",
+            complained: "the game has 2 levels: there is no level 3\n",
+        },
+        &[
+            (&["ps_play", "two.game", "--level", "3"], "two.game\n"),
+            (
+                &["ps_play", "--view", "24x80", "--level", "3", "two.game"],
+                "two.game\n",
+            ),
+            (
+                &["ps_play", "two.game", "--level=3", "--keys=a.keys"],
+                "two.game\na.keys\n",
+            ),
+        ],
+    ),
+    // So is one that a game of one level doesn't have.
+    (
+        Told {
+            input: b"d",
+            reads: 0,
+            status: 1,
+            shown: "",
+            printed: "",
+            complained: "the game has 1 level: there is no level 2\n",
+        },
+        &[(&["ps_play", "a.game", "--level", "2"], "a.game\n")],
+    ),
     // The fault of a text is told, and no key is asked for.
     (
         Told {
@@ -206,6 +261,7 @@ const PLAYS: [(Told, &[Line]); 8] = [
                 &["ps_play", "cut.game", "--keys", "a.keys"],
                 "cut.game\na.keys\n",
             ),
+            (&["ps_play", "cut.game", "--level", "1"], "cut.game\n"),
         ],
     ),
     // So is that of a text which is too long.

@@ -19,6 +19,12 @@ A\nred\nB\npink\nC\ngray\nD\nblack\nLEGEND\n@ = Crate and Target\nAT = A or Targ
 COLLISIONLAYERS\nBackground\nTarget\nPlayer, Wall, Crate\nA B C D\n\
 RULES\n[ > Player | Crate ] -> [ > Player | > Crate ]\nWINCONDITIONS\nAll Target on Crate\nLEVELS\n#P*O#";
 
+/// A game of two levels with a message before each, which a Player wins who steps on a Target.
+pub const TWO_LEVELS: &[u8] =
+    b"title T\nOBJECTS\nBackground .\ngreen\nPlayer P\nwhite\nTarget O\nblue\nLEGEND\nCOLLISIONLAYERS\n\
+Background\nTarget\nPlayer\nRULES\nWINCONDITIONS\nSome Player on Target\nLEVELS\n\
+message Hello\nPO\n\nmessage Now\n.PO\n";
+
 /// A text that ends before its levels.
 pub const CUT_SHORT: &[u8] =
     b"OBJECTS\nBackground .\ngreen\nPlayer P\nwhite\nLEGEND\nCOLLISIONLAYERS\nBackground\nPlayer\n\

@@ -2,7 +2,7 @@
 
 ghost use Rattle.std.specs.Prelude.{IsErr};
 
-use crate::games::{CUT_SHORT, PUSHING};
+use crate::games::{CUT_SHORT, PUSHING, TWO_LEVELS};
 use ps_model::TEXT_LIMIT;
 use std::alloc::{Allocator, Global};
 use std::cell::RefCell;
@@ -20,9 +20,9 @@ const KEYS: &[u8] = b"q";
 const SIZE: &[u8] = b"10x20\n";
 
 /// A machine with the words of a command line. Each file whose name ends with `.keys` has the same keys, and one with
-/// `.size` the same size; `cut.game` has a text that ends before its levels, and each other one the game [`PUSHING`],
-/// with line feeds before it in `long.game` and `too-long.game`: so many that it has as many bytes as a text may have,
-/// and one more. There is neither a `lost.game` nor a `lost.size`.
+/// `.size` the same size; `cut.game` has a text that ends before its levels, `two.game` the game [`TWO_LEVELS`], and
+/// each other one the game [`PUSHING`], with line feeds before it in `long.game` and `too-long.game`: so many that it
+/// has as many bytes as a text may have, and one more. There is neither a `lost.game` nor a `lost.size`.
 #[derive(Drop)]
 pub struct Machine<'w> {
     alloc: Global,
@@ -181,6 +181,7 @@ fn file_of(name: &str) -> OpenedFile {
     let room = TEXT_LIMIT.saturating_sub(PUSHING.len());
     let (feeds, rest) = match name {
         "cut.game" => (0, CUT_SHORT),
+        "two.game" => (0, TWO_LEVELS),
         "long.game" => (room, PUSHING),
         "too-long.game" => (room.saturating_add(1), PUSHING),
         _ if name.ends_with(".keys") => (0, KEYS),

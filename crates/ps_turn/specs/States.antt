@@ -44,6 +44,7 @@ script_with parts plain late = record {
   plain = plain;
   late = late;
   entries = [];
+  first_entry = 0;
   wins = parts.wins;
 }
 

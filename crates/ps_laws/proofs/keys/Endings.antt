@@ -210,7 +210,8 @@ of_keys script session (key ∷ keys) own = of_keys script (key_step script sess
 
 pub ends_otherwise : EndsOtherwise
 unfolding opening_step
-ends_otherwise script bytes = of_keys script (opening_step script).session (keys_of bytes) (of_enter script 0)
+ends_otherwise script bytes = of_keys script (opening_step script).session (keys_of bytes)
+    (of_enter script script.first_entry)
 
 -- what the ending tells
 by_ending : (script : Script) (bytes : List ℕ) (found : Option Ending) → ending_of (session_of script bytes) ≡ found →

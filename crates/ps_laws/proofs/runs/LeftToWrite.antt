@@ -78,7 +78,7 @@ behind_start script start first second own ends =
 
 own_start : (script : Script) → IsOwn (opening_step script).session
 unfolding opening_step
-own_start script = of_enter script 0
+own_start script = of_enter script script.first_entry
 
 -- the keys of some bytes and more are the first so many, and others
 keys_parted : (bytes more : List ℕ) (count : ℕ) →

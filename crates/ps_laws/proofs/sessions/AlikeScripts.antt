@@ -10,7 +10,7 @@ use Rattle.ps_model.specs.board.GameGrids.{IsGridOf}
 use Rattle.ps_model.specs.rules.SourceRules.{no_commands}
 use Rattle.ps_model.specs.board.Attempts.{State}
 use Rattle.ps_model.specs.board.Programs.{Section, program_run}
-use Rattle.ps_model.specs.board.Turns.{Script, script_of, Outcome, Blocked, Restarted, Finished, prepared, moved}
+use Rattle.ps_model.specs.board.Turns.{Script, script_at, Outcome, Blocked, Restarted, Finished, prepared, moved}
 use Rattle.ps_model.specs.board.Turns.{played, same_cells, is_held, done_with, outcome_of, turn}
 use Rattle.ps_model.specs.session.LevelLines.{Entry, MessageEntry, LevelEntry}
 use Rattle.ps_model.specs.session.KeySteps.{key_step}
@@ -69,7 +69,7 @@ turn-equal a plain late plain_too late_too input g h =
 
 -- a script that is alike with another is that one with its own rules
 same_script : (a b : Script) → AlikeScripts a b → with_rules a b.plain b.late ≡ b
-same_script a b h = rw (h.title, h.options, h.names, h.entries, h.wins) refl
+same_script a b h = rw (h.title, h.options, h.names, h.entries, h.first_entry, h.wins) refl
 
 loads_as : (names : Names) (entry : Entry) → LoadsAsGrid names entry → LoadsAs (IsGridOf names) names entry
 loads_as names (MessageEntry text) h = tt
@@ -106,17 +106,18 @@ alike_runs a b h levels =
     (runs-equal (IsGridOf a.names) a b.plain b.late (turns-alike a b h levels))
 
 pub alike_games : AlikeGames
-alike_games text read e script h = alike_runs script (script_of read) h
+alike_games text read e entry script h = alike_runs script (script_at read entry) h
     (rw (h.names, h.entries) (game-levels text read e))
 
 pub alike_programs_of_games : AlikeProgramsOfGames
-alike_programs_of_games text read e plain late plain_too late_too =
-    alike_games text read e (script_by read plain late)
+alike_programs_of_games text read e entry plain late plain_too late_too =
+    alike_games text read e entry (script_by read entry plain late)
     (record {
       title = refl;
       options = refl;
       names = refl;
       entries = refl;
+      first_entry = refl;
       wins = refl;
       plain = plain_too;
       late =

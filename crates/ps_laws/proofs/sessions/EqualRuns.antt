@@ -33,8 +33,8 @@ module _ (IsSuch : Grid → Type 0) (a : Script) (plain late : List Section)
   -- the opening
   pub opening_step-equal : EqualSteps IsSuch (opening_step a) (opening_step b)
   unfolding opening_step
-  opening_step-equal = after-equal IsSuch (written_line (codes "= ") a.title) (enter a 0) (enter b 0)
-      (enter-equal IsSuch a plain late both 0)
+  opening_step-equal = after-equal IsSuch (written_line (codes "= ") a.title) (enter a a.first_entry)
+      (enter b a.first_entry) (enter-equal IsSuch a plain late both a.first_entry)
 
   -- keys in a row -----------------------------------------------------------------------------------------------------
 

@@ -27,6 +27,7 @@ with_rules a plain late = record {
   late =
       late;
   entries = a.entries;
+  first_entry = a.first_entry;
   wins = a.wins;
 }
 

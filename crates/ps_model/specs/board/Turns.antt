@@ -21,7 +21,7 @@ use Rattle.ps_model.specs.board.Wins.{Win}
 use Rattle.ps_model.specs.board.Winning.{won}
 use Rattle.ps_model.specs.game.Games.{Game}
 
--- a game as it is played: its rules are two programs
+-- a game as it is played: its rules are two programs, and it begins at one of its entries
 pub record Script : Type 0 where
   pub title : List ℕ
   pub options : Options
@@ -29,19 +29,26 @@ pub record Script : Type 0 where
   pub plain : List Section
   pub late : List Section
   pub entries : List Entry
+  -- the place among them at which the game begins
+  pub first_entry : ℕ
   pub wins : List Win
 
--- a game with its rules as they are written
-abbrev pub script_of : Game → Script
-script_of game = record {
+-- a game that begins at that entry, with its rules as they are written
+abbrev pub script_at : Game → ℕ → Script
+script_at game entry = record {
   title = game.title;
   options = game.options;
   names = game.names;
   plain = program_of game.names Plain game.rules;
   late = program_of game.names Late game.rules;
   entries = game.entries;
+  first_entry = entry;
   wins = game.wins;
 }
+
+-- a game from its start: it begins at the first of its entries
+abbrev pub script_of : Game → Script
+script_of game = script_at game 0
 
 -- a turn that is done: the board; whether it differs from that before; the first message; and whether a checkpoint is
 -- set, the level is won, and the turn is to come again

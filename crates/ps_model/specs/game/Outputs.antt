@@ -1,5 +1,5 @@
--- What a run writes: the title, what the first entry writes, and then a text for each key up to an ending. Where the
--- keys end before the game does, that is said too.
+-- What a run writes: the title, what the entry writes at which the game begins, and then a text for each key up to an
+-- ending. Where the keys end before the game does, that is said too.
 use Rattle.std.specs.Prelude.{ℕ, Option, Some, None, List, [], ◌∷◌, ◌++◌, codes, take}
 use Rattle.ps_model.specs.declared.play.Ending.{Ending}
 use Rattle.ps_model.specs.declared.play.Ending.TheVariants.{EndOfKeys}
@@ -35,9 +35,9 @@ ending_of (Waiting play pending) = None
 ending_of (AtMessage entry) = None
 ending_of (Ended ending) = Some ending
 
--- the start of a run: the title, and what the first entry writes
+-- the start of a run: the title, and what the entry writes at which the game begins
 unfoldable pub opening_step : Script → Step
-opening_step script = after (written_line (codes "= ") script.title) (enter script 0)
+opening_step script = after (written_line (codes "= ") script.title) (enter script script.first_entry)
 
 -- what the keys bring in a session that has ended so, or hasn't
 abbrev pub output_of_keys : Script → Session → Option Ending → List Key → Output

@@ -1,19 +1,21 @@
-use Rattle.std.proofs.Common.{◌≡◌, ◌∙◌, refl, ap}
+use Rattle.std.proofs.Common.{◌≡◌, ◌∙◌, ℕ, refl, ap}
 use Rattle.ps_model.specs.game.Games.{Game}
 use Rattle.ps_levels.specs.EntriesShown.{entries_shown}
 use Rattle.ps_levels.specs.WinsShown.{wins_shown}
-use Rattle.ps_stage.specs.Standings.{SessionParts}
-use Rattle.ps_rulebook.specs.PlayedGames.{parts_of}
-use Rattle.ps_run.proofs.text_run.parts_of_game.Goals as goal
+use Rattle.ps_stage.specs.Standings.{SessionParts, begun_at}
+use Rattle.ps_rulebook.specs.PlayedGames.{parts_at}
+use Rattle.ps_run.proofs.read_run.parts_of_game.Goals as goal
 
 -- the parts of a game by their fields
-same_parts : (parts : SessionParts) (read : Game) → parts.title ≡ read.title → parts.options ≡ read.options →
-    parts.names ≡ read.names → parts.entries ≡ read.entries → parts.wins ≡ read.wins → parts ≡ parts_of read
-same_parts parts read title options names entries wins = rw (← title, ← options, ← names, ← entries, ← wins) refl
+same_parts : (parts : SessionParts) (read : Game) (entry : ℕ) → parts.title ≡ read.title →
+    parts.options ≡ read.options → parts.names ≡ read.names → parts.entries ≡ read.entries → parts.wins ≡ read.wins →
+    begun_at parts entry ≡ parts_at read entry
+same_parts parts read entry title options names entries wins = rw (← title, ← options, ← names, ← entries, ← wins) refl
 
 pub returns-clause-parts : goal.returns-clause-parts
 returns-clause-parts c =
-    same_parts c.new.result c.args.game.now
+    c.begun_at.ensures
+    ∙ same_parts c.new.result c.args.game.now c.args.entry
     (c.new.ensures.title ∙ c.as_str.ensures ∙ ap (λ (r : Game). r.title) c.game.view_is)
     (c.new.ensures.options ∙ ap (λ (r : Game). r.options) c.game.view_is)
     (c.new.ensures.names ∙ ap (λ (r : Game). r.names) c.game.view_is)
