@@ -1,5 +1,5 @@
--- What a front end needs to know of a game, as JSON: its title, how many levels it has, which keys it ignores, what each glyph
--- stands for, and which glyphs show a Player.
+-- What a front end needs to know of a game, as JSON: its title, how many levels it has, which keys it ignores, what each
+-- glyph stands for, and which glyphs show a Player.
 use Rattle.std.specs.Prelude.{◌≡◌, ℕ, nat_eq, Bool, false, Option, Some, None, List, [], ◌∷◌, ◌++◌, if◌then◌else◌, length}
 use Rattle.std.specs.Prelude.{map, filter, find, codes, encode_utf8}
 use Rattle.std.specs.List.{list_any, flat_map}
