@@ -40,7 +40,7 @@ def sentences(text):
     """The sentences of a document, each with its words: a list, a cell of a table and a heading have sentences of their own."""
     paragraphs = re.split(r"\n\s*\n|\n(?=\s*(?:[-*|#]|\d+\.)\s?)|(?<=\|)\s", without_blocks(text))
     for paragraph in paragraphs:
-        plain = LINK.sub(r"\1", QUOTED.sub("`", paragraph))
+        plain = LINK.sub("`", QUOTED.sub("`", paragraph))
         for cell in plain.strip().strip("|").split(" | "):
             for sentence in END.split(" ".join(cell.split())):
                 if words := re.findall(r"[\w'’`.,-]*\w[\w'’`-]*|`", sentence):
