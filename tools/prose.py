@@ -7,7 +7,7 @@ COMMENT = {".rt": re.compile(r"(?:^|\s)//[/!]?(.*)"), ".antt": re.compile(r"(?:^
 QUOTED = re.compile(r"`[^`\n]*`")
 BLOCK = re.compile(r"^( *)```.*?^ *```", re.S | re.M)
 LINK = re.compile(r"\[([^\]]*)\]\([^)]*\)")
-END = re.compile(r"(?<=[.!?:;])[*_\"')]*\s+(?=[A-Z`*(\[_\"']|$)")
+END = re.compile(r"(?<=[.!?:;])[*_\"')]*\s+(?=[A-Z0-9`*(\[_\"']|$)")
 
 
 def without_blocks(text):
