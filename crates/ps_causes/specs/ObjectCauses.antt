@@ -39,7 +39,7 @@ pub record IsShortSprite (text : List ℕ) (line rows : ℕ) (below : Option NoR
   pub counted : rows ≡ sprite_rows (drop 1 (lines_under text line))
   pub other : IfSome below (IsNoRow text)
 
--- what is told of an object is true
+-- what is said about an object is true
 abbrev pub IsToldOfObject : List ℕ → ℕ → ObjectCause → Type 0
 IsToldOfObject text line (RowName word) = IsWordOf text line word × IsDeclaredAt text line word.text.now
 IsToldOfObject text line (Colourless name below) = IsWordOf text line name × IsColourless text line below

@@ -54,7 +54,7 @@ pub record IsFurther (text : List ℕ) (further : Further) : Type 0 where
   pub own : is_own Rules (line_at text further.line) ≡ true
   pub part : is_part further.part (texts_of text further.line) ≡ true
 
--- what is told of a rule is true
+-- what is said about a rule is true
 abbrev pub IsToldOfRule : List ℕ → ℕ → RuleCause → Type 0
 IsToldOfRule text line (Pair word other shared) = IsPair text line word other shared
 IsToldOfRule text line (Several word declared) = IsSeveral text line word declared

@@ -4,7 +4,7 @@ use ps_facts::{Named, Slip};
 use ps_model::Section;
 use ps_text::Word;
 
-/// What is told of a word that isn't a name here.
+/// What is said about a word that isn't a name here.
 #[derive(Clone, Copy)]
 pub enum Hint<'a> {
     /// Nothing.

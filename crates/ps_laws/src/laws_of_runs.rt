@@ -74,7 +74,7 @@ pub fn ends_of_output()
 /// Runs that aren't allowed, whatever the game: calls of the reader after the ending, after its end, too many or too
 /// long, or with room for more or fewer bytes than a run asks for; writes of nothing, none where something is written,
 /// or more of them than there are texts, where the writer takes each whole; answers that tell of a failure that wasn't,
-/// or don't tell of one that was; wanting memory where nothing was to be made; and writing what isn't to be written.
+/// or don't tell of one that was; no memory where nothing was to be made; and writing what isn't to be written.
 pub fn runs_not_allowed()
     ensures no_call_behind_ending { NoCallBehindEnding }
     ensures no_read_fault_behind_ending { NoReadFaultBehindEnding }

@@ -80,7 +80,7 @@ fn are_few(rows: &[CompiledRow]) -> bool {
     true
 }
 
-/// Whether it is told of rows that no write of theirs wakes a mask of theirs. It is asked only where there are two rows
+/// Whether it is known of rows that no write of theirs wakes a mask of theirs. That is asked where there are two rows
 /// or more, of few cells: of one row alone no place is passed twice.
 pub fn told_to_sleep(rows: &[CompiledRow]) -> bool
     ensures { result ≡ true → rows_sleep rows.now ≡ true }

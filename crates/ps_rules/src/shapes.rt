@@ -91,7 +91,7 @@ fn side_of<'a, 'n>(
 }
 
 /// The shape of a rule by the parts between its arrows, if these are its two sides. The parts are lent, so that none of
-/// the ways out gives them back.
+/// the return paths gives them back.
 fn shape_of_parts<'a, 'n>(
     alloc: Global,
     parts: &[&'a [Token<'n>]],

@@ -117,7 +117,8 @@ fn expect_programs_again(
 }
 
 /// Plays a game by keys, each of which is tried again where it was refused a growth. Nothing is looked at where memory
-/// is refused before the first key. Who lends a game and its programs has few ways out, each of which drops them.
+/// is refused before the first key. A function that lends a game and its programs has few return paths, each of which
+/// drops them.
 fn expect_keys_again(
     rt: &(impl Abort + AllocGlobal),
     lines: &str,

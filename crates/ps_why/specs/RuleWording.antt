@@ -1,4 +1,4 @@
--- What is told of a rule, in words.
+-- What is said about a rule, in words.
 use Rattle.std.specs.Prelude.{ℕ, nat_lt, if◌then◌else◌, List, ◌++◌, codes}
 use Rattle.std.specs.Fmt.{decimal}
 use Rattle.ps_causes.specs.declared.causes.Further.{Further}
@@ -79,7 +79,7 @@ abbrev pub going_on_words : Further → List ℕ
 going_on_words further =
     codes "A rule is written in one line, and line " ++ (decimal further.line ++ part_words further.part)
 
--- what is told of a rule
+-- what is said about a rule
 abbrev pub rule_sentence : RuleCause → List ℕ
 rule_sentence (Pair word other shared) = pair_words word.text.now other.text.now shared
 rule_sentence (Several word declared) = several_words word.text.now declared

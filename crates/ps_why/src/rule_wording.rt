@@ -1,4 +1,4 @@
-//! What is told of a rule, in words.
+//! What is said about a rule, in words.
 
 ghost use Rattle.std.specs.Prelude.{◌≡◌, IfOk, string_bytes};
 ghost use Rattle.ps_why.specs.RuleWording.{pair_words, several_words, unbound_words, rows_words, cells_words};
@@ -160,7 +160,7 @@ fn going_on_words(alloc: Global, further: Further) -> Result<String, Memory>
     Ok(words)
 }
 
-/// What is told of a rule.
+/// What is said about a rule.
 pub fn rule_sentence(alloc: Global, cause: RuleCause<'_>) -> Result<String, Memory>
     ensures { IfOk result (λ words. string_bytes words ≡ rule_sentence cause.entry) }
 {

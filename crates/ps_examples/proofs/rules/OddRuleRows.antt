@@ -1,4 +1,4 @@
--- Odd rules in whole texts, worked by hand: what is told of them first, and at which line; or what they do.
+-- Odd rules in whole texts, worked by hand: what is said about them first, and at which line; or what they do.
 use Rattle.std.proofs.Common.{◌≡◌, ℕ, List, [], ◌∷◌, ◌++◌, map, refl, Option, Some, None}
 use Rattle.std.specs.Prelude.{codes, replicate}
 use Rattle.std.specs.List.{flat_map}
@@ -21,15 +21,15 @@ use Rattle.ps_examples.proofs.games.WholeRuns.{written, refused}
 abbrev at_line : ℕ → FaultKind → Option Fault
 at_line line kind = Some (record { kind = kind; line = line })
 
--- what is told of the base text with these lines of RULES, the first of which is line 30
+-- what is said about the base text with these lines of RULES, the first of which is line 30
 abbrev told : List ℕ → Option Fault
 told rules = refused (base_game (rules ++ codes "\n") [] (codes "P\n"))
 
--- the same is told of all these rules
+-- all these rules have the same answer
 abbrev AllTold : Option Fault → List (List ℕ) → Type 0
 AllTold fault rules = map told rules ≡ map (λ rule. fault) rules
 
--- what is told of these lines of RULES, the first of which is line 30, below a legend of synonyms, properties and
+-- what is said about these lines of RULES, the first of which is line 30, below a legend of synonyms, properties and
 -- aggregates: A and B lie on one layer, C and D on one each
 abbrev told_with_legend : List ℕ → Option Fault
 told_with_legend rules =
@@ -205,7 +205,7 @@ bound_by_legend = refl
 
 -- how many rules, and how many readings -------------------------------------------------------------------------------
 
--- what is told of 1,023 rules and these lines below them
+-- what is said about 1,023 rules and these lines below them
 abbrev told_below_many : List ℕ → Option Fault
 told_below_many rules = told (flat_map (λ rule. rule) (replicate 1023 (codes "[]->win\n")) ++ rules)
 

@@ -13,7 +13,7 @@ use Rattle.ps_model.specs.rules.ReadingFaults.{reading_faults}
 use Rattle.ps_model.specs.game.HeldFaults.{hidden_in_readings}
 use Rattle.ps_examples.proofs.rules.RuleTexts.{base_names, with_name, lines_below, fault_at, ac}
 
--- the fault that is told of the readings of rules
+-- the fault that the readings of rules have
 abbrev told : Names → List ℕ → Option Fault
 told names rules = first_fault (reading_faults names (rules_read names (lines_below rules)))
 

@@ -83,7 +83,7 @@ abbrev pub mentions_of : List LegendName → Mention → List Mention
 mentions_of legend (OfObject object) = []
 mentions_of legend (OfLine place) = mentions_of_name (slice_get legend place)
 
--- a list to which mentions are added, in so many steps at most: one that the list has already is passed over; another
+-- a list to which mentions are added, in so many steps at most: one that the list has already is skipped; another
 -- is put at its end, and then what the mention's own line mentions is added before the others
 abbrev pub with_mentioned : List LegendName → ℕ → List Mention → List Mention → List Mention
 with_mentioned legend steps listed [] = listed
