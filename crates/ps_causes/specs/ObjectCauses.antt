@@ -34,7 +34,7 @@ IsColourless text line None = lines_under text line ≡ []
 IsColourless text line (Some below) =
     (slice_get (lines_under text line) 0 ≡ Some (line_at text below)) × (is_blank_line (line_at text below) ≡ true)
 
--- so many rows of a sprite stand below the first line of OBJECTS below a line, and then a line that is none
+-- that number of rows of a sprite stand below the first line of OBJECTS below a line, and then a line that is none
 pub record IsShortSprite (text : List ℕ) (line rows : ℕ) (below : Option NoRow) : Type 0 where
   pub counted : rows ≡ sprite_rows (drop 1 (lines_under text line))
   pub other : IfSome below (IsNoRow text)

@@ -32,7 +32,7 @@ pub record IsArrowOf (text : List ℕ) (line : ℕ) (arrow : Word) (before behin
   pub parts : texts_of text line ≡ before ++ arrow.text.now ∷ behind
   pub sign : is_sign Arrow arrow.text.now ≡ true
 
--- so many rows stand before and after the arrow
+-- `left` rows stand before the arrow, and `right` after it
 pub record IsRows (text : List ℕ) (line : ℕ) (arrow : Word) (left right : ℕ) : Type 0 where
   pub before : List (List ℕ)
   pub behind : List (List ℕ)
@@ -40,7 +40,7 @@ pub record IsRows (text : List ℕ) (line : ℕ) (arrow : Word) (left right : �
   pub on_the_left : left ≡ length (cell_counts before)
   pub on_the_right : right ≡ length (cell_counts behind)
 
--- the row of a number, from 1, has so many cells before and after the arrow
+-- the row of a number, from 1, has `left` cells before the arrow, and `right` after it
 pub record IsCells (text : List ℕ) (line : ℕ) (arrow : Word) (row left right : ℕ) : Type 0 where
   pub before : List (List ℕ)
   pub behind : List (List ℕ)

@@ -234,7 +234,7 @@ pub enum ObjectCause<'a> {
         name: Word<'a>,
         below: Option<u32>,
     },
-    /// Below the colours stand so many rows of a sprite, and then a line that is none, if there is one.
+    /// Below the colours stand this many rows of a sprite, and then a line that is none, if there is one.
     ShortSprite {
         name: Word<'a>,
         rows: usize,

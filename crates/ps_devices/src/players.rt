@@ -40,7 +40,7 @@ impl From<Memory> for RunFault {
 /// Why a run that begins at a level didn't come to its end.
 #[derive(Clone, Copy, PartialEq, Eq, Debug, Error)]
 pub enum LevelFault {
-    /// The game has no such level, but so many others, and nothing was read or written.
+    /// The game has no such level, but this many others, and nothing was read or written.
     #[error("the game has no such level")]
     NoSuchLevel { levels: usize },
     /// The run came to a fault.

@@ -55,7 +55,7 @@ impl<T: Drop> Stream<T> {
         }
     }
 
-    /// Counts one more call, of so many bytes. It fails where the count can't grow.
+    /// Counts one more call, of `asked` bytes. It fails where the count can't grow.
     fn count_call(&mut self, asked: usize) -> Result<(), Failed>
         ensures stream { self.new.stream ≡ self.old.stream }
         ensures asked { self.new.asked ≡ asked }

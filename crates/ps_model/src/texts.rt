@@ -45,7 +45,7 @@ pub enum ObjectStage {
     Named,
     /// Right below the colours: a sprite row, or else the end of this object.
     Coloured,
-    /// Below so many sprite rows, one to four, that ask for the next.
+    /// Below this many sprite rows, one to four, that ask for the next.
     Sprite(u32),
 }
 

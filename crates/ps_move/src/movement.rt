@@ -76,7 +76,7 @@ pub fn slide<B: Board>(board: &mut B) -> Slid
     Slid { passes }
 }
 
-/// The passes of some layers and of one more, in which so many moved an object: as many as the one with the most has.
+/// The passes of some layers and of one more, in which `moved` moved an object: as many as the one with the most has.
 fn most_passes(passes: u32, moved: u32) -> u32
     requires some { 1 ≤ passes }
     requires few { moved + 1 < 2 ^ 32 }

@@ -13,7 +13,7 @@ use crate::output_text::OutputText;
 use ps_board::{Board, ColumnWords, Columns};
 use ps_model::Memory;
 
-/// Adds a row of so many blanks, and a line feed.
+/// Adds a row of `width` blanks, and a line feed.
 ///
 /// # Errors
 ///

@@ -74,7 +74,7 @@ pub fn patch_frame<B: Board>(
     Ok(true)
 }
 
-/// Makes a text a frame of blanks: so many rows of so many, and an empty line.
+/// Makes a text a frame of blanks: `height` rows of `width` blanks, and an empty line.
 ///
 /// # Errors
 ///

@@ -30,7 +30,7 @@ several_words word line =
     codes "Line " ++ (decimal line ++ (codes " makes `" ++ (word ++
     codes "` several objects at once, and `no` can't stand before such a name.")))
 
--- that of so many words two were told
+-- that of `times` words two were told
 abbrev pub further_words : ℕ → List ℕ
 further_words times = if nat_lt 2 times then codes " among them." else codes "."
 
@@ -43,7 +43,7 @@ abbrev pub other_words : List ℕ → ℕ → List ℕ
 other_words name cell =
     codes ". It has another property, `" ++ (name ++ (codes "` in cell " ++ (decimal cell ++ codes ".")))
 
--- what of the left could be meant, where so many of it are like the word
+-- what of the left could be meant, where `times` of it are like the word
 abbrev pub could_words : ℕ → Could → List ℕ
 could_words times Nothing = codes "."
 could_words times (Either first second) =

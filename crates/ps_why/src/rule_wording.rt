@@ -51,7 +51,7 @@ fn several_words(alloc: Global, word: &str, line: u32) -> Result<String, Memory>
     Ok(words)
 }
 
-/// That of so many words two were told.
+/// That of `times` words two were told.
 fn further_words(times: usize) -> &'static str
     ensures { result.now ≡ further_words times }
 {
@@ -89,7 +89,7 @@ fn other_words(alloc: Global, name: &str, cell: usize) -> Result<String, Memory>
     Ok(words)
 }
 
-/// What of the left could be meant, where so many of it are like the word.
+/// What of the left could be meant, where `times` of it are like the word.
 fn could_words(alloc: Global, times: usize, could: Could<'_>) -> Result<String, Memory>
     ensures { IfOk result (λ words. string_bytes words ≡ could_words times could.entry) }
 {

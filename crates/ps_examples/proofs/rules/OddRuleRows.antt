@@ -224,7 +224,7 @@ one_rigid_rule_more : told_below_many (codes "[]->win\nrigid []->win") ≡ at_li
 unfolding chars is_utf8 encode utf8_valid_len
 one_rigid_rule_more = refl
 
--- so many items
+-- an item, `count` times
 abbrev times : ℕ → List ℕ → List ℕ
 times count item = flat_map (λ each. each) (replicate count item)
 

@@ -21,7 +21,7 @@ told names rules = first_fault (reading_faults names (rules_read names (lines_be
 abbrev counts : Names → List ℕ → List ℕ
 counts names rules = map (reading_count names) (filter_map rule_in (rules_read names (lines_below rules)))
 
--- a row of so many more cells, that asks for a command
+-- a row of one cell and `more` cells, that asks for a command
 abbrev row_of : ℕ → List ℕ → List ℕ
 row_of more item = codes "right [ " ++ (item ++
     (flat_map (λ cell. cell) (replicate more (codes " | " ++ item)) ++ codes " ] -> cancel\n"))

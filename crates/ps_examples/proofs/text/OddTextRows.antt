@@ -250,7 +250,7 @@ bad_before_twice : refused (text_with (codes "Player P P\nx\n") [] []) ≡ at_li
 unfolding chars is_utf8 encode utf8_valid_len
 bad_before_twice = refl
 
--- so many objects more, each of two lines, and their names
+-- `count` objects more, each of two lines, and their names
 abbrev name_of : ℕ → List ℕ
 name_of number = codes "E" ++ decimal number
 
@@ -408,7 +408,7 @@ aggregates_on_layers : map refused
 unfolding chars is_utf8 encode utf8_valid_len
 aggregates_on_layers = refl
 
--- so many layers, all of Background
+-- `count` layers, all of Background
 abbrev layers : ℕ → List ℕ
 layers count = flat_map (λ line. line) (replicate count (codes "Background\n"))
 

@@ -191,7 +191,7 @@ columns-counted rows (column ∷ columns) =
     ∙ ap (λ (n : ℕ). n + length others) first ∙ ap (λ (n : ℕ). length rows + n) rest in
     long ∙ omega (arith, suc-mul (length columns) (length rows))
 
--- a level has so many cells as its columns and rows say
+-- a level has as many cells as its columns and rows say
 pub cells-counted : (names : Names) (width : ℕ) (rows : List Line) →
     length (grounded names (in_columns width (map (row_cells names width) rows))) ≡ width * length rows
 cells-counted names width rows =

@@ -47,7 +47,7 @@ pub record IsCutOff (first second : List ℕ) : Type 0 where
 abbrev pub texts_of : Script → List ℕ → List ℕ
 texts_of script bytes = front script bytes (length (keys_of bytes))
 
--- how the first so many keys of the bytes leave the game: it has ended, or else the keys have
+-- how the first `count` keys of the bytes leave the game: it has ended, or else the keys have
 abbrev pub ending_behind : Script → List ℕ → ℕ → Ending
 ending_behind script bytes count =
     let start : Step = opening_step script in
@@ -138,7 +138,7 @@ pub record StopsAtOnce (told : Told) : Type 0 where
   pub wrote_nothing : told.wrote ≡ []
   pub writer_is_well : WriterIsWell told
 
--- memory was refused in play: what was written is the opening and the texts of so many keys, whole, and not fewer than
+-- memory was refused in play: what was written is the opening and the texts of some keys, whole, and not fewer than
 -- were read before the last call; the game went on after them, and more was to be made: the text of a key that was
 -- read, or, where the last call gave nothing, the line that says so
 pub record StopsForMemory (script : Script) (told : Told) : Type 0 where

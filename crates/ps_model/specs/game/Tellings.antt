@@ -75,7 +75,7 @@ has_failing_call Unasked = false
 has_failing_call (Asked earlier (Gives piece)) = false
 has_failing_call (Asked earlier Fails) = true
 
--- how many bytes the reader's last call gave, where it gave so many before the run
+-- how many bytes the reader's last call gave, where it gave `before` before the run
 abbrev pub last_behind : ℕ → ReaderCalls → ℕ
 last_behind before Unasked = before
 last_behind before (Asked earlier last) = length (bytes_of_call last)
