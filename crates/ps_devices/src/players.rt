@@ -48,7 +48,7 @@ pub enum LevelFault {
     Run(RunFault),
 }
 
-/// What plays games, each as its text means it. Who says which game is played where, as a command line does, asks for
+/// What plays games, each as its text means it. Code that says which game is played where, as a command line, asks for
 /// no more than this, and so needs nothing of what plays.
 pub trait Player {
     /// Plays the game whose text is `text`: reads keys from `reader` and writes frames to `writer`, until the game has
