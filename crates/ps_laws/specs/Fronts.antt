@@ -1,5 +1,5 @@
--- What a run has written when it has read so far: the front of its output. It grows with each key until the game ends,
--- and the whole output is the front of all keys, with one more line where the keys end first.
+-- What a run has written when it has read so far: the front of its output. It grows with each key until the game ends.
+-- The whole output is the front of all keys, with one more line where the keys end first.
 use Rattle.std.specs.Prelude.{ℕ, ◌≤◌, Some, None, List, [], ◌∷◌, ◌++◌, length, ◌≡◌, ◌≢◌}
 use Rattle.ps_model.specs.declared.play.Ending.{Ending}
 use Rattle.ps_model.specs.declared.play.Ending.TheVariants.{EndOfKeys}

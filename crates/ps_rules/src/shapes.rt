@@ -1,5 +1,5 @@
-//! The shape of a rule: `->` parts its line in a left and a right side, brackets part a side in rows and what stands
-//! outside them, and bars part a row in cells.
+//! The shape of a rule: `->` parts its line in a left and a right side. Brackets part a side in rows and what stands
+//! outside them. Bars part a row in cells.
 
 ghost use Rattle.std.specs.Prelude.{◌≡◌, IfOk, option_map, map};
 ghost use Rattle.ps_model.specs.text.OptionSteps.{all_there};

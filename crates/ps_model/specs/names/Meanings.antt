@@ -15,8 +15,8 @@ use Rattle.ps_model.specs.text.Lines.{folded}
 use Rattle.ps_model.specs.names.Names.{Meaning, One, AllOf, AnyOf, same_object}
 use Rattle.ps_model.specs.names.LegendLines.{Declaration}
 
--- a name on the right of a legend line is that of an object, or that of a legend line, by its place among those that
--- declare
+-- a name on the right of a legend line is that of an object, or that of a legend line. Such a line is given by its
+-- place among those that declare
 pub data Mention : Type 0 where
   OfObject : ObjectId → Mention
   OfLine : ℕ → Mention

@@ -88,8 +88,8 @@ turn_taken script play (Finished done) = key_done script (with_board_in_history_
 abbrev pub input_taken : Script → Play → Input → Step
 input_taken script play input = turn_taken script play (turn script (Some input) play.board)
 
--- the level back at the latest board of its history, which leaves the history, and with the room that is seen there;
--- where there is none, as it is
+-- the level back at the latest board of its history, with the room that is seen there. That board leaves the history;
+-- where there is none, the level is as it is
 abbrev pub back_at : Script → Play → Option Grid → Play
 back_at script play None = play
 back_at script play (Some latest) = seen script (record {
