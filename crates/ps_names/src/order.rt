@@ -51,7 +51,7 @@ struct Search {
     places: Vec<u32>,
 }
 
-/// Written out: an owner of a search calls this on each return path, and doesn\'t drop its parts there.
+/// Written out: an owner of a search calls this on each return path, and doesn't drop its parts there.
 impl Drop for Search {
     fn drop(self) {
         let Search {

@@ -211,7 +211,7 @@ const PLAYS: [(Told, &[Line]); 11] = [
             (&["ps_play", "--level=2", "two.game"], "two.game\n"),
         ],
     ),
-    // A level that the game doesn\'t have is reported, and no key is asked for.
+    // A level that the game doesn't have is reported, and no key is asked for.
     (
         Told {
             input: b"d",

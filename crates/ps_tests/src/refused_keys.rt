@@ -1,5 +1,5 @@
-//! Sessions of which a key is refused a growth: session and output are as before the key then, and the same key does,
-//! when it is tried again, what it does where nothing is refused. As the tests run by themselves nothing is refused;
+//! Sessions of which a key is refused a growth: session and output are as before the key then. The same key, tried
+//! again, does what it does where nothing is refused. As the tests run by themselves nothing is refused;
 //! `tools/refuse_growths` plays them with each growth refused in turn.
 
 ghost use Rattle.ps_model.specs.session.RoomSizes.{HasRoomSize};

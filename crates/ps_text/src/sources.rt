@@ -143,9 +143,9 @@ impl Source {
         self.row(line).is_header
     }
 
-    /// The text of the line, from 1 to `lines()`, that is taken as it stands, without the blanks at its ends, if the
-    /// line has one. It stands after `title`, `author` or `homepage` as the first word of a line above all sections, up
-    /// to the first `(`. It stands after `message` as the first word of a line of LEVELS, and after the first `message`
+    /// The text of the line, from 1 to `lines()`, that is taken as it stands, if it has one, without the blanks at its
+    /// ends. It stands after `title`, `author` or `homepage` as the first word of a line above all sections, up to the
+    /// first `(`. It stands after `message` as the first word of a line of LEVELS. It stands after the first `message`
     /// after the `->` of a line of RULES. It may be empty.
     pub fn rest(&self, line: u32) -> Option<Word<'_>>
         requires { HasLine self.now line }

@@ -41,8 +41,8 @@ AllToldWithLegend fault rules = map told_with_legend rules ≡ map (λ rule. fau
 
 -- words ---------------------------------------------------------------------------------------------------------------
 
--- signs are cut off at the start of a word alone, `v` and key words of letters nowhere, and an ellipsis has three
--- points and blanks or bars beside it
+-- signs are cut off at the start of a word alone, `v` and key words of letters nowhere; an ellipsis has three points,
+-- and blanks or bars beside it
 glued_words : AllTold (at_line 30 kind.UnknownWord)
     (codes "[ vA ] -> [ A ]" ∷ codes "[ A> ] -> [ A ]" ∷ codes "[ A<B ] -> cancel" ∷ codes "[ A | ...B | C ] -> cancel"
     ∷ codes "[ A | .... | B ] -> cancel" ∷ codes "[ noA ] -> cancel"
@@ -154,8 +154,8 @@ message_to_the_end : written (base_game (codes
 unfolding chars digits is_utf8 utf8_valid_len encode group program_run all_start_turns all_key_turns turn opening_step
 message_to_the_end = refl
 
--- without an arrow before it, and on the left of the arrow, `message` is a key word where it can't stand, after which
--- a comment may begin
+-- without an arrow before it, and on the left of the arrow, `message` is a key word where it can't stand; a comment may
+-- begin after it
 message_without_arrow : map told
     (codes "[ A ] -> message (\n[ Q ] -> cancel" ∷ codes "[ A ] message (\n[ Q ] ) -> cancel" ∷ codes
     "message ( [ A ] -> )[ A ] -> [ Q ]" ∷ codes "message [ A ] -> [ B ]" ∷ codes "[ A ] -> [ B ] messages x" ∷ [])
@@ -253,8 +253,8 @@ choices_counted : map told
 unfolding chars is_utf8 encode utf8_valid_len
 choices_counted = refl
 
--- every reading is impossible: a layer is named twice in one cell of one side, by an aggregate, by each member of a
--- property, or by an object and a member that is the same
+-- every reading is impossible: a layer is named twice in one cell of one side. That is by an aggregate, by each member
+-- of a property, or by an object and a member that is the same
 impossible_rules : AllTold (at_line 30 kind.Impossible)
     (codes "[ @ Wall ] -> cancel" ∷ codes "[ AT B Target ] -> cancel" ∷ codes "[ A ] -> [ B C ]" ∷ codes
     "[ A no B C ] -> cancel" ∷ codes "late [ Player | | Wall Crate ] -> cancel" ∷ codes "[ AT ] -> [ AT B Target ]"

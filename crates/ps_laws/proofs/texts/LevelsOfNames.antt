@@ -1,5 +1,5 @@
--- The levels that are read have objects of the game alone and as many cells as their sides say, and so each is loaded
--- as a grid of the game.
+-- The levels that are read have objects of the game alone, and as many cells as their sides say. So each is loaded as a
+-- grid of the game.
 use Rattle.std.proofs.Common.{◌≡◌, ℕ, zero, suc, ◌+◌, ◌*◌, ◌<◌, Bool, true, false, cond, Option, Some, None, List, []}
 use Rattle.std.proofs.Common.{◌∷◌, ◌++◌, length, map, get_or, fold, replicate, refl, ap, ◌∙◌, arith}
 use mathlib.Core.Path.{subst}
