@@ -71,10 +71,10 @@ pub fn ends_of_output()
     ensures by_ending { WrittenByEnding }
 {}
 
-/// Runs that aren't allowed, whatever the game. There are calls of the reader after the ending, after its end, too many
-/// or too long, or with another room than a run asks for. There are writes of nothing, none where something is written,
-/// or more of them than texts, where the writer takes each whole. There are answers that tell of a failure that wasn't,
-/// or don't tell of one that was. There is `Memory` where nothing was to be made, and writing what isn't to be written.
+/// Runs that aren't allowed, whatever the game. There are calls of the reader after the ending or after its end, too
+/// many or too long, or with another room. There are writes of nothing, or none where something is written. There are
+/// more of them than texts, where the writer takes each whole. There are answers that tell of a failure that wasn't, or
+/// don't tell of one that was. There is `Memory` where nothing was to be made, and writing what isn't to be written.
 pub fn runs_not_allowed()
     ensures no_call_behind_ending { NoCallBehindEnding }
     ensures no_read_fault_behind_ending { NoReadFaultBehindEnding }

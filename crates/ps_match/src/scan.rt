@@ -57,9 +57,8 @@ pub trait Scan: Board {
     fn motions_there(&self) -> MotionSet
         ensures { HasMotionsIn (Self.grid self.now) result };
 
-    /// Topics, as a set of their numbers. Outside of them another board has the same objects and motions in each cell;
-    /// it has the same size, as many layers and the same room. There may be more of them, or all of them, as a board
-    /// needn't look for it.
+    /// Topics, as a set of their numbers. Outside of them another board, of the same size, layers and room, has the
+    /// same objects and motions in each cell. There may be more of them, or all: a board needn't look for it.
     fn topics_differing(&self, other: &Self) -> Topics
         requires width { (Self.grid other.now).width ≡ (Self.grid self.now).width }
         requires height { (Self.grid other.now).height ≡ (Self.grid self.now).height }
