@@ -16,7 +16,7 @@ ghost use Rattle.ps_engine.specs.Writing.{AreWithin, is_behind, is_written, row_
 
 use crate::lent_queue::LentQueue;
 use ps_match::{Columns, Scan, recall_shape, rewrite_ahead};
-use ps_places::RoomFor;
+use ps_places::ScratchFor;
 use ps_program::{Axis, CellWrite, CompiledCell, CompiledRow, CompiledRule, Writer};
 
 /// The cell of a row's two parts that is its writer.
@@ -60,7 +60,7 @@ fn write_behind<B: Scan>(
     }
 }
 
-/// Writes the cells that lie so many steps along an axis from the columns that a room keeps of these rows of the
+/// Writes the cells that lie so many steps along an axis from the columns that scratch memory keeps of these rows of the
 /// board, and answers whether one of them changed.
 fn write_targets<B: Scan>(
     board: &mut B,
@@ -68,13 +68,13 @@ fn write_targets<B: Scan>(
     axis: Axis,
     steps: u32,
     rows: Columns<B::Words>,
-    room: &RoomFor<B>,
+    row_scratch: &ScratchFor<B>,
 ) -> bool
     requires { AreWithin axis (B.grid board.old).height steps rows }
     ensures rewritten { let before = B.grid board.old in
         let becomes = cell_written (write_in_room (B.table board.old) (write_shown write.now)) in
         record { grid = B.grid board.new; changed = result }
-        ≡ rewritten_where before becomes (is_written axis before.height steps rows room.now.starts.items) }
+        ≡ rewritten_where before becomes (is_written axis before.height steps rows row_scratch.now.starts.items) }
     ensures table { B.table board.new ≡ B.table board.old }
     ensures origin { B.origin board.new ≡ B.origin board.old }
     ensures sides { sides_of (B.grid board.new) ≡ sides_of (B.grid board.old) }
@@ -83,7 +83,7 @@ fn write_targets<B: Scan>(
     let mut left = rows;
     let mut changed = false;
     while let Some(row) = left.take_first() {
-        let columns = room.targets_on(row);
+        let columns = row_scratch.targets_on(row);
         changed |= write_behind(board, write, axis, steps, row, columns);
     }
     changed
@@ -97,7 +97,7 @@ pub fn attempt_writer<'r, B: Scan>(
     writer: Writer,
     board: &mut B,
     queue: &mut LentQueue<'r>,
-    room: &mut RoomFor<B>,
+    row_scratch: &mut ScratchFor<B>,
 ) -> bool
     requires writer { rule.now.writer ≡ Some writer }
     requires rewrites { rule.now.rewrites ≡ true }
@@ -112,10 +112,10 @@ pub fn attempt_writer<'r, B: Scan>(
     recall_shape(board);
     let row = &rule.rows.as_slice()[0];
     let cell = writing_cell(row, writer);
-    let rows = room.find_targets(board, row, writer.leads);
+    let rows = row_scratch.find_targets(board, row, writer.leads);
     if rows.is_empty() {
         return false;
     }
     queue.enter(rule.commands);
-    write_targets(board, &cell.write, row.axis, writer.cell, rows, room)
+    write_targets(board, &cell.write, row.axis, writer.cell, rows, row_scratch)
 }

@@ -16,7 +16,7 @@ ghost use Rattle.ps_places.specs.Starts.{HasLinesOf, HaveSameStarts, IsOnLine};
 ghost use Rattle.ps_places.specs.Ways.{from_first, positions_from};
 
 use crate::parts::{behind_position, part_fits, rewrite_fitting_part, rewrite_part};
-use crate::room::RowRoom;
+use crate::scratch::RowScratch;
 use crate::ways::{first_way, next_way};
 use ps_match::{ColumnWords, Columns, Scan, recall_shape};
 use ps_program::CompiledRow;
@@ -103,7 +103,7 @@ fn seek_on<B: Scan>(
     seek(board, row, lines, starts, usize::from(line) + 1, way)
 }
 
-impl<W: ColumnWords> RowRoom<Columns<W>> {
+impl<W: ColumnWords> RowScratch<Columns<W>> {
     /// Chooses the first place of a row at which it fits. Answers whether there is one; if not, any place is chosen.
     pub fn first_place<B: Scan<Words = W>>(&mut self, board: &B, row: &CompiledRow) -> bool
         requires { HasLinesOf (B.grid board.now) row.now self.old }

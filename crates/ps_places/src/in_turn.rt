@@ -15,7 +15,7 @@ ghost use Rattle.ps_places.specs.PartStarts.{AreStarts};
 
 use crate::columns::columns_down;
 use crate::rewriting::rewrite_row;
-use crate::room::RowRoom;
+use crate::scratch::RowScratch;
 use ps_match::{ColumnWords, Columns, Scan, recall_shape};
 use ps_program::{Axis, CompiledCell};
 
@@ -73,7 +73,7 @@ fn rewrite_downwards<B: Scan>(
     changed
 }
 
-impl<W: ColumnWords> RowRoom<Columns<W>> {
+impl<W: ColumnWords> RowScratch<Columns<W>> {
     /// Rewrites the places of a part that goes down, which are kept for these rows of the board: each of them if it
     /// still fits when its turn comes. Answers whether a cell changed. No memory is taken.
     pub fn rewrite_in_turn<B: Scan<Words = W>>(

@@ -12,7 +12,7 @@ ghost use Rattle.ps_places.specs.LeavingAlone.{PlacesLieAlone};
 ghost use Rattle.ps_places.specs.PartStarts.{AreStarts};
 ghost use Rattle.ps_places.specs.WrittenTogether.{cell_changed, cells_changed, row_at};
 
-use crate::room::RowRoom;
+use crate::scratch::RowScratch;
 use ps_match::{ColumnWords, Columns, Scan, recall_shape, rewrite_ahead};
 use ps_program::{Axis, CompiledCell};
 
@@ -103,7 +103,7 @@ fn rewrite_rows<B: Scan>(
     changed
 }
 
-impl<W: ColumnWords> RowRoom<Columns<W>> {
+impl<W: ColumnWords> RowScratch<Columns<W>> {
     /// Rewrites all places of a part that are kept for these rows of the board: each comes to the same as in its turn,
     /// since they leave each other alone. Answers whether a cell changed. No memory is taken.
     pub fn rewrite_places<B: Scan<Words = W>>(

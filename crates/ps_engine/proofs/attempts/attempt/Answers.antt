@@ -27,8 +27,8 @@ returns-then-lacks_last-clause-origin g c = refl
 pub returns-then-lacks_last-clause-sides : goal.returns-then-lacks_last-clause-sides
 returns-then-lacks_last-clause-sides g c = refl
 
-pub returns-then-lacks_last-clause-rooms : goal.returns-then-lacks_last-clause-rooms
-returns-then-lacks_last-clause-rooms g c = refl
+pub returns-then-lacks_last-clause-scratch : goal.returns-then-lacks_last-clause-scratch
+returns-then-lacks_last-clause-scratch g c = refl
 
 pub attempt_by_kind-requires : goal.attempt_by_kind-requires
 attempt_by_kind-requires g c = c.requires
@@ -45,8 +45,8 @@ returns-clause-origin g c = c.attempt_by_kind.ensures.origin
 pub returns-clause-sides : goal.returns-clause-sides
 returns-clause-sides g c = c.attempt_by_kind.ensures.sides
 
-pub returns-clause-rooms : goal.returns-clause-rooms
-returns-clause-rooms g c = c.attempt_by_kind.ensures.rooms
+pub returns-clause-scratch : goal.returns-clause-scratch
+returns-clause-scratch g c = c.attempt_by_kind.ensures.scratch
 
 pub attempt_part-requires-clause-only : goal.attempt_part-requires-clause-only
 attempt_part-requires-clause-only g c = ap rows_parts (sym c.as_slice.ensures) ∙ c.in-Some.ensures.only
@@ -57,8 +57,8 @@ attempt_part-requires-clause-whole g c = c.in-Some.ensures.whole
 pub attempt_part-requires-clause-rewrites : goal.attempt_part-requires-clause-rewrites
 attempt_part-requires-clause-rewrites g c = c.if-rule.true
 
-pub attempt_part-requires-clause-rooms : goal.attempt_part-requires-clause-rooms
-attempt_part-requires-clause-rooms g c = c.requires
+pub attempt_part-requires-clause-scratch : goal.attempt_part-requires-clause-scratch
+attempt_part-requires-clause-scratch g c = c.requires
 
 pub returns-in-Some-clause-attempt : goal.returns-in-Some-clause-attempt
 returns-in-Some-clause-attempt g c = c.attempt_part.ensures.attempt
@@ -72,5 +72,5 @@ returns-in-Some-clause-origin g c = c.attempt_part.ensures.origin
 pub returns-in-Some-clause-sides : goal.returns-in-Some-clause-sides
 returns-in-Some-clause-sides g c = c.attempt_part.ensures.sides
 
-pub returns-in-Some-clause-rooms : goal.returns-in-Some-clause-rooms
-returns-in-Some-clause-rooms g c = c.attempt_part.ensures.rooms
+pub returns-in-Some-clause-scratch : goal.returns-in-Some-clause-scratch
+returns-in-Some-clause-scratch g c = c.attempt_part.ensures.scratch

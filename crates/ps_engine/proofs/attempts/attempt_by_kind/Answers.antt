@@ -28,8 +28,8 @@ returns-then-not-rule-clause-origin g c = refl
 pub returns-then-not-rule-clause-sides : goal.returns-then-not-rule-clause-sides
 returns-then-not-rule-clause-sides g c = refl
 
-pub returns-then-not-rule-clause-rooms : goal.returns-then-not-rule-clause-rooms
-returns-then-not-rule-clause-rooms g c = c.attempt_commands.ensures.rooms
+pub returns-then-not-rule-clause-scratch : goal.returns-then-not-rule-clause-scratch
+returns-then-not-rule-clause-scratch g c = c.attempt_commands.ensures.scratch
 
 pub returns-then-lacks_object-clause-attempt : goal.returns-then-lacks_object-clause-attempt
 returns-then-lacks_object-clause-attempt g c =
@@ -49,8 +49,8 @@ returns-then-lacks_object-clause-origin g c = refl
 pub returns-then-lacks_object-clause-sides : goal.returns-then-lacks_object-clause-sides
 returns-then-lacks_object-clause-sides g c = refl
 
-pub returns-then-lacks_object-clause-rooms : goal.returns-then-lacks_object-clause-rooms
-returns-then-lacks_object-clause-rooms g c = refl
+pub returns-then-lacks_object-clause-scratch : goal.returns-then-lacks_object-clause-scratch
+returns-then-lacks_object-clause-scratch g c = refl
 
 pub attempt_writer-requires-clause-writer : goal.attempt_writer-requires-clause-writer
 attempt_writer-requires-clause-writer g c = c.in-Some.is
@@ -70,8 +70,8 @@ returns-in-Some-clause-origin g c = c.attempt_writer.ensures.origin
 pub returns-in-Some-clause-sides : goal.returns-in-Some-clause-sides
 returns-in-Some-clause-sides g c = c.attempt_writer.ensures.sides
 
-pub returns-in-Some-clause-rooms : goal.returns-in-Some-clause-rooms
-returns-in-Some-clause-rooms g c = length-set c.args.rooms.now 0 c.attempt_writer.new.room
+pub returns-in-Some-clause-scratch : goal.returns-in-Some-clause-scratch
+returns-in-Some-clause-scratch g c = length-set c.args.scratch.now 0 c.attempt_writer.new.room
 
 pub attempt_rows-requires-clause-long : goal.attempt_rows-requires-clause-long
 attempt_rows-requires-clause-long g c = c.requires
@@ -91,10 +91,10 @@ returns-clause-origin g c = c.attempt_rows.ensures.origin
 pub returns-clause-sides : goal.returns-clause-sides
 returns-clause-sides g c = c.attempt_rows.ensures.sides
 
-pub returns-clause-rooms : goal.returns-clause-rooms
-returns-clause-rooms g c = c.attempt_rows.ensures.rooms
+pub returns-clause-scratch : goal.returns-clause-scratch
+returns-clause-scratch g c = c.attempt_rows.ensures.scratch
 
-pub bounds-rooms-0 : goal.bounds-rooms-0
-bounds-rooms-0 g c =
-    writer_room c.args.rule.now.rows c.args.rule.now.writer c.in-Some.writer (length c.args.rooms.now)
+pub bounds-scratch-0 : goal.bounds-scratch-0
+bounds-scratch-0 g c =
+    writer_room c.args.rule.now.rows c.args.rule.now.writer c.in-Some.writer (length c.args.scratch.now)
     c.args.rule.now.alone c.in-Some.is c.requires

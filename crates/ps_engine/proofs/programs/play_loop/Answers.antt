@@ -5,7 +5,7 @@ use Rattle.ps_model.specs.board.Attempts.{State, Result}
 use Rattle.ps_model.specs.board.Programs.{Progress, looped, pass}
 use Rattle.ps_model.specs.meaning.RuleMeanings.{RuleMeaning}
 use Rattle.ps_engine.specs.RulesInRoom.{groups_meaning}
-use Rattle.ps_engine.specs.Rooms.{GroupsHaveRooms}
+use Rattle.ps_engine.specs.Scratch.{GroupsHaveScratch}
 use Rattle.ps_engine.proofs.ComingBack.{IsStep, keeps_on, rest_is}
 use Rattle.ps_engine.proofs.Sequences.{looped_off, looped_on, looped_stop}
 use Rattle.ps_engine.proofs.programs.play_loop.Goals as goal
@@ -18,7 +18,7 @@ loop-again-init g c =
       origin = refl;
       sides = refl;
       motions = c.requires.motions;
-      keeps = λ on. absurd (false≢true (sym c.new-watch.ensures ∙ on));
+      keeps = λ on. absurd (false≢true (sym c.new-finder.ensures ∙ on));
     }
 
 pub returns-then-not-again-clause-looped : goal.returns-then-not-again-clause-looped
@@ -45,10 +45,10 @@ loop-again-preserved g c =
     ∙ c.in_ok-again.ensures.pass
     ∙ ap (λ (t : Option (List ℕ)). pass (groups_meaning t c.args.groups.now) now) c.loop-again.invariant.table in
     let step : IsStep run now next = λ n. sym (looped_on meant (suc n) now next n (omega arith) made) in
-    let watch = c.loop-again.watch in
+    let finder = c.loop-again.finder in
     let kept = c.loop-again.kept.of_passes in
     record {
-      looped = rest_is run watch kept now next (c.loop-again.left - 1) c.in_ok-left.left step
+      looped = rest_is run finder kept now next (c.loop-again.left - 1) c.in_ok-left.left step
           c.loop-again.invariant.keeps c.in_ok-left.ensures.rest
           ∙ looped_on meant c.loop-again.left now next (c.loop-again.left - 1) (omega arith) made
           ∙ c.loop-again.invariant.looped;
@@ -56,7 +56,7 @@ loop-again-preserved g c =
       origin = c.pass.ensures.origin ∙ c.loop-again.invariant.origin;
       sides = c.pass.ensures.sides ∙ c.loop-again.invariant.sides;
       motions = c.in_ok-again.ensures.motions;
-      keeps = keeps_on run watch c.step.new.self kept c.step.new.kept now next step c.loop-again.invariant.keeps
+      keeps = keeps_on run finder c.step.new.self kept c.step.new.kept now next step c.loop-again.invariant.keeps
           c.in_ok-left.ensures.goes;
     }
 
@@ -94,9 +94,9 @@ returns-then-left-eq0-clause-looped g c =
     ∙ ap (λ (t : Option (List ℕ)). pass (groups_meaning t c.args.groups.now) now) c.loop-again.invariant.table in
     looped_stop meant c.loop-again.left now next c.if-left-eq0.true made ∙ c.loop-again.invariant.looped
 
-pub pass-requires-clause-rooms : goal.pass-requires-clause-rooms
-pass-requires-clause-rooms g c =
-    subst (λ (count : ℕ). GroupsHaveRooms count c.args.groups.now) (sym c.loop-again.auto.rooms) c.requires.rooms
+pub pass-requires-clause-scratch : goal.pass-requires-clause-scratch
+pass-requires-clause-scratch g c =
+    subst (λ (count : ℕ). GroupsHaveScratch count c.args.groups.now) (sym c.loop-again.auto.scratch) c.requires.scratch
 
 pub pass-requires-clause-motions : goal.pass-requires-clause-motions
 pass-requires-clause-motions g c = c.loop-again.invariant.motions
@@ -113,8 +113,8 @@ returns-then-left-eq0-clause-motions g c = c.in_ok-again.ensures.motions
 pub returns-then-not-again-clause-motions : goal.returns-then-not-again-clause-motions
 returns-then-not-again-clause-motions g c = c.in_ok-again.ensures.motions
 
-pub returns-then-not-again-clause-rooms : goal.returns-then-not-again-clause-rooms
-returns-then-not-again-clause-rooms g c = c.in_ok-again.ensures.rooms ∙ c.loop-again.auto.rooms
+pub returns-then-not-again-clause-scratch : goal.returns-then-not-again-clause-scratch
+returns-then-not-again-clause-scratch g c = c.in_ok-again.ensures.scratch ∙ c.loop-again.auto.scratch
 
 pub returns-in_err-again-clause-table : goal.returns-in_err-again-clause-table
 returns-in_err-again-clause-table g c = c.in_err-again.ensures.table ∙ c.loop-again.invariant.table
@@ -152,11 +152,11 @@ returns-then-left-eq0-clause-sides g c = c.in_ok-again.ensures.sides ∙ c.loop-
 pub returns-then-not-again-clause-sides : goal.returns-then-not-again-clause-sides
 returns-then-not-again-clause-sides g c = c.in_ok-again.ensures.sides ∙ c.loop-again.invariant.sides
 
-pub returns-then-left-eq0-clause-rooms : goal.returns-then-left-eq0-clause-rooms
-returns-then-left-eq0-clause-rooms g c = c.in_ok-again.ensures.rooms ∙ c.loop-again.auto.rooms
+pub returns-then-left-eq0-clause-scratch : goal.returns-then-left-eq0-clause-scratch
+returns-then-left-eq0-clause-scratch g c = c.in_ok-again.ensures.scratch ∙ c.loop-again.auto.scratch
 
-pub returns-in_err-left-clause-rooms : goal.returns-in_err-left-clause-rooms
-returns-in_err-left-clause-rooms g c = c.in_ok-again.ensures.rooms ∙ c.loop-again.auto.rooms
+pub returns-in_err-left-clause-scratch : goal.returns-in_err-left-clause-scratch
+returns-in_err-left-clause-scratch g c = c.in_ok-again.ensures.scratch ∙ c.loop-again.auto.scratch
 
-pub returns-in_err-again-clause-rooms : goal.returns-in_err-again-clause-rooms
-returns-in_err-again-clause-rooms g c = c.in_err-again.ensures.rooms ∙ c.loop-again.auto.rooms
+pub returns-in_err-again-clause-scratch : goal.returns-in_err-again-clause-scratch
+returns-in_err-again-clause-scratch g c = c.in_err-again.ensures.scratch ∙ c.loop-again.auto.scratch

@@ -7,7 +7,7 @@ use Rattle.ps_engine.specs.RulesInRoom.{groups_meaning}
 use Rattle.ps_engine.proofs.ComingBack.{Keeps}
 use Rattle.ps_engine.proofs.programs.play_loop.Given as goal
 
--- what is left of the loop comes to the same, and what the watch keeps has come here
+-- what is left of the loop comes to the same, and what the finder keeps has come here
 abbrev pub invariant-loop-again : goal.invariant-loop-again
 invariant-loop-again g l =
     let before : State = record { grid = g.B.Board.grid l.fn.board; queue = l.fn.queue } in
@@ -20,7 +20,7 @@ invariant-loop-again g l =
       origin : g.B.Board.origin l.board ≡ g.B.Board.origin l.fn.board;
       sides : sides_of (g.B.Board.grid l.board) ≡ sides_of (g.B.Board.grid l.fn.board);
       motions : HasMotionsIn (g.B.Board.grid l.board) l.motions;
-      keeps : Keeps run l.watch l.kept.of_passes now;
+      keeps : Keeps run l.finder l.kept.of_passes now;
     }
 
 -- the repeats that are left

@@ -24,8 +24,8 @@ returns-clause-origin g c = c.play_program.ensures.origin
 pub returns-clause-sides : goal.returns-clause-sides
 returns-clause-sides g c = c.play_program.ensures.sides
 
-pub returns-clause-rooms : goal.returns-clause-rooms
-returns-clause-rooms g c = c.play_program.ensures.rooms
+pub returns-clause-scratch : goal.returns-clause-scratch
+returns-clause-scratch g c = c.play_program.ensures.scratch
 
 pub returns-clause-sections : goal.returns-clause-sections
 returns-clause-sections g c = c.play_program.ensures.sections

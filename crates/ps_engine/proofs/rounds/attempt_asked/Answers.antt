@@ -29,11 +29,11 @@ returns-then-asks_for_others-clause-origin g c = refl
 pub returns-then-asks_for_others-clause-sides : goal.returns-then-asks_for_others-clause-sides
 returns-then-asks_for_others-clause-sides g c = refl
 
-pub returns-then-asks_for_others-clause-rooms : goal.returns-then-asks_for_others-clause-rooms
-returns-then-asks_for_others-clause-rooms g c = refl
+pub returns-then-asks_for_others-clause-scratch : goal.returns-then-asks_for_others-clause-scratch
+returns-then-asks_for_others-clause-scratch g c = refl
 
 pub attempt-requires : goal.attempt-requires
-attempt-requires g c = c.requires.rooms
+attempt-requires g c = c.requires.scratch
 
 pub returns-clause-attempt : goal.returns-clause-attempt
 returns-clause-attempt g c = c.attempt.ensures.attempt
@@ -47,5 +47,5 @@ returns-clause-origin g c = c.attempt.ensures.origin
 pub returns-clause-sides : goal.returns-clause-sides
 returns-clause-sides g c = c.attempt.ensures.sides
 
-pub returns-clause-rooms : goal.returns-clause-rooms
-returns-clause-rooms g c = c.attempt.ensures.rooms
+pub returns-clause-scratch : goal.returns-clause-scratch
+returns-clause-scratch g c = c.attempt.ensures.scratch

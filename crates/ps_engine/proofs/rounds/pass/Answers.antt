@@ -4,7 +4,7 @@ use Rattle.ps_model.specs.board.Attempts.{State, Result}
 use Rattle.ps_model.specs.board.Programs.{group}
 use Rattle.ps_program.specs.declared.rules.CompiledRule.{CompiledRule}
 use Rattle.ps_engine.specs.RulesInRoom.{rules_meaning}
-use Rattle.ps_engine.specs.Rooms.{HaveRooms}
+use Rattle.ps_engine.specs.Scratch.{HaveScratch}
 use Rattle.ps_engine.proofs.Sequences.{pass_end, pass_more}
 use Rattle.ps_engine.proofs.rounds.pass.Goals as goal
 
@@ -37,12 +37,12 @@ pub loop-rules-init : goal.loop-rules-init
 loop-rules-init g c =
     record { pass = refl; table = refl; origin = refl; sides = refl; motions = c.requires.motions }
 
-pub play_group-requires-clause-rooms : goal.play_group-requires-clause-rooms
-play_group-requires-clause-rooms g c =
+pub play_group-requires-clause-scratch : goal.play_group-requires-clause-scratch
+play_group-requires-clause-scratch g c =
     let rules : List CompiledRule = c.rules-item.result in
-    subst (HaveRooms (length c.loop-rules.rooms)) (sym (c.as_slice.ensures ∙ c.rules-item.is))
-    (subst (λ (count : ℕ). HaveRooms count (get_or c.args.groups.now c.loop-rules.rules-index rules))
-    (sym c.loop-rules.auto.rooms) (c.requires.rooms c.loop-rules.rules-index rules c.loop-rules-test.true))
+    subst (HaveScratch (length c.loop-rules.scratch)) (sym (c.as_slice.ensures ∙ c.rules-item.is))
+    (subst (λ (count : ℕ). HaveScratch count (get_or c.args.groups.now c.loop-rules.rules-index rules))
+    (sym c.loop-rules.auto.scratch) (c.requires.scratch c.loop-rules.rules-index rules c.loop-rules-test.true))
 
 pub play_group-requires-clause-motions : goal.play_group-requires-clause-motions
 play_group-requires-clause-motions g c = c.loop-rules.invariant.motions
@@ -74,11 +74,11 @@ returns-in_err-more-clause-sides g c = c.in_err-more.ensures.sides ∙ c.loop-ru
 pub returns-clause-sides : goal.returns-clause-sides
 returns-clause-sides g c = c.loop-rules.invariant.sides
 
-pub returns-in_err-more-clause-rooms : goal.returns-in_err-more-clause-rooms
-returns-in_err-more-clause-rooms g c = c.in_err-more.ensures.rooms ∙ c.loop-rules.auto.rooms
+pub returns-in_err-more-clause-scratch : goal.returns-in_err-more-clause-scratch
+returns-in_err-more-clause-scratch g c = c.in_err-more.ensures.scratch ∙ c.loop-rules.auto.scratch
 
-pub returns-clause-rooms : goal.returns-clause-rooms
-returns-clause-rooms g c = c.loop-rules.auto.rooms
+pub returns-clause-scratch : goal.returns-clause-scratch
+returns-clause-scratch g c = c.loop-rules.auto.scratch
 
 pub returns-clause-pass : goal.returns-clause-pass
 returns-clause-pass g c =

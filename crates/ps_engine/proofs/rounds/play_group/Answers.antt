@@ -62,7 +62,7 @@ loop-number-preserved g c =
       table = c.attempt_asked.ensures.table ∙ was.table;
       origin = c.attempt_asked.ensures.origin ∙ was.origin;
       sides = c.attempt_asked.ensures.sides ∙ was.sides;
-      rooms = c.attempt_asked.ensures.rooms ∙ was.rooms;
+      scratch = c.attempt_asked.ensures.scratch ∙ was.scratch;
       motions = subst (λ (grid : Grid). HasMotionsIn grid c.loop-number.motions)
           (sym (made_kept (rule_meaning table rule) now after made c.if-attempt_asked.false)) was.motions;
     }

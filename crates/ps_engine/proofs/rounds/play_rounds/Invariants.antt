@@ -7,7 +7,7 @@ use Rattle.ps_engine.specs.RulesInRoom.{rules_meaning}
 use Rattle.ps_engine.proofs.ComingBack.{Keeps}
 use Rattle.ps_engine.proofs.rounds.play_rounds.Given as goal
 
--- the rounds that are left come to the same, and what the watch keeps has come here
+-- the rounds that are left come to the same, and what the finder keeps has come here
 abbrev pub invariant-loop-left : goal.invariant-loop-left
 invariant-loop-left g l =
     let before : State = record { grid = g.B.Board.grid l.fn.board; queue = l.fn.queue } in
@@ -21,7 +21,7 @@ invariant-loop-left g l =
       origin : g.B.Board.origin l.board ≡ g.B.Board.origin l.fn.board;
       sides : sides_of (g.B.Board.grid l.board) ≡ sides_of (g.B.Board.grid l.fn.board);
       motions : HasMotionsIn (g.B.Board.grid l.board) l.motions;
-      keeps : Keeps run l.watch l.kept now;
+      keeps : Keeps run l.finder l.kept now;
     }
 
 -- the rounds that are left

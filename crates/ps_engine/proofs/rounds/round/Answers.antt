@@ -49,7 +49,7 @@ loop-number-preserved g c =
       table = c.attempt.ensures.table ∙ was.table;
       origin = c.attempt.ensures.origin ∙ was.origin;
       sides = c.attempt.ensures.sides ∙ was.sides;
-      rooms = c.attempt.ensures.rooms ∙ was.rooms;
+      scratch = c.attempt.ensures.scratch ∙ was.scratch;
       motions = elim c.if-attempt.branch [
         | then-attempt w ↦ subst (HasMotionsIn next.grid) (sym w.motions-is) w.motions_there.ensures
         | else-attempt w ↦ subst (HasMotionsIn next.grid) (sym w.motions-is)
@@ -81,8 +81,8 @@ returns-then-next-rules-clause-origin g c = c.loop-number.invariant.origin
 pub returns-then-next-rules-clause-sides : goal.returns-then-next-rules-clause-sides
 returns-then-next-rules-clause-sides g c = c.loop-number.invariant.sides
 
-pub returns-then-next-rules-clause-rooms : goal.returns-then-next-rules-clause-rooms
-returns-then-next-rules-clause-rooms g c = c.loop-number.invariant.rooms
+pub returns-then-next-rules-clause-scratch : goal.returns-then-next-rules-clause-scratch
+returns-then-next-rules-clause-scratch g c = c.loop-number.invariant.scratch
 
 pub returns-clause-round : goal.returns-clause-round
 returns-clause-round g c =
@@ -107,21 +107,21 @@ loop-number-init g c = record {
   table = refl;
   origin = refl;
   sides = refl;
-  rooms = refl;
+  scratch = refl;
   motions = c.requires.motions;
 }
 
 pub attempt-requires : goal.attempt-requires
 attempt-requires g c =
     let rule : CompiledRule = c.index-rules-next.result in
-    subst (λ (count : ℕ). length rule.rows ≤ count) (sym c.loop-number.invariant.rooms)
-    (subst (λ (each : CompiledRule). length each.rows ≤ length c.args.rooms.now) (sym c.index-rules-next.is)
-    (c.requires.rooms c.behind_lacking-next.result rule
+    subst (λ (count : ℕ). length rule.rows ≤ count) (sym c.loop-number.invariant.scratch)
+    (subst (λ (each : CompiledRule). length each.rows ≤ length c.args.scratch.now) (sym c.index-rules-next.is)
+    (c.requires.scratch c.behind_lacking-next.result rule
     (short_of c.behind_lacking-next.result (length c.args.rules.now) c.behind_lacking-next.ensures.within
     c.if-next-rules.false)))
 
-pub returns-clause-rooms : goal.returns-clause-rooms
-returns-clause-rooms g c = c.loop-number.invariant.rooms
+pub returns-clause-scratch : goal.returns-clause-scratch
+returns-clause-scratch g c = c.loop-number.invariant.scratch
 
 pub behind_lacking-next-requires-clause-motions : goal.behind_lacking-next-requires-clause-motions
 behind_lacking-next-requires-clause-motions g c = c.loop-number.invariant.motions

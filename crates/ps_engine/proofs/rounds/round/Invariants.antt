@@ -18,7 +18,7 @@ invariant-loop-number g l =
       table : g.B.Board.table l.board ≡ table;
       origin : g.B.Board.origin l.board ≡ g.B.Board.origin l.fn.board;
       sides : sides_of (g.B.Board.grid l.board) ≡ sides_of (g.B.Board.grid l.fn.board);
-      rooms : length l.rooms ≡ length l.fn.rooms;
+      scratch : length l.scratch ≡ length l.fn.scratch;
       motions : HasMotionsIn (g.B.Board.grid l.board) l.motions;
     }
 

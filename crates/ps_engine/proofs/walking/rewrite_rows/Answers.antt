@@ -12,16 +12,16 @@ loop-number-init g c =
     let table : Option (List ℕ) = g.B.Board.table c.args.board.now in
     let height : ℕ = (g.B.Board.grid c.args.board.now).height in
     let row = c.index-rows-0.result in
-    let room = c.index-rooms-0.result in
+    let row_scratch = c.index-scratch-0.result in
     let before : Rewritten = record { grid = g.B.Board.grid c.args.board.now; changed = c.args.changed } in
     let some : 0 < length c.args.rows.now =
     some_there c.args.rows.now (sym c.is_empty.ensures ∙ c.if-is_empty.false) in
     record {
       rewritten =
-          ap (rewritten_from table height c.args.rows.now c.args.rooms.now 1) c.rewrite_fitting-any.ensures.rewritten
-          ∙ sym (rewritten_more table height 0 1 c.args.rows.now c.args.rooms.now row room before
+          ap (rewritten_from table height c.args.rows.now c.args.scratch.now 1) c.rewrite_fitting-any.ensures.rewritten
+          ∙ sym (rewritten_more table height 0 1 c.args.rows.now c.args.scratch.now row row_scratch before
           (slice_get_read c.args.rows.now _ 0 row refl some c.index-rows-0.is)
-          (slice_get_read c.args.rooms.now _ 0 room refl (omega (arith, some, c.requires.long)) c.index-rooms-0.is)
+          (slice_get_read c.args.scratch.now _ 0 row_scratch refl (omega (arith, some, c.requires.long)) c.index-scratch-0.is)
           refl);
       table = c.rewrite_fitting-any.ensures.table;
       origin = c.rewrite_fitting-any.ensures.origin;
@@ -34,21 +34,21 @@ loop-number-preserved g c =
     let table : Option (List ℕ) = g.B.Board.table c.args.board.now in
     let height : ℕ = (g.B.Board.grid c.args.board.now).height in
     let row = c.index-rows-number.result in
-    let room = c.index-rooms-number.result in
+    let row_scratch = c.index-scratch-number.result in
     let before : Rewritten = record { grid = g.B.Board.grid c.loop-number.board; changed = c.loop-number.any } in
     let after : Rewritten = record { grid = g.B.Board.grid c.rewrite-any.new.board; changed = c.rewrite-any.result } in
     let high : before.grid.height ≡ height = same_height before.grid (g.B.Board.grid c.args.board.now)
     c.loop-number.invariant.sides in
-    let wrote : after ≡ rewritten_along before (cells_meaning table row.parts) (place_at height row room) =
+    let wrote : after ≡ rewritten_along before (cells_meaning table row.parts) (place_at height row row_scratch) =
     c.rewrite-any.ensures.rewritten ∙ ap₂ (λ (t : Option (List ℕ)) (h : ℕ).
-    rewritten_along before (cells_meaning t row.parts) (place_at h row room)) c.loop-number.invariant.table high in
+    rewritten_along before (cells_meaning t row.parts) (place_at h row row_scratch)) c.loop-number.invariant.table high in
     record {
       rewritten =
-          ap (rewritten_from table height c.args.rows.now c.args.rooms.now (n + 1)) wrote
-          ∙ sym (rewritten_more table height n (n + 1) c.args.rows.now c.args.rooms.now row room before
+          ap (rewritten_from table height c.args.rows.now c.args.scratch.now (n + 1)) wrote
+          ∙ sym (rewritten_more table height n (n + 1) c.args.rows.now c.args.scratch.now row row_scratch before
           (slice_get_read c.args.rows.now _ n row refl c.loop-number-test.true c.index-rows-number.is)
-          (slice_get_read c.args.rooms.now _ n room refl (omega (arith, c.loop-number-test.true, c.requires.long))
-          c.index-rooms-number.is) (omega arith))
+          (slice_get_read c.args.scratch.now _ n row_scratch refl (omega (arith, c.loop-number-test.true, c.requires.long))
+          c.index-scratch-number.is) (omega arith))
           ∙ c.loop-number.invariant.rewritten;
       table = c.rewrite-any.ensures.table ∙ c.loop-number.invariant.table;
       origin = c.rewrite-any.ensures.origin ∙ c.loop-number.invariant.origin;
@@ -60,15 +60,15 @@ rewrite_fitting-any-requires-clause-fits g c =
     let some : 0 < length c.args.rows.now =
     some_there c.args.rows.now (sym c.is_empty.ensures ∙ c.if-is_empty.false) in
     first_of_fitting (g.B.Board.grid c.args.board.now) (g.B.Board.table c.args.board.now) c.args.rows.now
-    c.args.rooms.now c.index-rows-0.result c.index-rooms-0.result
+    c.args.scratch.now c.index-rows-0.result c.index-scratch-0.result
     (slice_get_read c.args.rows.now _ 0 c.index-rows-0.result refl some c.index-rows-0.is)
-    (slice_get_read c.args.rooms.now _ 0 c.index-rooms-0.result refl (omega (arith, some, c.requires.long))
-    c.index-rooms-0.is) c.requires.fit
+    (slice_get_read c.args.scratch.now _ 0 c.index-scratch-0.result refl (omega (arith, some, c.requires.long))
+    c.index-scratch-0.is) c.requires.fit
 
 pub returns-then-is_empty-clause-rewritten : goal.returns-then-is_empty-clause-rewritten
 returns-then-is_empty-clause-rewritten g c =
     sym (rewritten_end (g.B.Board.table c.args.board.now) (g.B.Board.grid c.args.board.now).height 0 c.args.rows.now
-    c.args.rooms.now (record { grid = g.B.Board.grid c.args.board.now; changed = c.args.changed })
+    c.args.scratch.now (record { grid = g.B.Board.grid c.args.board.now; changed = c.args.changed })
     (none_there c.args.rows.now (sym c.is_empty.ensures ∙ c.if-is_empty.true)))
 
 pub returns-then-is_empty-clause-table : goal.returns-then-is_empty-clause-table
@@ -84,15 +84,15 @@ pub rewrite_fitting-any-requires-clause-spaced : goal.rewrite_fitting-any-requir
 rewrite_fitting-any-requires-clause-spaced g c =
     let some : 0 < length c.args.rows.now =
     some_there c.args.rows.now (sym c.is_empty.ensures ∙ c.if-is_empty.false) in
-    (c.requires.places 0 c.index-rows-0.result c.index-rooms-0.result (omega arith)
+    (c.requires.places 0 c.index-rows-0.result c.index-scratch-0.result (omega arith)
     (slice_get_read c.args.rows.now _ 0 c.index-rows-0.result refl some c.index-rows-0.is)
-    (slice_get_read c.args.rooms.now _ 0 c.index-rooms-0.result refl (omega (arith, some, c.requires.long))
-    c.index-rooms-0.is)).spaced
+    (slice_get_read c.args.scratch.now _ 0 c.index-scratch-0.result refl (omega (arith, some, c.requires.long))
+    c.index-scratch-0.is)).spaced
 
 pub returns-clause-rewritten : goal.returns-clause-rewritten
 returns-clause-rewritten g c =
     sym (rewritten_end (g.B.Board.table c.args.board.now) (g.B.Board.grid c.args.board.now).height c.loop-number.number
-    c.args.rows.now c.args.rooms.now
+    c.args.rows.now c.args.scratch.now
     (record { grid = g.B.Board.grid c.loop-number.board; changed = c.loop-number.any }) c.loop-number-test.false)
     ∙ c.loop-number.invariant.rewritten
 

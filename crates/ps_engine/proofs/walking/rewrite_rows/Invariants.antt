@@ -14,8 +14,8 @@ invariant-loop-number g l =
     let table = g.B.Board.table l.fn.board in
     let height = (g.B.Board.grid l.fn.board).height in
     record {
-      rewritten : rewritten_from table height l.rows l.rooms l.number now ≡ rewritten_rows before
-          (rows_meaning table l.rows) (chosen (choices_of height l.rows l.rooms));
+      rewritten : rewritten_from table height l.rows l.scratch l.number now ≡ rewritten_rows before
+          (rows_meaning table l.rows) (chosen (choices_of height l.rows l.scratch));
       table : g.B.Board.table l.board ≡ table;
       origin : g.B.Board.origin l.board ≡ g.B.Board.origin l.fn.board;
       sides : sides_of (g.B.Board.grid l.board) ≡ sides_of (g.B.Board.grid l.fn.board);

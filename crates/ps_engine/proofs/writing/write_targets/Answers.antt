@@ -20,7 +20,7 @@ loop-row-init g c =
     (write_shown c.args.write.now)) in
     record {
       among = all-of c.args.rows;
-      rewritten = no_row_behind start becomes c.args.axis c.args.steps c.args.rows c.args.room.now.starts.items
+      rewritten = no_row_behind start becomes c.args.axis c.args.steps c.args.rows c.args.row_scratch.now.starts.items
           c.recall_shape.ensures.shape;
       table = refl;
       origin = refl;
@@ -34,7 +34,7 @@ write_behind-changed-requires g c =
     let high : (g.B.Board.grid c.loop-row.board).height ≡ start.height =
     ap (λ (r : Rewritten). r.grid.height) c.loop-row.invariant.rewritten
     ∙ height-where start becomes (passed_by c.args.axis start.height c.args.steps c.args.rows
-    c.args.room.now.starts.items c.loop-row.left) in
+    c.args.row_scratch.now.starts.items c.loop-row.left) in
     let first = first_in c.loop-row.left c.in-Some.row (set_columns c.take_first.new.self) c.in-Some.ensures.some in
     rw high ((c.requires).at c.in-Some.row ((c.loop-row.invariant.among).at c.in-Some.row first.1 first.0))
 
@@ -45,7 +45,7 @@ loop-row-preserved g c =
     let next : Grid = g.B.Board.grid c.write_behind-changed.new.board in
     let table : Option (List ℕ) = g.B.Board.table c.args.board.now in
     let becomes : List Slot → List Slot = cell_written (write_in_room table (write_shown c.args.write.now)) in
-    let starts : List (List Bool) = c.args.room.now.starts.items in
+    let starts : List (List Bool) = c.args.row_scratch.now.starts.items in
     let any : Bool = c.loop-row.changed in
     let high : now.height ≡ start.height =
     ap (λ (r : Rewritten). r.grid.height) c.loop-row.invariant.rewritten
@@ -75,7 +75,7 @@ returns-clause-rewritten g c =
     let start : Grid = g.B.Board.grid c.args.board.now in
     let becomes : List Slot → List Slot = cell_written (write_in_room (g.B.Board.table c.args.board.now)
     (write_shown c.args.write.now)) in
-    all_rows_behind start becomes c.args.axis c.args.steps c.args.rows c.loop-row.left c.args.room.now.starts.items
+    all_rows_behind start becomes c.args.axis c.args.steps c.args.rows c.loop-row.left c.args.row_scratch.now.starts.items
     (told (g.B.Board.grid c.loop-row.board) c.loop-row.changed) c.recall_shape.ensures.shape
     (c.in_default.ensures.none refl) c.loop-row.invariant.rewritten
 
@@ -86,4 +86,4 @@ returns-clause-sides g c =
     (write_shown c.args.write.now)) in
     ap (λ (r : Rewritten). sides_of r.grid) c.loop-row.invariant.rewritten
     ∙ sides-where start becomes (passed_by c.args.axis start.height c.args.steps c.args.rows
-    c.args.room.now.starts.items c.loop-row.left)
+    c.args.row_scratch.now.starts.items c.loop-row.left)

@@ -17,7 +17,7 @@ invariant-loop-row g l =
       among : AreOf l.fn.rows l.left;
       rewritten :
           told (g.B.Board.grid l.board) l.changed
-          ≡ rewritten_where start becomes (passed_by l.axis start.height l.steps l.fn.rows l.room.starts.items l.left);
+          ≡ rewritten_where start becomes (passed_by l.axis start.height l.steps l.fn.rows l.row_scratch.starts.items l.left);
       table : g.B.Board.table l.board ≡ g.B.Board.table l.fn.board;
       origin : g.B.Board.origin l.board ≡ g.B.Board.origin l.fn.board;
     }
