@@ -4,7 +4,7 @@ ghost use Rattle.std.specs.Prelude.{◌≡◌, ◌++◌, [], ◌∷◌, List, �
 ghost use Rattle.ps_view.specs.LineKinds.{kind_of};
 ghost use Rattle.ps_view.specs.LineFeeds.{EndsNoLine};
 ghost use Rattle.ps_view.specs.ToldGames.{known_of};
-ghost use Rattle.ps_view.specs.Views.{anew, blank_view, corner_in, drawn, handed_on, is_size, left};
+ghost use Rattle.ps_view.specs.Views.{anew, blank_view, corner_drawn, corner_in, drawn, handed_on, is_size, left};
 ghost use Rattle.ps_view.specs.Views.{line_told, piece_step, size_step, text_of, told_step, view_behind, with_bytes};
 ghost use Rattle.ps_view.specs.Views.{with_size};
 ghost use Rattle.ps_view.specs.declared.line_kinds.LineKind.TheVariants.{Title, Level, Message, Note, Question};
@@ -356,18 +356,27 @@ impl TerminalView {
         Ok(())
     }
 
+    /// Where the part of the last frame is where so many rows are left to it.
+    fn corner_drawn(&self, rows: usize) -> Corner
+        ensures { result ≡ corner_drawn self.now rows }
+    {
+        corner_following(
+            &self.frames,
+            rows,
+            self.size.columns(),
+            self.corner,
+            self.changed,
+        )
+    }
+
     /// Draws the rows that the view changes.
     fn draw(&mut self, orders: &mut Line) -> Result<(), Memory>
         ensures view { OnOk result (self.new ≡ (drawn self.old).view) }
         ensures added { OnOk result (orders.new ≡ orders.old ++ (drawn self.old).bytes) }
     {
-        let screen = screen_of(
-            self.alloc,
-            self.size,
-            self.corner,
-            self.frames.last(),
-            &mut self.told,
-        )?;
+        let below = self.told.rows(self.alloc, self.size)?;
+        let corner = self.corner_drawn(self.size.rows().saturating_sub(below.len()));
+        let screen = screen_of(self.alloc, self.size, corner, self.frames.last(), below)?;
         add_opening(self.is_open, orders)?;
         add_changes(self.alloc, &self.screen, &screen, orders)?;
         self.screen = screen;
