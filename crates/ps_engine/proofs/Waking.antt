@@ -116,11 +116,11 @@ known_unknown kept sections known unknown n section known_section at there =
 pub known_forgotten : (kept again : Option (Grid × Option (List ℕ))) (sections : List CompiledSection)
     (known after : List KnownSection) → AreKnown kept sections known → AreForgotten known after →
     AreKnown again sections after
-known_forgotten kept again sections known after known forgotten n section known_section at there =
+known_forgotten kept again sections known after told forgotten n section known_section at there =
     let was = forgotten n known_section there in
     record {
       asks = λ rules is. subst (λ (topics : List Bool). HasGroup topics section) (sym was.2.0)
-          (known n section was.0 at was.1).asks rules is;
+          (told n section was.0 at was.1).asks rules is;
       idle = λ g table is quiet. absurd (false≢true (sym was.2.1 ∙ quiet));
     }
 
@@ -133,10 +133,10 @@ pub known_woken : (g h : Grid) (table kept_table : Option (List ℕ)) (stirred :
     g.width ≡ h.width → g.height ≡ h.height → kept_table ≡ table → DifferOnlyAbout stirred h g →
     AreKnown (Some (g, kept_table)) sections known → AreWoken stirred known after →
     AreKnown (Some (h, table)) sections after
-known_woken g h table kept_table stirred sections known after shape shape' wide high same differ known woken n section
+known_woken g h table kept_table stirred sections known after shape shape' wide high same differ told woken n section
     known_section at there =
     let was = woken n known_section there in
-    let before : IsKnown (Some (g, kept_table)) section was.0 = known n section was.0 at was.1 in
+    let before : IsKnown (Some (g, kept_table)) section was.0 = told n section was.0 at was.1 in
     let long : length g.cells ≡ length h.cells = shape.cells ∙ area g h wide high ∙ sym shape'.cells in
     record {
       asks = λ rules is. subst (λ (topics : List Bool). HasGroup topics section) (sym was.2.topics)
@@ -185,9 +185,9 @@ module _ {X : Type 0} (view : X → Grid × Option (List ℕ)) (sections : List 
       AreKnown (option_map view board) sections known →
       ((k : Grid) (t : Option (List ℕ)) → option_map view board ≡ Some (k, t) → IsSameBut stirred g table k t) →
       known_section.quiet ≡ true → IsIdleOn g table section
-  known_idle None some known same quiet = absurd (false≢true some)
-  known_idle (Some board) some known same quiet =
-      let told = known n section known_section at there in
+  known_idle None some each_known same quiet = absurd (false≢true some)
+  known_idle (Some board) some each_known same quiet =
+      let told = each_known n section known_section at there in
       let k : Grid = (view board).0 in
       let t : Option (List ℕ) = (view board).1 in
       carried k t (same k t refl) told.asks (told.idle k t refl quiet)
@@ -198,9 +198,9 @@ module _ {X : Type 0} (view : X → Grid × Option (List ℕ)) (sections : List 
       (quiet ≡ true → IsIdleOn g table section) →
       after ≡ slice_set known n (record { topics = known_section.topics; quiet = quiet }) →
       AreKnown (option_map view board) sections after
-  known_noted board quiet after known same idle is k other found here stands =
+  known_noted board quiet after each_known same idle is k other found here stands =
       let made : KnownSection = record { topics = known_section.topics; quiet = quiet } in
-      let asks : HasGroup known_section.topics section = (known n section known_section at there).asks in
+      let asks : HasGroup known_section.topics section = (each_known n section known_section at there).asks in
       let noted : IsKnown (option_map view board) section made = record {
         asks = asks;
         idle = λ kept kept_table shown yes. back kept kept_table (same kept kept_table shown) asks (idle yes);
@@ -215,7 +215,7 @@ module _ {X : Type 0} (view : X → Grid × Option (List ℕ)) (sections : List 
             ∙ get_or_from_slice_get after k found found stands in
             subst (λ (w : KnownSection). IsKnown (option_map view board) other w) same_watch
             (subst (λ (s : CompiledSection). IsKnown (option_map view board) s made) own noted)
-        | inr far ↦ known k other found here (sym (get_set_other known n k made far)
+        | inr far ↦ each_known k other found here (sym (get_set_other known n k made far)
             ∙ ap (λ (ws : List KnownSection). slice_get ws k) (sym is) ∙ stands)
       ]
 

@@ -7,7 +7,7 @@ ghost use Rattle.ps_model.specs.board.Attempts.{Result as Meant, State, attempt,
 ghost use Rattle.ps_model.specs.board.Places.{places};
 ghost use Rattle.ps_program.specs.Axes.{direction_of};
 ghost use Rattle.ps_places.specs.Lines.{part_meaning};
-ghost use Rattle.ps_match.specs.InRoom.{sides_of};
+ghost use Rattle.ps_match.specs.FixedParts.{fixed_part};
 ghost use Rattle.ps_laws.specs.WholeRows.{HasCells};
 ghost use Rattle.ps_engine.specs.OnePart.{FirstKeeps, one_part, rows_parts};
 ghost use Rattle.ps_engine.specs.RulesInRoom.{rule_meaning};
@@ -75,9 +75,7 @@ fn rewrite_found<'r, B: Scan>(
         let after : State = record { grid = B.grid board.new; queue = queue.new } in
         let all : Meant = record { state = after; changed = result } in
         all ≡ attempt (rule_meaning (B.table board.old) rule.now) before }
-    ensures table { B.table board.new ≡ B.table board.old }
-    ensures origin { B.origin board.new ≡ B.origin board.old }
-    ensures sides { sides_of (B.grid board.new) ≡ sides_of (B.grid board.old) }
+    ensures fixed { fixed_part B.Board board.new ≡ fixed_part B.Board board.old }
     ensures scratch { length scratch.new ≡ length scratch.old }
 {
     let row_scratch = &scratch[0];
@@ -112,9 +110,7 @@ pub fn attempt_part<'r, B: Scan>(
         let after : State = record { grid = B.grid board.new; queue = queue.new } in
         let all : Meant = record { state = after; changed = result } in
         all ≡ attempt (rule_meaning (B.table board.old) rule.now) before }
-    ensures table { B.table board.new ≡ B.table board.old }
-    ensures origin { B.origin board.new ≡ B.origin board.old }
-    ensures sides { sides_of (B.grid board.new) ≡ sides_of (B.grid board.old) }
+    ensures fixed { fixed_part B.Board board.new ≡ fixed_part B.Board board.old }
     ensures scratch { length scratch.new ≡ length scratch.old }
 {
     let starts = scratch[0].find_part(board, rule.axis, part);

@@ -8,6 +8,7 @@ ghost use Rattle.ps_program.specs.ProgramShown.{sections_shown};
 ghost use Rattle.ps_engine.specs.RulesInRoom.{groups_meaning, section_meaning, sections_meaning};
 ghost use Rattle.ps_engine.specs.Scratch.{GroupsHaveScratch, SectionHasScratch, SectionsHaveScratch};
 ghost use Rattle.ps_board.specs.Runnable.{IsRunnable};
+ghost use Rattle.ps_match.specs.FixedParts.{fixed_part};
 ghost use Rattle.ps_match.specs.InRoom.{sides_of};
 ghost use Rattle.ps_match.specs.Nowhere.{HasMotionsIn};
 ghost use Rattle.ps_model.specs.board.Grid.{Grid};
@@ -56,9 +57,7 @@ fn play_loop<'r, B: Scan>(
         let all = looped (groups_meaning (B.table board.old) groups.now) repeats before in
         IfOk result (λ left. record { state = after; repeats = left.repeats; stopped = left.stopped } ≡ all) }
     ensures changed { IfOk result (λ left. left.changed ≡ true) }
-    ensures table { B.table board.new ≡ B.table board.old }
-    ensures origin { B.origin board.new ≡ B.origin board.old }
-    ensures sides { sides_of (B.grid board.new) ≡ sides_of (B.grid board.old) }
+    ensures fixed { fixed_part B.Board board.new ≡ fixed_part B.Board board.old }
     ensures scratch { length scratch.new ≡ length scratch.old }
     ensures motions { HasMotionsIn (B.grid board.new) motions.new }
 {
@@ -107,9 +106,7 @@ fn play_section<'r, B: Scan>(
         let all = section_run (section_meaning (B.table board.old) section.now) repeats before in
         IfOk result (λ left. record { state = after; repeats = left.repeats; stopped = left.stopped } ≡ all) }
     ensures unchanged { IfOk result (λ left. left.changed ≡ false → B.grid board.new ≡ B.grid board.old) }
-    ensures table { B.table board.new ≡ B.table board.old }
-    ensures origin { B.origin board.new ≡ B.origin board.old }
-    ensures sides { sides_of (B.grid board.new) ≡ sides_of (B.grid board.old) }
+    ensures fixed { fixed_part B.Board board.new ≡ fixed_part B.Board board.old }
     ensures scratch { length scratch.new ≡ length scratch.old }
     ensures motions { HasMotionsIn (B.grid board.new) motions.new }
 {
@@ -162,9 +159,7 @@ fn play_sections<'r, B: Scan>(
     ensures run { let before : State = record { grid = B.grid board.old; queue = queue.old } in
         let after : State = record { grid = B.grid board.new; queue = queue.new } in
         OnOk result (after ≡ program_run (sections_meaning (B.table board.old) sections.now) before) }
-    ensures table { B.table board.new ≡ B.table board.old }
-    ensures origin { B.origin board.new ≡ B.origin board.old }
-    ensures sides { sides_of (B.grid board.new) ≡ sides_of (B.grid board.old) }
+    ensures fixed { fixed_part B.Board board.new ≡ fixed_part B.Board board.old }
     ensures scratch { length scratch.new ≡ length scratch.old }
     ensures motions { HasMotionsIn (B.grid board.new) motions.new }
 {
@@ -229,9 +224,7 @@ fn play_next<'r, 's: 'r, B: Scan>(
         let all = section_run (section_meaning (B.table board.old) section) repeats before in
         IfOk result (λ left. record { state = after; repeats = left.repeats; stopped = left.stopped } ≡ all) }
     ensures unchanged { IfOk result (λ left. left.changed ≡ false → B.grid board.new ≡ B.grid board.old) }
-    ensures table { B.table board.new ≡ B.table board.old }
-    ensures origin { B.origin board.new ≡ B.origin board.old }
-    ensures sides { sides_of (B.grid board.new) ≡ sides_of (B.grid board.old) }
+    ensures fixed { fixed_part B.Board board.new ≡ fixed_part B.Board board.old }
     ensures scratch { length scratch.new ≡ length scratch.old }
     ensures motions { HasMotionsIn (B.grid board.new) motions.new }
     ensures program { program.new ≡ program.old }
@@ -276,9 +269,7 @@ fn play_unless_quiet<'r, 's: 'r, B: Scan>(
         let after : State = record { grid = B.grid board.new; queue = queue.new } in
         let sections = program.old.sections in
         OnOk result (after ≡ program_run (sections_meaning (B.table board.old) sections) before) }
-    ensures table { B.table board.new ≡ B.table board.old }
-    ensures origin { B.origin board.new ≡ B.origin board.old }
-    ensures sides { sides_of (B.grid board.new) ≡ sides_of (B.grid board.old) }
+    ensures fixed { fixed_part B.Board board.new ≡ fixed_part B.Board board.old }
     ensures scratch { length scratch.new ≡ length scratch.old }
     ensures motions { HasMotionsIn (B.grid board.new) motions.new }
     ensures program { program.new ≡ program.old }
@@ -318,9 +309,7 @@ fn play_program<'r, 's: 'r, B: Scan>(
         let after : State = record { grid = B.grid board.new; queue = queue.new } in
         let sections = program.old.sections in
         OnOk result (after ≡ program_run (sections_meaning (B.table board.old) sections) before) }
-    ensures table { B.table board.new ≡ B.table board.old }
-    ensures origin { B.origin board.new ≡ B.origin board.old }
-    ensures sides { sides_of (B.grid board.new) ≡ sides_of (B.grid board.old) }
+    ensures fixed { fixed_part B.Board board.new ≡ fixed_part B.Board board.old }
     ensures scratch { length scratch.new ≡ length scratch.old }
     ensures sections { program.new.sections ≡ program.old.sections }
 {

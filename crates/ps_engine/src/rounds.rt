@@ -6,7 +6,7 @@ ghost use Rattle.ps_model.specs.board.Attempts.{Result as Meant, State, attempt}
 ghost use Rattle.ps_model.specs.board.Programs.{group, pass, round, settled};
 ghost use Rattle.ps_engine.specs.RulesInRoom.{groups_meaning, rule_meaning, rules_meaning};
 ghost use Rattle.ps_engine.specs.Scratch.{GroupsHaveScratch, HaveScratch};
-ghost use Rattle.ps_match.specs.InRoom.{sides_of};
+ghost use Rattle.ps_match.specs.FixedParts.{fixed_part};
 ghost use Rattle.ps_match.specs.Nowhere.{HasMotionsIn};
 
 use crate::attempts::attempt;
@@ -36,9 +36,7 @@ fn round<'r, B: Scan>(
         let after : State = record { grid = B.grid board.new; queue = queue.new } in
         record { state = after; changed = result }
         ≡ round (rules_meaning (B.table board.old) rules.now) before }
-    ensures table { B.table board.new ≡ B.table board.old }
-    ensures origin { B.origin board.new ≡ B.origin board.old }
-    ensures sides { sides_of (B.grid board.new) ≡ sides_of (B.grid board.old) }
+    ensures fixed { fixed_part B.Board board.new ≡ fixed_part B.Board board.old }
     ensures scratch { length scratch.new ≡ length scratch.old }
     ensures motions { HasMotionsIn (B.grid board.new) motions.new }
 {
@@ -80,9 +78,7 @@ fn play_rounds<'r, B: Scan>(
         let after : State = record { grid = B.grid board.new; queue = queue.new } in
         let all : Meant = record { state = after; changed = true } in
         OnOk result (all ≡ settled (rules_meaning (B.table board.old) rules.now) most true before) }
-    ensures table { B.table board.new ≡ B.table board.old }
-    ensures origin { B.origin board.new ≡ B.origin board.old }
-    ensures sides { sides_of (B.grid board.new) ≡ sides_of (B.grid board.old) }
+    ensures fixed { fixed_part B.Board board.new ≡ fixed_part B.Board board.old }
     ensures scratch { length scratch.new ≡ length scratch.old }
     ensures motions { HasMotionsIn (B.grid board.new) motions.new }
 {
@@ -113,9 +109,7 @@ fn attempt_asked<'r, B: Scan>(
         let after : State = record { grid = B.grid board.new; queue = queue.new } in
         let all : Meant = record { state = after; changed = result } in
         all ≡ attempt (rule_meaning (B.table board.old) rule.now) before }
-    ensures table { B.table board.new ≡ B.table board.old }
-    ensures origin { B.origin board.new ≡ B.origin board.old }
-    ensures sides { sides_of (B.grid board.new) ≡ sides_of (B.grid board.old) }
+    ensures fixed { fixed_part B.Board board.new ≡ fixed_part B.Board board.old }
     ensures scratch { length scratch.new ≡ length scratch.old }
 {
     if asks_for_others(board, motions, rule) {
@@ -149,9 +143,7 @@ fn play_on<'r, B: Scan>(
         let meant = rules_meaning (B.table board.old) rules.now in
         let rest = round (rules_meaning (B.table board.old) (drop first rules.now)) before in
         OnOk result (all ≡ settled meant (ROUND_LIMIT - 1) true rest.state) }
-    ensures table { B.table board.new ≡ B.table board.old }
-    ensures origin { B.origin board.new ≡ B.origin board.old }
-    ensures sides { sides_of (B.grid board.new) ≡ sides_of (B.grid board.old) }
+    ensures fixed { fixed_part B.Board board.new ≡ fixed_part B.Board board.old }
     ensures scratch { length scratch.new ≡ length scratch.old }
     ensures motions { HasMotionsIn (B.grid board.new) motions.new }
 {
@@ -183,9 +175,7 @@ pub fn play_group<'r, B: Scan>(
         let after : State = record { grid = B.grid board.new; queue = queue.new } in
         IfOk result (λ changed. record { state = after; changed = changed }
         ≡ group (rules_meaning (B.table board.old) rules.now) before) }
-    ensures table { B.table board.new ≡ B.table board.old }
-    ensures origin { B.origin board.new ≡ B.origin board.old }
-    ensures sides { sides_of (B.grid board.new) ≡ sides_of (B.grid board.old) }
+    ensures fixed { fixed_part B.Board board.new ≡ fixed_part B.Board board.old }
     ensures scratch { length scratch.new ≡ length scratch.old }
     ensures motions { HasMotionsIn (B.grid board.new) motions.new }
 {
@@ -221,9 +211,7 @@ pub fn pass<'r, B: Scan>(
         let after : State = record { grid = B.grid board.new; queue = queue.new } in
         IfOk result (λ changed. record { state = after; changed = changed }
         ≡ pass (groups_meaning (B.table board.old) groups.now) before) }
-    ensures table { B.table board.new ≡ B.table board.old }
-    ensures origin { B.origin board.new ≡ B.origin board.old }
-    ensures sides { sides_of (B.grid board.new) ≡ sides_of (B.grid board.old) }
+    ensures fixed { fixed_part B.Board board.new ≡ fixed_part B.Board board.old }
     ensures scratch { length scratch.new ≡ length scratch.old }
     ensures motions { HasMotionsIn (B.grid board.new) motions.new }
 {

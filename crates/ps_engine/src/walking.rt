@@ -3,7 +3,7 @@
 
 ghost use Rattle.std.specs.Prelude.{◌≡◌, ◌+◌, ◌<◌, ◌≤◌, ◌∷◌, [], IfSome, None, false, fold, length, true};
 ghost use Rattle.ps_model.specs.board.Attempts.{Rewritten, all_fit, applied, rewritten_rows};
-ghost use Rattle.ps_match.specs.InRoom.{sides_of};
+ghost use Rattle.ps_match.specs.FixedParts.{fixed_part};
 ghost use Rattle.ps_program.specs.Sleeping.{rows_sleep};
 ghost use Rattle.ps_places.specs.Ways.{from_first};
 ghost use Rattle.ps_engine.specs.Choices.{behind, behind_from, choices_of, chosen};
@@ -32,9 +32,7 @@ fn rewrite_rows<B: Scan>(
         let places = chosen (choices_of (B.grid board.old).height rows.now scratch.now) in
         record { grid = B.grid board.new; changed = result }
         ≡ rewritten_rows before (rows_meaning (B.table board.old) rows.now) places }
-    ensures table { B.table board.new ≡ B.table board.old }
-    ensures origin { B.origin board.new ≡ B.origin board.old }
-    ensures sides { sides_of (B.grid board.new) ≡ sides_of (B.grid board.old) }
+    ensures fixed { fixed_part B.Board board.new ≡ fixed_part B.Board board.old }
 {
     if rows.is_empty() {
         return changed;
@@ -208,9 +206,7 @@ pub fn walk<B: Scan>(
         let choices = choices_of (B.grid board.old).height rows.now scratch.old in
         record { grid = B.grid board.new; changed = result }
         ≡ fold (applied (rows_meaning (B.table board.old) rows.now)) before (chosen choices ∷ behind choices) }
-    ensures table { B.table board.new ≡ B.table board.old }
-    ensures origin { B.origin board.new ≡ B.origin board.old }
-    ensures sides { sides_of (B.grid board.new) ≡ sides_of (B.grid board.old) }
+    ensures fixed { fixed_part B.Board board.new ≡ fixed_part B.Board board.old }
     ensures long { length scratch.new ≡ length scratch.old }
 {
     let mut changed = false;

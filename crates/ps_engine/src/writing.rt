@@ -7,7 +7,8 @@ ghost use Rattle.ps_model.specs.board.Attempts.{Result as Meant, State, attempt}
 ghost use Rattle.ps_model.specs.meaning.Compiled.{cell_written};
 ghost use Rattle.ps_program.specs.CellsShown.{write_shown};
 ghost use Rattle.ps_program.specs.Writers.{parts_writer};
-ghost use Rattle.ps_match.specs.InRoom.{sides_of, write_in_room};
+ghost use Rattle.ps_match.specs.FixedParts.{fixed_part};
+ghost use Rattle.ps_match.specs.InRoom.{write_in_room};
 ghost use Rattle.ps_match.specs.Together.{rewritten_where};
 ghost use Rattle.ps_places.specs.FoundStarts.{part_of};
 ghost use Rattle.ps_places.specs.PartTargets.{own_part};
@@ -49,9 +50,7 @@ fn write_behind<B: Scan>(
         let becomes = cell_written (write_in_room (B.table board.old) (write_shown write.now)) in
         record { grid = B.grid board.new; changed = result }
         ≡ rewritten_where before becomes (is_behind axis before.height steps row columns) }
-    ensures table { B.table board.new ≡ B.table board.old }
-    ensures origin { B.origin board.new ≡ B.origin board.old }
-    ensures sides { sides_of (B.grid board.new) ≡ sides_of (B.grid board.old) }
+    ensures fixed { fixed_part B.Board board.new ≡ fixed_part B.Board board.old }
 {
     recall_shape(board);
     match axis {
@@ -75,9 +74,7 @@ fn write_targets<B: Scan>(
         let becomes = cell_written (write_in_room (B.table board.old) (write_shown write.now)) in
         record { grid = B.grid board.new; changed = result }
         ≡ rewritten_where before becomes (is_written axis before.height steps rows row_scratch.now.starts.items) }
-    ensures table { B.table board.new ≡ B.table board.old }
-    ensures origin { B.origin board.new ≡ B.origin board.old }
-    ensures sides { sides_of (B.grid board.new) ≡ sides_of (B.grid board.old) }
+    ensures fixed { fixed_part B.Board board.new ≡ fixed_part B.Board board.old }
 {
     recall_shape(board);
     let mut left = rows;
@@ -105,9 +102,7 @@ pub fn attempt_writer<'r, B: Scan>(
         let after : State = record { grid = B.grid board.new; queue = queue.new } in
         let all : Meant = record { state = after; changed = result } in
         all ≡ attempt (rule_meaning (B.table board.old) rule.now) before }
-    ensures table { B.table board.new ≡ B.table board.old }
-    ensures origin { B.origin board.new ≡ B.origin board.old }
-    ensures sides { sides_of (B.grid board.new) ≡ sides_of (B.grid board.old) }
+    ensures fixed { fixed_part B.Board board.new ≡ fixed_part B.Board board.old }
 {
     recall_shape(board);
     let row = &rule.rows.as_slice()[0];

@@ -4,7 +4,7 @@
 ghost use Rattle.std.specs.Prelude.{◌≡◌, ℕ, ◌*◌, ◌<◌, ◌∷◌, [], IfSome, None, false, length, true};
 ghost use Rattle.ps_model.specs.board.Attempts.{Rewritten, rewritten_along};
 ghost use Rattle.ps_model.specs.declared.limits.TheConstants.{SIDE_LIMIT};
-ghost use Rattle.ps_match.specs.InRoom.{sides_of};
+ghost use Rattle.ps_match.specs.FixedParts.{fixed_part};
 ghost use Rattle.ps_program.specs.declared.rows.TheConstants.{PART_LIMIT};
 ghost use Rattle.ps_places.specs.Forgetting.{HaveForgotten, IsAmong, IsPlaceOf};
 ghost use Rattle.ps_places.specs.Lines.{line_count};
@@ -203,9 +203,7 @@ impl<W: ColumnWords> RowScratch<Columns<W>> {
             let place = place_at (B.grid board.old).height row.now self.now in
             record { grid = B.grid board.new; changed = result }
             ≡ rewritten_along before (cells_meaning (B.table board.old) row.now.parts) place }
-        ensures table { B.table board.new ≡ B.table board.old }
-        ensures origin { B.origin board.new ≡ B.origin board.old }
-        ensures sides { sides_of (B.grid board.new) ≡ sides_of (B.grid board.old) }
+        ensures fixed { fixed_part B.Board board.new ≡ fixed_part B.Board board.old }
     {
         let parts = row.parts.as_slice();
         let mut any = changed;
@@ -238,9 +236,7 @@ impl<W: ColumnWords> RowScratch<Columns<W>> {
             let place = place_at (B.grid board.old).height row.now self.now in
             record { grid = B.grid board.new; changed = result }
             ≡ rewritten_along before (cells_meaning (B.table board.old) row.now.parts) place }
-        ensures table { B.table board.new ≡ B.table board.old }
-        ensures origin { B.origin board.new ≡ B.origin board.old }
-        ensures sides { sides_of (B.grid board.new) ≡ sides_of (B.grid board.old) }
+        ensures fixed { fixed_part B.Board board.new ≡ fixed_part B.Board board.old }
     {
         recall_shape(board);
         let parts = row.parts.as_slice();

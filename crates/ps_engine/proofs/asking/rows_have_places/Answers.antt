@@ -51,7 +51,7 @@ returns-then-not-row_has_place-clause-some g c = λ e. absurd (true≢false (sym
 
 pub returns-then-not-row_has_place-clause-long : goal.returns-then-not-row_has_place-clause-long
 returns-then-not-row_has_place-clause-long g c =
-    length-set c.loop-number.scratch c.loop-number.number c.row_has_place.new.room ∙ c.loop-number.auto.scratch
+    length-set c.loop-number.scratch c.loop-number.number c.row_has_place.new.row_scratch ∙ c.loop-number.auto.scratch
 
 pub returns-clause-none : goal.returns-clause-none
 returns-clause-none g c = λ e. absurd (true≢false e)

@@ -18,14 +18,8 @@ returns-then-lacks_last-clause-attempt g c =
     (commands_shown rule.commands.now) grid c.args.queue.now
     (combinations_on grid (rule_meaning table rule)) (c.lacks_last.ensures c.if-lacks_last.true)
 
-pub returns-then-lacks_last-clause-table : goal.returns-then-lacks_last-clause-table
-returns-then-lacks_last-clause-table g c = refl
-
-pub returns-then-lacks_last-clause-origin : goal.returns-then-lacks_last-clause-origin
-returns-then-lacks_last-clause-origin g c = refl
-
-pub returns-then-lacks_last-clause-sides : goal.returns-then-lacks_last-clause-sides
-returns-then-lacks_last-clause-sides g c = refl
+pub returns-then-lacks_last-clause-fixed : goal.returns-then-lacks_last-clause-fixed
+returns-then-lacks_last-clause-fixed g c = refl
 
 pub returns-then-lacks_last-clause-scratch : goal.returns-then-lacks_last-clause-scratch
 returns-then-lacks_last-clause-scratch g c = refl
@@ -36,14 +30,8 @@ attempt_by_kind-requires g c = c.requires
 pub returns-clause-attempt : goal.returns-clause-attempt
 returns-clause-attempt g c = c.attempt_by_kind.ensures.attempt
 
-pub returns-clause-table : goal.returns-clause-table
-returns-clause-table g c = c.attempt_by_kind.ensures.table
-
-pub returns-clause-origin : goal.returns-clause-origin
-returns-clause-origin g c = c.attempt_by_kind.ensures.origin
-
-pub returns-clause-sides : goal.returns-clause-sides
-returns-clause-sides g c = c.attempt_by_kind.ensures.sides
+pub returns-clause-fixed : goal.returns-clause-fixed
+returns-clause-fixed g c = c.attempt_by_kind.ensures.fixed
 
 pub returns-clause-scratch : goal.returns-clause-scratch
 returns-clause-scratch g c = c.attempt_by_kind.ensures.scratch
@@ -63,14 +51,8 @@ attempt_part-requires-clause-scratch g c = c.requires
 pub returns-in-Some-clause-attempt : goal.returns-in-Some-clause-attempt
 returns-in-Some-clause-attempt g c = c.attempt_part.ensures.attempt
 
-pub returns-in-Some-clause-table : goal.returns-in-Some-clause-table
-returns-in-Some-clause-table g c = c.attempt_part.ensures.table
-
-pub returns-in-Some-clause-origin : goal.returns-in-Some-clause-origin
-returns-in-Some-clause-origin g c = c.attempt_part.ensures.origin
-
-pub returns-in-Some-clause-sides : goal.returns-in-Some-clause-sides
-returns-in-Some-clause-sides g c = c.attempt_part.ensures.sides
+pub returns-in-Some-clause-fixed : goal.returns-in-Some-clause-fixed
+returns-in-Some-clause-fixed g c = c.attempt_part.ensures.fixed
 
 pub returns-in-Some-clause-scratch : goal.returns-in-Some-clause-scratch
 returns-in-Some-clause-scratch g c = c.attempt_part.ensures.scratch

@@ -63,14 +63,8 @@ returns-clause-attempt g c =
 pub choose_first-requires : goal.choose_first-requires
 choose_first-requires g c = c.requires.long
 
-pub returns-then-not-choose_first-clause-table : goal.returns-then-not-choose_first-clause-table
-returns-then-not-choose_first-clause-table g c = refl
-
-pub returns-then-not-choose_first-clause-origin : goal.returns-then-not-choose_first-clause-origin
-returns-then-not-choose_first-clause-origin g c = refl
-
-pub returns-then-not-choose_first-clause-sides : goal.returns-then-not-choose_first-clause-sides
-returns-then-not-choose_first-clause-sides g c = refl
+pub returns-then-not-choose_first-clause-fixed : goal.returns-then-not-choose_first-clause-fixed
+returns-then-not-choose_first-clause-fixed g c = refl
 
 pub returns-then-not-choose_first-clause-scratch : goal.returns-then-not-choose_first-clause-scratch
 returns-then-not-choose_first-clause-scratch g c = c.choose_first.ensures.long
@@ -91,14 +85,8 @@ walk-requires-clause-fit g c =
     (chosen (choices_of grid.height rows c.choose_first.new.scratch)) ≡ true) (sym c.as_slice-rows.ensures)
     (c.choose_first.ensures.fit c.if-not-choose_first.false)
 
-pub returns-clause-table : goal.returns-clause-table
-returns-clause-table g c = c.walk.ensures.table
-
-pub returns-clause-origin : goal.returns-clause-origin
-returns-clause-origin g c = c.walk.ensures.origin
-
-pub returns-clause-sides : goal.returns-clause-sides
-returns-clause-sides g c = c.walk.ensures.sides
+pub returns-clause-fixed : goal.returns-clause-fixed
+returns-clause-fixed g c = c.walk.ensures.fixed
 
 pub returns-clause-scratch : goal.returns-clause-scratch
 returns-clause-scratch g c = c.walk.ensures.long ∙ c.choose_first.ensures.long

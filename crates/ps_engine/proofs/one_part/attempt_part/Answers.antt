@@ -32,14 +32,8 @@ returns-then-is_empty-clause-attempt g c =
     (ap (λ (rows : List (List (List CellMeaning))). combinations (map (places grid direction) rows)) only
     ∙ none_alone (places grid direction (m ∷ [])) none)
 
-pub returns-then-is_empty-clause-table : goal.returns-then-is_empty-clause-table
-returns-then-is_empty-clause-table g c = refl
-
-pub returns-then-is_empty-clause-origin : goal.returns-then-is_empty-clause-origin
-returns-then-is_empty-clause-origin g c = refl
-
-pub returns-then-is_empty-clause-sides : goal.returns-then-is_empty-clause-sides
-returns-then-is_empty-clause-sides g c = refl
+pub returns-then-is_empty-clause-fixed : goal.returns-then-is_empty-clause-fixed
+returns-then-is_empty-clause-fixed g c = refl
 
 pub returns-then-is_empty-clause-scratch : goal.returns-then-is_empty-clause-scratch
 returns-then-is_empty-clause-scratch g c = length-set c.args.scratch.now 0 c.find_part-starts.new.self
@@ -78,14 +72,8 @@ rewrite_found-requires-clause-kept g c = λ room at.
 pub returns-clause-attempt : goal.returns-clause-attempt
 returns-clause-attempt g c = c.rewrite_found.ensures.attempt
 
-pub returns-clause-table : goal.returns-clause-table
-returns-clause-table g c = c.rewrite_found.ensures.table
-
-pub returns-clause-origin : goal.returns-clause-origin
-returns-clause-origin g c = c.rewrite_found.ensures.origin
-
-pub returns-clause-sides : goal.returns-clause-sides
-returns-clause-sides g c = c.rewrite_found.ensures.sides
+pub returns-clause-fixed : goal.returns-clause-fixed
+returns-clause-fixed g c = c.rewrite_found.ensures.fixed
 
 pub returns-clause-scratch : goal.returns-clause-scratch
 returns-clause-scratch g c =

@@ -54,23 +54,11 @@ returns-in-Down-clause-attempt g c =
     ∙ ap (λ (axis : Axis). fold (applied ((m ∷ []) ∷ [])) (unchanged grid)
     (combinations (places grid (direction_of axis) (m ∷ []) ∷ []))) (sym c.in-Down.is))
 
-pub returns-then-are_independent-clause-table : goal.returns-then-are_independent-clause-table
-returns-then-are_independent-clause-table g c = c.rewrite_places.ensures.table
+pub returns-then-are_independent-clause-fixed : goal.returns-then-are_independent-clause-fixed
+returns-then-are_independent-clause-fixed g c = c.rewrite_places.ensures.fixed
 
-pub returns-then-are_independent-clause-origin : goal.returns-then-are_independent-clause-origin
-returns-then-are_independent-clause-origin g c = c.rewrite_places.ensures.origin
-
-pub returns-in-Down-clause-table : goal.returns-in-Down-clause-table
-returns-in-Down-clause-table g c = c.rewrite_in_turn.ensures.table
-
-pub returns-in-Down-clause-origin : goal.returns-in-Down-clause-origin
-returns-in-Down-clause-origin g c = c.rewrite_in_turn.ensures.origin
-
-pub returns-then-are_independent-clause-sides : goal.returns-then-are_independent-clause-sides
-returns-then-are_independent-clause-sides g c = c.rewrite_places.ensures.sides
-
-pub returns-in-Down-clause-sides : goal.returns-in-Down-clause-sides
-returns-in-Down-clause-sides g c = c.rewrite_in_turn.ensures.sides
+pub returns-in-Down-clause-fixed : goal.returns-in-Down-clause-fixed
+returns-in-Down-clause-fixed g c = c.rewrite_in_turn.ensures.fixed
 
 pub rewrite_places-requires-clause-whole : goal.rewrite_places-requires-clause-whole
 rewrite_places-requires-clause-whole g c = c.requires.whole
@@ -113,14 +101,8 @@ returns-in-Right-clause-scratch g c = c.attempt_rows.ensures.scratch
 pub returns-in-Right-clause-attempt : goal.returns-in-Right-clause-attempt
 returns-in-Right-clause-attempt g c = c.attempt_rows.ensures.attempt
 
-pub returns-in-Right-clause-table : goal.returns-in-Right-clause-table
-returns-in-Right-clause-table g c = c.attempt_rows.ensures.table
-
-pub returns-in-Right-clause-origin : goal.returns-in-Right-clause-origin
-returns-in-Right-clause-origin g c = c.attempt_rows.ensures.origin
-
-pub returns-in-Right-clause-sides : goal.returns-in-Right-clause-sides
-returns-in-Right-clause-sides g c = c.attempt_rows.ensures.sides
+pub returns-in-Right-clause-fixed : goal.returns-in-Right-clause-fixed
+returns-in-Right-clause-fixed g c = c.attempt_rows.ensures.fixed
 
 pub bounds-scratch-0 : goal.bounds-scratch-0
 bounds-scratch-0 g c =

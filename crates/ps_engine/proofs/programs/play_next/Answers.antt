@@ -59,14 +59,8 @@ passes-requires-clause-same g c = c.requires.same
 pub returns-then-passes-clause-unchanged : goal.returns-then-passes-clause-unchanged
 returns-then-passes-clause-unchanged g c = λ off. refl
 
-pub returns-then-passes-clause-table : goal.returns-then-passes-clause-table
-returns-then-passes-clause-table g c = refl
-
-pub returns-then-passes-clause-origin : goal.returns-then-passes-clause-origin
-returns-then-passes-clause-origin g c = refl
-
-pub returns-then-passes-clause-sides : goal.returns-then-passes-clause-sides
-returns-then-passes-clause-sides g c = refl
+pub returns-then-passes-clause-fixed : goal.returns-then-passes-clause-fixed
+returns-then-passes-clause-fixed g c = refl
 
 pub returns-then-passes-clause-scratch : goal.returns-then-passes-clause-scratch
 returns-then-passes-clause-scratch g c = c.passes.ensures.scratch
@@ -85,14 +79,8 @@ play_section-requires-clause-scratch g c =
 pub returns-clause-unchanged : goal.returns-clause-unchanged
 returns-clause-unchanged g c = c.play_section.ensures.unchanged
 
-pub returns-clause-table : goal.returns-clause-table
-returns-clause-table g c = c.play_section.ensures.table
-
-pub returns-clause-origin : goal.returns-clause-origin
-returns-clause-origin g c = c.play_section.ensures.origin
-
-pub returns-clause-sides : goal.returns-clause-sides
-returns-clause-sides g c = c.play_section.ensures.sides
+pub returns-clause-fixed : goal.returns-clause-fixed
+returns-clause-fixed g c = c.play_section.ensures.fixed
 
 pub returns-clause-scratch : goal.returns-clause-scratch
 returns-clause-scratch g c = c.play_section.ensures.scratch ∙ c.passes.ensures.scratch

@@ -11,14 +11,8 @@ use Rattle.ps_engine.proofs.programs.play_program.Goals as goal
 pub returns-in_err-seeks_quiet-clause-run : goal.returns-in_err-seeks_quiet-clause-run
 returns-in_err-seeks_quiet-clause-run g c = IfOk-from_err c.from_residual.result _ c.from_residual.ensures.0
 
-pub returns-in_err-seeks_quiet-clause-table : goal.returns-in_err-seeks_quiet-clause-table
-returns-in_err-seeks_quiet-clause-table g c = refl
-
-pub returns-in_err-seeks_quiet-clause-origin : goal.returns-in_err-seeks_quiet-clause-origin
-returns-in_err-seeks_quiet-clause-origin g c = refl
-
-pub returns-in_err-seeks_quiet-clause-sides : goal.returns-in_err-seeks_quiet-clause-sides
-returns-in_err-seeks_quiet-clause-sides g c = refl
+pub returns-in_err-seeks_quiet-clause-fixed : goal.returns-in_err-seeks_quiet-clause-fixed
+returns-in_err-seeks_quiet-clause-fixed g c = refl
 
 pub returns-in_err-seeks_quiet-clause-scratch : goal.returns-in_err-seeks_quiet-clause-scratch
 returns-in_err-seeks_quiet-clause-scratch g c = refl
@@ -44,14 +38,8 @@ returns-then-seeks_quiet-clause-run g c =
     (after ≡ program_run (sections_meaning (g.B.Board.table c.args.board.now) sections) before))
     c.in_ok-seeks_quiet.ensures.sections c.play_unless_quiet.ensures.run
 
-pub returns-then-seeks_quiet-clause-table : goal.returns-then-seeks_quiet-clause-table
-returns-then-seeks_quiet-clause-table g c = c.play_unless_quiet.ensures.table
-
-pub returns-then-seeks_quiet-clause-origin : goal.returns-then-seeks_quiet-clause-origin
-returns-then-seeks_quiet-clause-origin g c = c.play_unless_quiet.ensures.origin
-
-pub returns-then-seeks_quiet-clause-sides : goal.returns-then-seeks_quiet-clause-sides
-returns-then-seeks_quiet-clause-sides g c = c.play_unless_quiet.ensures.sides
+pub returns-then-seeks_quiet-clause-fixed : goal.returns-then-seeks_quiet-clause-fixed
+returns-then-seeks_quiet-clause-fixed g c = c.play_unless_quiet.ensures.fixed
 
 pub returns-then-seeks_quiet-clause-scratch : goal.returns-then-seeks_quiet-clause-scratch
 returns-then-seeks_quiet-clause-scratch g c = c.play_unless_quiet.ensures.scratch
@@ -82,14 +70,8 @@ returns-clause-run g c =
     (after ≡ program_run (sections_meaning (g.B.Board.table c.args.board.now) sections) before))
     (c.sections-sections.ensures ∙ c.in_ok-seeks_quiet.ensures.sections) c.play_sections.ensures.run
 
-pub returns-clause-table : goal.returns-clause-table
-returns-clause-table g c = c.play_sections.ensures.table
-
-pub returns-clause-origin : goal.returns-clause-origin
-returns-clause-origin g c = c.play_sections.ensures.origin
-
-pub returns-clause-sides : goal.returns-clause-sides
-returns-clause-sides g c = c.play_sections.ensures.sides
+pub returns-clause-fixed : goal.returns-clause-fixed
+returns-clause-fixed g c = c.play_sections.ensures.fixed
 
 pub returns-clause-scratch : goal.returns-clause-scratch
 returns-clause-scratch g c = c.play_sections.ensures.scratch

@@ -55,32 +55,14 @@ returns-in_err-changed-in-Group-clause-section g c = IfOk-from_err c.from_residu
 pub returns-in_err-changed-in-Group-clause-unchanged : goal.returns-in_err-changed-in-Group-clause-unchanged
 returns-in_err-changed-in-Group-clause-unchanged g c = IfOk-from_err c.from_residual.result _ c.from_residual.ensures.0
 
-pub returns-in_err-changed-in-Group-clause-table : goal.returns-in_err-changed-in-Group-clause-table
-returns-in_err-changed-in-Group-clause-table g c = c.in_err-changed-in-Group.ensures.table
+pub returns-in_err-changed-in-Group-clause-fixed : goal.returns-in_err-changed-in-Group-clause-fixed
+returns-in_err-changed-in-Group-clause-fixed g c = c.in_err-changed-in-Group.ensures.fixed
 
-pub returns-in_err-changed-in-Group-clause-origin : goal.returns-in_err-changed-in-Group-clause-origin
-returns-in_err-changed-in-Group-clause-origin g c = c.in_err-changed-in-Group.ensures.origin
+pub returns-in_ok-changed-in-Group-clause-fixed : goal.returns-in_ok-changed-in-Group-clause-fixed
+returns-in_ok-changed-in-Group-clause-fixed g c = c.in_ok-changed-in-Group.ensures.fixed
 
-pub returns-in_ok-changed-in-Group-clause-table : goal.returns-in_ok-changed-in-Group-clause-table
-returns-in_ok-changed-in-Group-clause-table g c = c.in_ok-changed-in-Group.ensures.table
-
-pub returns-in_ok-changed-in-Group-clause-origin : goal.returns-in_ok-changed-in-Group-clause-origin
-returns-in_ok-changed-in-Group-clause-origin g c = c.in_ok-changed-in-Group.ensures.origin
-
-pub returns-in-Loop-clause-table : goal.returns-in-Loop-clause-table
-returns-in-Loop-clause-table g c = c.play_loop.ensures.table
-
-pub returns-in-Loop-clause-origin : goal.returns-in-Loop-clause-origin
-returns-in-Loop-clause-origin g c = c.play_loop.ensures.origin
-
-pub returns-in_err-changed-in-Group-clause-sides : goal.returns-in_err-changed-in-Group-clause-sides
-returns-in_err-changed-in-Group-clause-sides g c = c.in_err-changed-in-Group.ensures.sides
-
-pub returns-in_ok-changed-in-Group-clause-sides : goal.returns-in_ok-changed-in-Group-clause-sides
-returns-in_ok-changed-in-Group-clause-sides g c = c.in_ok-changed-in-Group.ensures.sides
-
-pub returns-in-Loop-clause-sides : goal.returns-in-Loop-clause-sides
-returns-in-Loop-clause-sides g c = c.play_loop.ensures.sides
+pub returns-in-Loop-clause-fixed : goal.returns-in-Loop-clause-fixed
+returns-in-Loop-clause-fixed g c = c.play_loop.ensures.fixed
 
 pub returns-in_err-changed-in-Group-clause-scratch : goal.returns-in_err-changed-in-Group-clause-scratch
 returns-in_err-changed-in-Group-clause-scratch g c = c.in_err-changed-in-Group.ensures.scratch

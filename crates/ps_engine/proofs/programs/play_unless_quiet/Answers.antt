@@ -16,6 +16,7 @@ use Rattle.ps_engine.specs.Waking.{IsSameBut}
 use Rattle.ps_engine.proofs.Sequences.{program_is, sections_end, sections_on, sections_stop}
 use Rattle.ps_engine.proofs.Stirred.{differ_none}
 use Rattle.ps_engine.proofs.Waking.{found_at}
+use Rattle.ps_match.specs.FixedParts.{fixed_part, same_layers, same_sides}
 use Rattle.ps_engine.proofs.programs.play_unless_quiet.Goals as goal
 use Rattle.ps_engine.proofs.programs.play_unless_quiet.Goals.{then-left-2, else-left-2}
 
@@ -24,9 +25,7 @@ loop-number-init g c =
     record {
       run = program_is (sections_meaning (g.B.Board.table c.args.board.now) c.args.program.now.sections) REPEAT_LIMIT
           (record { grid = g.B.Board.grid c.args.board.now; queue = c.args.queue.now }) refl;
-      table = refl;
-      origin = refl;
-      sides = refl;
+      fixed = refl;
       motions = c.requires.motions;
       differ = differ_none c.none-stirred.result (g.B.Board.grid c.args.board.now) (g.B.Board.grid c.args.board.now)
           refl;
@@ -50,7 +49,7 @@ returns-then-left-clause-run g c =
     ∙ c.in_ok-left.ensures.section at.0 (ap (λ (w : QuietGroupsShown). slice_get w.sections n) c.loop-number.invariant.program
     ∙ at.1)
     ∙ ap (λ (t : Option (List ℕ)). section_run (section_meaning t at.0) c.loop-number.repeats now)
-    c.loop-number.invariant.table in
+    (same_layers c.loop-number.invariant.fixed) in
     sections_stop (section_meaning table) sections n at.0 c.loop-number.repeats left.repeats now next low
     (sym (get_or_from_slice_get sections n at.0 at.0 at.1)) made ∙ c.loop-number.invariant.run
 
@@ -72,25 +71,23 @@ loop-number-preserved g c =
     ∙ c.in_ok-left.ensures.section at.0 (ap (λ (w : QuietGroupsShown). slice_get w.sections n) c.loop-number.invariant.program
     ∙ at.1)
     ∙ ap (λ (t : Option (List ℕ)). section_run (section_meaning t at.0) c.loop-number.repeats now)
-    c.loop-number.invariant.table in
+    (same_layers c.loop-number.invariant.fixed) in
     let program : c.play_next.new.program ≡ c.args.program.now =
     c.in_ok-left.ensures.program ∙ c.loop-number.invariant.program in
-    let tables : g.B.Board.table c.play_next.new.board ≡ table = c.in_ok-left.ensures.table
-    ∙ c.loop-number.invariant.table in
-    let sides = c.in_ok-left.ensures.sides ∙ c.loop-number.invariant.sides in
+    let fixed : fixed_part g.B.Board c.play_next.new.board ≡ fixed_part g.B.Board c.args.board.now =
+    c.in_ok-left.ensures.fixed ∙ c.loop-number.invariant.fixed in
     record {
       run = sections_on (section_meaning table) sections n at.0 c.loop-number.repeats left.repeats now next low
           (sym (get_or_from_slice_get sections n at.0 at.0 at.1)) made ∙ c.loop-number.invariant.run;
-      table = tables;
-      origin = c.in_ok-left.ensures.origin ∙ c.loop-number.invariant.origin;
-      sides = sides;
+      fixed = fixed;
       motions = c.in_ok-left.ensures.motions;
       differ = elim c.if-left-2.branch [
         | then-left-2 w ↦
             subst (λ (stirred : List Bool). DifferOnlyAbout stirred (g.B.Board.grid c.play_next.new.board) start)
             (sym w.stirred-is)
             (w.stirred_on-stirred.ensures start table
-            (ap (λ (p : QuietGroupsShown). p.kept) program ∙ c.requires.kept) (sym sides) (sym tables))
+            (ap (λ (p : QuietGroupsShown). p.kept) program ∙ c.requires.kept) (sym (same_sides fixed))
+            (sym (same_layers fixed)))
         | else-left-2 w ↦
             subst (λ (stirred : List Bool). DifferOnlyAbout stirred (g.B.Board.grid c.play_next.new.board) start)
             (sym w.stirred-is)
@@ -120,22 +117,16 @@ play_next-requires-clause-same g c = λ kept table is.
     subst (λ (p : Grid × Option (List ℕ)). IsSameBut c.loop-number.stirred (g.B.Board.grid c.loop-number.board)
     (g.B.Board.table c.loop-number.board) p.0 p.1) (same_Some start (kept, table) shown) (record {
       differ = c.loop-number.invariant.differ;
-      sides = sym c.loop-number.invariant.sides;
+      sides = sym (same_sides c.loop-number.invariant.fixed);
       shape = c.recall_shape.ensures.shape;
-      same_table = sym c.loop-number.invariant.table;
+      same_table = sym (same_layers c.loop-number.invariant.fixed);
     })
 
 pub returns-in_err-left-clause-run : goal.returns-in_err-left-clause-run
 returns-in_err-left-clause-run g c = IfOk-from_err c.from_residual.result _ c.from_residual.ensures.0
 
-pub returns-in_err-left-clause-table : goal.returns-in_err-left-clause-table
-returns-in_err-left-clause-table g c = c.in_err-left.ensures.table ∙ c.loop-number.invariant.table
-
-pub returns-in_err-left-clause-origin : goal.returns-in_err-left-clause-origin
-returns-in_err-left-clause-origin g c = c.in_err-left.ensures.origin ∙ c.loop-number.invariant.origin
-
-pub returns-in_err-left-clause-sides : goal.returns-in_err-left-clause-sides
-returns-in_err-left-clause-sides g c = c.in_err-left.ensures.sides ∙ c.loop-number.invariant.sides
+pub returns-in_err-left-clause-fixed : goal.returns-in_err-left-clause-fixed
+returns-in_err-left-clause-fixed g c = c.in_err-left.ensures.fixed ∙ c.loop-number.invariant.fixed
 
 pub play_next-requires-clause-motions : goal.play_next-requires-clause-motions
 play_next-requires-clause-motions g c = c.loop-number.invariant.motions
@@ -155,14 +146,8 @@ returns-in_err-left-clause-program g c = c.in_err-left.ensures.program ∙ c.loo
 pub returns-in_err-left-clause-scratch : goal.returns-in_err-left-clause-scratch
 returns-in_err-left-clause-scratch g c = c.in_err-left.ensures.scratch ∙ c.loop-number.auto.scratch
 
-pub returns-then-left-clause-table : goal.returns-then-left-clause-table
-returns-then-left-clause-table g c = c.in_ok-left.ensures.table ∙ c.loop-number.invariant.table
-
-pub returns-then-left-clause-origin : goal.returns-then-left-clause-origin
-returns-then-left-clause-origin g c = c.in_ok-left.ensures.origin ∙ c.loop-number.invariant.origin
-
-pub returns-then-left-clause-sides : goal.returns-then-left-clause-sides
-returns-then-left-clause-sides g c = c.in_ok-left.ensures.sides ∙ c.loop-number.invariant.sides
+pub returns-then-left-clause-fixed : goal.returns-then-left-clause-fixed
+returns-then-left-clause-fixed g c = c.in_ok-left.ensures.fixed ∙ c.loop-number.invariant.fixed
 
 pub returns-then-left-clause-program : goal.returns-then-left-clause-program
 returns-then-left-clause-program g c = c.in_ok-left.ensures.program ∙ c.loop-number.invariant.program
@@ -180,14 +165,8 @@ returns-clause-run g c =
     c.loop-number.repeats (record { grid = g.B.Board.grid c.loop-number.board; queue = c.loop-number.queue }) far
     ∙ c.loop-number.invariant.run
 
-pub returns-clause-table : goal.returns-clause-table
-returns-clause-table g c = c.loop-number.invariant.table
-
-pub returns-clause-origin : goal.returns-clause-origin
-returns-clause-origin g c = c.loop-number.invariant.origin
-
-pub returns-clause-sides : goal.returns-clause-sides
-returns-clause-sides g c = c.loop-number.invariant.sides
+pub returns-clause-fixed : goal.returns-clause-fixed
+returns-clause-fixed g c = c.loop-number.invariant.fixed
 
 pub returns-clause-program : goal.returns-clause-program
 returns-clause-program g c = c.loop-number.invariant.program

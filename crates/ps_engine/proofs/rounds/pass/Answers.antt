@@ -6,6 +6,7 @@ use Rattle.ps_program.specs.declared.rules.CompiledRule.{CompiledRule}
 use Rattle.ps_engine.specs.RulesInRoom.{rules_meaning}
 use Rattle.ps_engine.specs.Scratch.{HaveScratch}
 use Rattle.ps_engine.proofs.Sequences.{pass_end, pass_more}
+use Rattle.ps_match.specs.FixedParts.{same_layers}
 use Rattle.ps_engine.proofs.rounds.pass.Goals as goal
 
 pub loop-rules-preserved : goal.loop-rules-preserved
@@ -22,20 +23,18 @@ loop-rules-preserved g c =
     c.in_ok-more.ensures.group
     ∙ ap (λ (rules : List CompiledRule). group (rules_meaning (g.B.Board.table c.loop-rules.board) rules) now)
     c.as_slice.ensures
-    ∙ ap (λ (t : Option (List ℕ)). group (rules_meaning t c.rules-item.result) now) c.loop-rules.invariant.table in
+    ∙ ap (λ (t : Option (List ℕ)). group (rules_meaning t c.rules-item.result) now) (same_layers c.loop-rules.invariant.fixed) in
     record {
       pass = pass_more (rules_meaning table) c.args.groups.now c.loop-rules.rules-index c.rules-item.result
           c.loop-rules.changed c.in_ok-more.more now next c.loop-rules-test.true c.rules-item.is made
           ∙ c.loop-rules.invariant.pass;
-      table = c.play_group.ensures.table ∙ c.loop-rules.invariant.table;
-      origin = c.play_group.ensures.origin ∙ c.loop-rules.invariant.origin;
-      sides = c.play_group.ensures.sides ∙ c.loop-rules.invariant.sides;
+      fixed = c.play_group.ensures.fixed ∙ c.loop-rules.invariant.fixed;
       motions = c.play_group.ensures.motions;
     }
 
 pub loop-rules-init : goal.loop-rules-init
 loop-rules-init g c =
-    record { pass = refl; table = refl; origin = refl; sides = refl; motions = c.requires.motions }
+    record { pass = refl; fixed = refl; motions = c.requires.motions }
 
 pub play_group-requires-clause-scratch : goal.play_group-requires-clause-scratch
 play_group-requires-clause-scratch g c =
@@ -56,23 +55,11 @@ returns-clause-motions g c = c.loop-rules.invariant.motions
 pub returns-in_err-more-clause-pass : goal.returns-in_err-more-clause-pass
 returns-in_err-more-clause-pass g c = IfOk-from_err c.from_residual.result _ c.from_residual.ensures.0
 
-pub returns-in_err-more-clause-table : goal.returns-in_err-more-clause-table
-returns-in_err-more-clause-table g c = c.in_err-more.ensures.table ∙ c.loop-rules.invariant.table
+pub returns-in_err-more-clause-fixed : goal.returns-in_err-more-clause-fixed
+returns-in_err-more-clause-fixed g c = c.in_err-more.ensures.fixed ∙ c.loop-rules.invariant.fixed
 
-pub returns-in_err-more-clause-origin : goal.returns-in_err-more-clause-origin
-returns-in_err-more-clause-origin g c = c.in_err-more.ensures.origin ∙ c.loop-rules.invariant.origin
-
-pub returns-clause-table : goal.returns-clause-table
-returns-clause-table g c = c.loop-rules.invariant.table
-
-pub returns-clause-origin : goal.returns-clause-origin
-returns-clause-origin g c = c.loop-rules.invariant.origin
-
-pub returns-in_err-more-clause-sides : goal.returns-in_err-more-clause-sides
-returns-in_err-more-clause-sides g c = c.in_err-more.ensures.sides ∙ c.loop-rules.invariant.sides
-
-pub returns-clause-sides : goal.returns-clause-sides
-returns-clause-sides g c = c.loop-rules.invariant.sides
+pub returns-clause-fixed : goal.returns-clause-fixed
+returns-clause-fixed g c = c.loop-rules.invariant.fixed
 
 pub returns-in_err-more-clause-scratch : goal.returns-in_err-more-clause-scratch
 returns-in_err-more-clause-scratch g c = c.in_err-more.ensures.scratch ∙ c.loop-rules.auto.scratch

@@ -5,6 +5,7 @@ use Rattle.ps_places.specs.RowPlaces.{cells_meaning, place_at}
 use Rattle.ps_engine.proofs.Choosing.{first_of_fitting}
 use Rattle.ps_engine.proofs.Rewriting.{none_there, rewritten_end, rewritten_from, rewritten_more, same_height}
 use Rattle.ps_engine.proofs.Rewriting.{some_there}
+use Rattle.ps_match.specs.FixedParts.{same_layers, same_sides}
 use Rattle.ps_engine.proofs.walking.rewrite_rows.Goals as goal
 
 pub loop-number-init : goal.loop-number-init
@@ -23,9 +24,7 @@ loop-number-init g c =
           (slice_get_read c.args.rows.now _ 0 row refl some c.index-rows-0.is)
           (slice_get_read c.args.scratch.now _ 0 row_scratch refl (omega (arith, some, c.requires.long)) c.index-scratch-0.is)
           refl);
-      table = c.rewrite_fitting-any.ensures.table;
-      origin = c.rewrite_fitting-any.ensures.origin;
-      sides = c.rewrite_fitting-any.ensures.sides;
+      fixed = c.rewrite_fitting-any.ensures.fixed;
     }
 
 pub loop-number-preserved : goal.loop-number-preserved
@@ -38,10 +37,10 @@ loop-number-preserved g c =
     let before : Rewritten = record { grid = g.B.Board.grid c.loop-number.board; changed = c.loop-number.any } in
     let after : Rewritten = record { grid = g.B.Board.grid c.rewrite-any.new.board; changed = c.rewrite-any.result } in
     let high : before.grid.height ≡ height = same_height before.grid (g.B.Board.grid c.args.board.now)
-    c.loop-number.invariant.sides in
+    (same_sides c.loop-number.invariant.fixed) in
     let wrote : after ≡ rewritten_along before (cells_meaning table row.parts) (place_at height row row_scratch) =
     c.rewrite-any.ensures.rewritten ∙ ap₂ (λ (t : Option (List ℕ)) (h : ℕ).
-    rewritten_along before (cells_meaning t row.parts) (place_at h row row_scratch)) c.loop-number.invariant.table high in
+    rewritten_along before (cells_meaning t row.parts) (place_at h row row_scratch)) (same_layers c.loop-number.invariant.fixed) high in
     record {
       rewritten =
           ap (rewritten_from table height c.args.rows.now c.args.scratch.now (n + 1)) wrote
@@ -50,9 +49,7 @@ loop-number-preserved g c =
           (slice_get_read c.args.scratch.now _ n row_scratch refl (omega (arith, c.loop-number-test.true, c.requires.long))
           c.index-scratch-number.is) (omega arith))
           ∙ c.loop-number.invariant.rewritten;
-      table = c.rewrite-any.ensures.table ∙ c.loop-number.invariant.table;
-      origin = c.rewrite-any.ensures.origin ∙ c.loop-number.invariant.origin;
-      sides = c.rewrite-any.ensures.sides ∙ c.loop-number.invariant.sides;
+      fixed = c.rewrite-any.ensures.fixed ∙ c.loop-number.invariant.fixed;
     }
 
 pub rewrite_fitting-any-requires-clause-fits : goal.rewrite_fitting-any-requires-clause-fits
@@ -71,14 +68,8 @@ returns-then-is_empty-clause-rewritten g c =
     c.args.scratch.now (record { grid = g.B.Board.grid c.args.board.now; changed = c.args.changed })
     (none_there c.args.rows.now (sym c.is_empty.ensures ∙ c.if-is_empty.true)))
 
-pub returns-then-is_empty-clause-table : goal.returns-then-is_empty-clause-table
-returns-then-is_empty-clause-table g c = refl
-
-pub returns-then-is_empty-clause-origin : goal.returns-then-is_empty-clause-origin
-returns-then-is_empty-clause-origin g c = refl
-
-pub returns-then-is_empty-clause-sides : goal.returns-then-is_empty-clause-sides
-returns-then-is_empty-clause-sides g c = refl
+pub returns-then-is_empty-clause-fixed : goal.returns-then-is_empty-clause-fixed
+returns-then-is_empty-clause-fixed g c = refl
 
 pub rewrite_fitting-any-requires-clause-spaced : goal.rewrite_fitting-any-requires-clause-spaced
 rewrite_fitting-any-requires-clause-spaced g c =
@@ -96,11 +87,5 @@ returns-clause-rewritten g c =
     (record { grid = g.B.Board.grid c.loop-number.board; changed = c.loop-number.any }) c.loop-number-test.false)
     ∙ c.loop-number.invariant.rewritten
 
-pub returns-clause-table : goal.returns-clause-table
-returns-clause-table g c = c.loop-number.invariant.table
-
-pub returns-clause-origin : goal.returns-clause-origin
-returns-clause-origin g c = c.loop-number.invariant.origin
-
-pub returns-clause-sides : goal.returns-clause-sides
-returns-clause-sides g c = c.loop-number.invariant.sides
+pub returns-clause-fixed : goal.returns-clause-fixed
+returns-clause-fixed g c = c.loop-number.invariant.fixed

@@ -1,9 +1,9 @@
 use Rattle.std.proofs.Common.{◌≡◌}
-use Rattle.ps_match.specs.InRoom.{sides_of}
 use Rattle.ps_model.specs.board.Attempts.{Rewritten, rewritten_rows}
 use Rattle.ps_engine.specs.Choices.{chosen, choices_of}
 use Rattle.ps_engine.specs.Choosing.{rows_meaning}
 use Rattle.ps_engine.proofs.Rewriting.{rewritten_from}
+use Rattle.ps_match.specs.FixedParts.{fixed_part}
 use Rattle.ps_engine.proofs.walking.rewrite_rows.Given as goal
 
 -- the rows passed by are rewritten
@@ -16,7 +16,5 @@ invariant-loop-number g l =
     record {
       rewritten : rewritten_from table height l.rows l.scratch l.number now ≡ rewritten_rows before
           (rows_meaning table l.rows) (chosen (choices_of height l.rows l.scratch));
-      table : g.B.Board.table l.board ≡ table;
-      origin : g.B.Board.origin l.board ≡ g.B.Board.origin l.fn.board;
-      sides : sides_of (g.B.Board.grid l.board) ≡ sides_of (g.B.Board.grid l.fn.board);
+      fixed : fixed_part g.B.Board l.board ≡ fixed_part g.B.Board l.fn.board;
     }

@@ -8,17 +8,18 @@ use Rattle.ps_engine.specs.Choosing.{rows_meaning}
 use Rattle.ps_engine.proofs.Rewriting.{same_height, turn}
 use Rattle.ps_engine.proofs.ScratchChanged.{lines_there, placed_there}
 use Rattle.ps_engine.proofs.Sought.{no_more}
+use Rattle.ps_match.specs.FixedParts.{same_layers, same_origin, same_sides}
 use Rattle.ps_engine.proofs.walking.walk.Goals as goal
 
 pub go_on-requires-clause-lines : goal.go_on-requires-clause-lines
 go_on-requires-clause-lines g c =
     lines_there (g.B.Board.grid c.rewrite_rows-changed.new.board) (g.B.Board.grid c.loop-sleeps.board) c.args.rows.now
-    c.loop-sleeps.scratch c.rewrite_rows-changed.ensures.sides c.loop-sleeps.invariant.lines
+    c.loop-sleeps.scratch (same_sides c.rewrite_rows-changed.ensures.fixed) c.loop-sleeps.invariant.lines
 
 pub go_on-requires-clause-places : goal.go_on-requires-clause-places
 go_on-requires-clause-places g c =
     placed_there (g.B.Board.grid c.rewrite_rows-changed.new.board) (g.B.Board.grid c.loop-sleeps.board) c.args.rows.now
-    c.loop-sleeps.scratch c.rewrite_rows-changed.ensures.sides c.loop-sleeps.invariant.places
+    c.loop-sleeps.scratch (same_sides c.rewrite_rows-changed.ensures.fixed) c.loop-sleeps.invariant.places
 
 pub returns-then-not-go_on-clause-rewritten : goal.returns-then-not-go_on-clause-rewritten
 returns-then-not-go_on-clause-rewritten g c =
@@ -30,14 +31,14 @@ returns-then-not-go_on-clause-rewritten g c =
       changed =
           c.rewrite_rows-changed.result;
     } in
-    let e : other ≡ table = c.rewrite_rows-changed.ensures.table ∙ c.loop-sleeps.invariant.table in
+    let e : other ≡ table = same_layers c.rewrite_rows-changed.ensures.fixed ∙ same_layers c.loop-sleeps.invariant.fixed in
     let d : after.grid.height ≡ before.grid.height =
-    same_height after.grid before.grid c.rewrite_rows-changed.ensures.sides in
+    same_height after.grid before.grid (same_sides c.rewrite_rows-changed.ensures.fixed) in
     let made : after ≡ rewritten_rows before (rows_meaning table c.args.rows.now)
     (chosen (choices_of before.grid.height c.args.rows.now c.loop-sleeps.scratch)) =
     c.rewrite_rows-changed.ensures.rewritten
     ∙ ap (λ (t : Option (List ℕ)). rewritten_rows before (rows_meaning t c.args.rows.now)
-    (chosen (choices_of before.grid.height c.args.rows.now c.loop-sleeps.scratch))) c.loop-sleeps.invariant.table in
+    (chosen (choices_of before.grid.height c.args.rows.now c.loop-sleeps.scratch))) (same_layers c.loop-sleeps.invariant.fixed) in
     let no : c.go_on.result ≡ false = c.if-not-go_on.true in
     turn c.args.rows.now c.loop-sleeps.scratch table other before.grid.height after.grid.height before after [] e d
     c.loop-sleeps.invariant.fit made (c.slowest_unfit-first.ensures.passed ∙ c.go_on.ensures.none no)
@@ -48,7 +49,7 @@ loop-sleeps-smaller g c =
     let rows = c.args.rows.now in
     let before : Grid = g.B.Board.grid c.loop-sleeps.board in
     let after : Grid = g.B.Board.grid c.rewrite_rows-changed.new.board in
-    let d : after.height ≡ before.height = same_height after before c.rewrite_rows-changed.ensures.sides in
+    let d : after.height ≡ before.height = same_height after before (same_sides c.rewrite_rows-changed.ensures.fixed) in
     let next : List Choice = choices_of after.height rows c.go_on.new.scratch in
     let all : List (List (List ℕ)) = behind (choices_of after.height rows c.loop-sleeps.scratch) in
     let fits : List (List ℕ) → Bool = all_fit after
@@ -73,14 +74,14 @@ loop-sleeps-preserved g c =
       changed =
           c.rewrite_rows-changed.result;
     } in
-    let e : other ≡ table = c.rewrite_rows-changed.ensures.table ∙ c.loop-sleeps.invariant.table in
+    let e : other ≡ table = same_layers c.rewrite_rows-changed.ensures.fixed ∙ same_layers c.loop-sleeps.invariant.fixed in
     let d : after.grid.height ≡ before.grid.height =
-    same_height after.grid before.grid c.rewrite_rows-changed.ensures.sides in
+    same_height after.grid before.grid (same_sides c.rewrite_rows-changed.ensures.fixed) in
     let made : after ≡ rewritten_rows before (rows_meaning table rows)
     (chosen (choices_of before.grid.height rows c.loop-sleeps.scratch)) =
     c.rewrite_rows-changed.ensures.rewritten
     ∙ ap (λ (t : Option (List ℕ)). rewritten_rows before (rows_meaning t rows)
-    (chosen (choices_of before.grid.height rows c.loop-sleeps.scratch))) c.loop-sleeps.invariant.table in
+    (chosen (choices_of before.grid.height rows c.loop-sleeps.scratch))) (same_layers c.loop-sleeps.invariant.fixed) in
     let yes : c.go_on.result ≡ true = c.if-not-go_on.false in
     let next : List Choice = choices_of after.grid.height rows c.go_on.new.scratch in
     let left : List (List (List ℕ)) =
@@ -100,7 +101,5 @@ loop-sleeps-preserved g c =
           ∙ turn rows c.loop-sleeps.scratch table other before.grid.height after.grid.height before after left e d
           c.loop-sleeps.invariant.fit made c.slowest_unfit-first.ensures.passed
           ∙ c.loop-sleeps.invariant.rewritten;
-      table = e;
-      origin = c.rewrite_rows-changed.ensures.origin ∙ c.loop-sleeps.invariant.origin;
-      sides = c.rewrite_rows-changed.ensures.sides ∙ c.loop-sleeps.invariant.sides;
+      fixed = c.rewrite_rows-changed.ensures.fixed ∙ c.loop-sleeps.invariant.fixed;
     }

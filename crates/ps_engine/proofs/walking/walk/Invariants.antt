@@ -1,8 +1,8 @@
 use Rattle.std.proofs.Common.{◌≡◌, ◌∷◌, true, false, fold, length}
-use Rattle.ps_match.specs.InRoom.{sides_of}
 use Rattle.ps_model.specs.board.Attempts.{Rewritten, all_fit, applied}
 use Rattle.ps_engine.specs.Choices.{behind, choices_of, chosen}
 use Rattle.ps_engine.specs.Choosing.{ArePlaced, HaveLinesOf, rows_meaning}
+use Rattle.ps_match.specs.FixedParts.{fixed_part}
 use Rattle.ps_engine.proofs.walking.walk.Given as goal
 
 -- the combinations before the one that is chosen are applied
@@ -21,9 +21,7 @@ invariant-loop-sleeps g l =
       fit : all_fit now.grid meant (chosen choices) ≡ true;
       rewritten : fold (applied meant) now (chosen choices ∷ behind choices) ≡ fold (applied meant) before
           (chosen first ∷ behind first);
-      table : g.B.Board.table l.board ≡ table;
-      origin : g.B.Board.origin l.board ≡ g.B.Board.origin l.fn.board;
-      sides : sides_of now.grid ≡ sides_of before.grid;
+      fixed : fixed_part g.B.Board l.board ≡ fixed_part g.B.Board l.fn.board;
     }
 
 -- the combinations that are left

@@ -5,6 +5,7 @@ use Rattle.ps_program.specs.declared.cells.CompiledCell.{CompiledCell}
 use Rattle.ps_program.specs.declared.rows.Axis.{Axis}
 use Rattle.ps_places.specs.Lines.{line_cells, part_meaning}
 use Rattle.ps_places.proofs.PlacesOfWays.{row-rewritten-next, row_rewritten_from}
+use Rattle.ps_match.specs.FixedParts.{same_layers, same_sides}
 use Rattle.ps_places.proofs.chosen.RowScratch+Columns+W.rewrite.Goals as goal
 
 pub loop-number-preserved : goal.loop-number-preserved
@@ -33,7 +34,7 @@ loop-number-preserved g c =
     c.index-parts-number.is ∙ ap (λ (ps : List (List CompiledCell)).
     get_or ps number c.index-parts-number.result) c.as_slice-parts.ensures in
     let sides : (g.B.Board.grid c.loop-number.board).height ≡ height =
-    ap (λ (s : ℕ × ℕ × ℕ). s.1) c.loop-number.invariant.sides in
+    ap (λ (s : ℕ × ℕ × ℕ). s.1) (same_sides c.loop-number.invariant.fixed) in
     let wrote : after ≡ rewritten_along before (part_meaning table part)
     (line_cells axis height line (get_or way number 0) (length part)) =
     c.rewrite_part-any.ensures.rewritten
@@ -43,7 +44,7 @@ loop-number-preserved g c =
     (length cells))) c.as_slice.ensures
     ∙ ap (λ (t : Option (List ℕ)). rewritten_along before (part_meaning t part)
     (line_cells axis (g.B.Board.grid c.loop-number.board).height line (get_or c.args.self.now.way number 0)
-    (length part))) c.loop-number.invariant.table
+    (length part))) (same_layers c.loop-number.invariant.fixed)
     ∙ ap (λ (h : ℕ). rewritten_along before (part_meaning table part)
     (line_cells axis h line (get_or c.args.self.now.way number 0) (length part))) sides
     ∙ ap (λ (p : ℕ). rewritten_along before (part_meaning table part) (line_cells axis height line p (length part)))
@@ -53,7 +54,5 @@ loop-number-preserved g c =
           c.loop-number.invariant.rewritten
           ∙ row-rewritten-next before table axis height line parts way number part 0 low (omega (arith, low, long)) is
           ∙ ap (λ (r : Rewritten). row_rewritten_from r table axis height line parts way (number + 1)) (sym wrote);
-      table = c.rewrite_part-any.ensures.table ∙ c.loop-number.invariant.table;
-      origin = c.rewrite_part-any.ensures.origin ∙ c.loop-number.invariant.origin;
-      sides = c.rewrite_part-any.ensures.sides ∙ c.loop-number.invariant.sides;
+      fixed = c.rewrite_part-any.ensures.fixed ∙ c.loop-number.invariant.fixed;
     }

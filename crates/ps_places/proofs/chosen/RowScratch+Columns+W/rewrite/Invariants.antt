@@ -1,8 +1,8 @@
 use Rattle.std.proofs.Common.{◌≡◌}
 use Rattle.ps_model.specs.board.Attempts.{Rewritten, rewritten_along}
-use Rattle.ps_match.specs.InRoom.{sides_of}
 use Rattle.ps_places.specs.RowPlaces.{cells_meaning, place_at, way_of}
 use Rattle.ps_places.proofs.PlacesOfWays.{row_rewritten_from}
+use Rattle.ps_match.specs.FixedParts.{fixed_part}
 use Rattle.ps_places.proofs.chosen.RowScratch+Columns+W.rewrite.Given as goal
 
 -- the parts passed by are rewritten
@@ -16,7 +16,5 @@ invariant-loop-number g l =
       rewritten :
           rewritten_along before (cells_meaning table l.row.parts) (place_at height l.row l.self)
           ≡ row_rewritten_from now table l.row.axis height l.self.line l.row.parts (way_of l.row l.self) l.number;
-      table : g.B.Board.table l.board ≡ table;
-      origin : g.B.Board.origin l.board ≡ g.B.Board.origin l.fn.board;
-      sides : sides_of (g.B.Board.grid l.board) ≡ sides_of (g.B.Board.grid l.fn.board);
+      fixed : fixed_part g.B.Board l.board ≡ fixed_part g.B.Board l.fn.board;
     }

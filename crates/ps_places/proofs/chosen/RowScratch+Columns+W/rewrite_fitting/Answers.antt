@@ -8,6 +8,7 @@ use Rattle.ps_program.specs.declared.rows.Axis.{Axis}
 use Rattle.ps_places.specs.Lines.{line_cells, part_fits, part_meaning}
 use Rattle.ps_places.proofs.PlacesOfWays.{place-fits-way, row-rewritten-next, row_rewritten_from}
 use Rattle.ps_places.proofs.Untouched.{part-here, rest-fits, rest-spaced}
+use Rattle.ps_match.specs.FixedParts.{same_layers, same_sides}
 use Rattle.ps_places.proofs.chosen.RowScratch+Columns+W.rewrite_fitting.Goals as goal
 
 pub loop-number-init : goal.loop-number-init
@@ -26,9 +27,7 @@ loop-number-init g c =
           long)
           ∙ c.requires.fits;
       spaced = (0, c.requires.spaced);
-      table = refl;
-      origin = refl;
-      sides = refl;
+      fixed = refl;
     }
 
 pub rewrite_fitting_part-any-requires : goal.rewrite_fitting_part-any-requires
@@ -54,7 +53,7 @@ rewrite_fitting_part-any-requires g c =
     ap (λ (cells : List CompiledCell). part_fits now (g.B.Board.table c.loop-number.board) axis line cells
     (get_or c.args.self.now.way number 0)) c.as_slice.ensures
     ∙ ap (λ (t : Option (List ℕ)). part_fits now t axis line part (get_or c.args.self.now.way number 0))
-    c.loop-number.invariant.table
+    (same_layers c.loop-number.invariant.fixed)
     ∙ ap (part_fits now table axis line part) (sym (get_or-take (length parts) c.args.self.now.way number 0 low))
     ∙ both.0
 
@@ -85,9 +84,9 @@ loop-number-preserved g c =
     let is : c.index-parts-number.result ≡ get_or parts number c.index-parts-number.result =
     c.index-parts-number.is ∙ ap (λ (ps : List (List CompiledCell)). get_or ps number c.index-parts-number.result)
     c.as_slice-parts.ensures in
-    let high : (before.grid).height ≡ height = ap (λ (s : ℕ × ℕ × ℕ). s.1) c.loop-number.invariant.sides in
+    let high : (before.grid).height ≡ height = ap (λ (s : ℕ × ℕ × ℕ). s.1) (same_sides c.loop-number.invariant.fixed) in
     let still : (after.grid).height ≡ (before.grid).height =
-    ap (λ (s : ℕ × ℕ × ℕ). s.1) c.rewrite_fitting_part-any.ensures.sides in
+    ap (λ (s : ℕ × ℕ × ℕ). s.1) (same_sides c.rewrite_fitting_part-any.ensures.fixed) in
     let some : 0 < (before.grid).height = rw high c.recall_shape.ensures.shape.some_row in
     let wrote : after ≡ rewritten_along before (part_meaning table part)
     (line_cells axis (before.grid).height line (get_or way number 0) (length part)) =
@@ -97,7 +96,7 @@ loop-number-preserved g c =
     (line_cells axis (before.grid).height line (get_or c.args.self.now.way number 0) (length cells))) c.as_slice.ensures
     ∙ ap (λ (t : Option (List ℕ)). rewritten_along before (part_meaning t part)
     (line_cells axis (before.grid).height line (get_or c.args.self.now.way number 0) (length part)))
-    c.loop-number.invariant.table
+    (same_layers c.loop-number.invariant.fixed)
     ∙ ap (λ (p : ℕ). rewritten_along before (part_meaning table part)
     (line_cells axis (before.grid).height line p (length part)))
     (sym (get_or-take (length c.args.row.now.parts) c.args.self.now.way number 0 low)) in
@@ -117,7 +116,5 @@ loop-number-preserved g c =
       fit = rest-fits before after table axis line part (drop (number + 1) parts) (get_or way number 0)
           (drop (number + 1) way) some still wrote spaced both.1;
       spaced = (get_or way number 0 + length part, spaced);
-      table = c.rewrite_fitting_part-any.ensures.table ∙ c.loop-number.invariant.table;
-      origin = c.rewrite_fitting_part-any.ensures.origin ∙ c.loop-number.invariant.origin;
-      sides = c.rewrite_fitting_part-any.ensures.sides ∙ c.loop-number.invariant.sides;
+      fixed = c.rewrite_fitting_part-any.ensures.fixed ∙ c.loop-number.invariant.fixed;
     }

@@ -1,10 +1,10 @@
 use Rattle.std.proofs.Common.{◌≡◌, ℕ, true, drop}
 use Rattle.ps_model.specs.board.Attempts.{Rewritten, rewritten_along}
-use Rattle.ps_match.specs.InRoom.{sides_of}
 use Rattle.ps_places.specs.FittingWays.{way_fits}
 use Rattle.ps_places.specs.RowPlaces.{cells_meaning, part_sizes, place_at, way_of}
 use Rattle.ps_places.specs.Spaced.{IsSpaced}
 use Rattle.ps_places.proofs.PlacesOfWays.{row_rewritten_from}
+use Rattle.ps_match.specs.FixedParts.{fixed_part}
 use Rattle.ps_places.proofs.chosen.RowScratch+Columns+W.rewrite_fitting.Given as goal
 
 -- the parts passed by are rewritten, and the others still fit
@@ -23,7 +23,5 @@ invariant-loop-number g l =
           (drop l.number (way_of l.row l.self)) ≡ true;
       spaced : (from : ℕ) × IsSpaced (part_sizes (drop l.number l.row.parts)) from
           (drop l.number (way_of l.row l.self));
-      table : g.B.Board.table l.board ≡ table;
-      origin : g.B.Board.origin l.board ≡ g.B.Board.origin l.fn.board;
-      sides : sides_of (g.B.Board.grid l.board) ≡ sides_of (g.B.Board.grid l.fn.board);
+      fixed : fixed_part g.B.Board l.board ≡ fixed_part g.B.Board l.fn.board;
     }
