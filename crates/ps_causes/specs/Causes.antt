@@ -86,7 +86,7 @@ byte_of Tab = 9
 byte_of CarriageReturn = 13
 byte_of Comment = 40
 
--- a blank right behind a word of the line, which isn't its last
+-- a blank right after a word of the line, which isn't its last
 pub record IsBrokenRow (text : List ℕ) (line : ℕ) (row : Word) (blank : Blank) : Type 0 where
   pub stands : IsWordOf text line row
   pub further : Word

@@ -31,7 +31,7 @@ is_loop_line text line = is_line_of LoopStart text line || is_line_of LoopEnd te
 abbrev pub NoneBetween : (ℕ → Bool) → ℕ → ℕ → Type 0
 NoneBetween test from to = (k : ℕ) → from ≤ k → k < to → test k ≡ false
 
--- the number of the line behind one, if there is one; else of the first
+-- the number of the line after one, if there is one; else of the first
 abbrev pub behind : Option ℕ → ℕ
 behind None = 1
 behind (Some line) = line + 1

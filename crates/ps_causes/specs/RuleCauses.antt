@@ -18,7 +18,7 @@ use Rattle.ps_facts.specs.Signs.{is_sign}
 use Rattle.ps_causes.specs.Pairs.{IsPair}
 use Rattle.ps_causes.specs.Unbound.{IsUnbound}
 
--- a word of a line that stands behind `no`, and for several objects at once, which a line declares
+-- a word of a line that stands after `no`, and for several objects at once, which a line declares
 pub record IsSeveral (text : List ℕ) (line : ℕ) (word : Word) (declared : ℕ) : Type 0 where
   pub stands : IsWordOf text line word
   pub before : List (List ℕ)
@@ -27,13 +27,13 @@ pub record IsSeveral (text : List ℕ) (line : ℕ) (word : Word) (declared : �
   pub barred : is_barred before ≡ true
   pub several : is_aggregate_at declared (meant (names_in text) word.text.now) ≡ true
 
--- a word of a line that is the arrow, with these words before it and behind it
+-- a word of a line that is the arrow, with these words before it and after it
 pub record IsArrowOf (text : List ℕ) (line : ℕ) (arrow : Word) (before behind : List (List ℕ)) : Type 0 where
   pub stands : IsWordOf text line arrow
   pub parts : texts_of text line ≡ before ++ arrow.text.now ∷ behind
   pub sign : is_sign Arrow arrow.text.now ≡ true
 
--- so many rows stand before and behind the arrow, and not equally many
+-- so many rows stand before and after the arrow, and not equally many
 pub record IsRows (text : List ℕ) (line : ℕ) (arrow : Word) (left right : ℕ) : Type 0 where
   pub before : List (List ℕ)
   pub behind : List (List ℕ)
@@ -42,7 +42,7 @@ pub record IsRows (text : List ℕ) (line : ℕ) (arrow : Word) (left right : �
   pub on_the_right : right ≡ length (cell_counts behind)
   pub differ : nat_eq left right ≡ false
 
--- the row of a number, from 1, has so many cells before and behind the arrow, and not equally many
+-- the row of a number, from 1, has so many cells before and after the arrow, and not equally many
 pub record IsCells (text : List ℕ) (line : ℕ) (arrow : Word) (row left right : ℕ) : Type 0 where
   pub before : List (List ℕ)
   pub behind : List (List ℕ)

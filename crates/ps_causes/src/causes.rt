@@ -43,7 +43,7 @@ pub enum Cause<'a> {
         character: char,
         column: usize,
     },
-    /// A row has characters on both sides of a blank, which stands right behind its first word.
+    /// A row has characters on both sides of a blank, which stands right after its first word.
     BrokenRow {
         row: Word<'a>,
         blank: Blank,
@@ -117,7 +117,7 @@ pub enum RuleCause<'a> {
         other: Word<'a>,
         shared: Shared<'a>,
     },
-    /// The word stands behind `no`, and for several objects at once, which the line of LEGEND declares.
+    /// The word stands after `no`, and for several objects at once, which the line of LEGEND declares.
     Several {
         word: Word<'a>,
         declared: u32,
@@ -183,7 +183,7 @@ pub struct Spot<'a> {
 pub enum LoopCause<'a> {
     /// The loop that begins at that line has no end above.
     Nested { word: Word<'a>, open_line: u32 },
-    /// No loop begins above, or none behind the end of the last one, at that line.
+    /// No loop begins above, or none after the end of the last one, at that line.
     Unbegun { word: Word<'a>, ended: Option<u32> },
     /// No loop ends below.
     Unended { word: Word<'a> },

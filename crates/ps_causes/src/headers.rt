@@ -127,7 +127,7 @@ fn push_letters(made: &mut String, word: &[u8]) -> Result<(), Memory>
     Ok(())
 }
 
-/// The ASCII letters of words, one behind the other, in lower case.
+/// The ASCII letters of words, one after the other, in lower case.
 fn letters_of(alloc: Global, words: &[Word<'_>]) -> Result<String, Memory>
     ensures { IfOk result (λ made. string_bytes made ≡ letters_of (map text_of words.now)) }
 {
@@ -138,7 +138,7 @@ fn letters_of(alloc: Global, words: &[Word<'_>]) -> Result<String, Memory>
     Ok(made)
 }
 
-/// Whether words are written much like a header: its word with others behind it, or words whose letters one edit makes
+/// Whether words are written much like a header: its word with others after it, or words whose letters one edit makes
 /// the header's.
 fn are_like(alloc: Global, words: &[Word<'_>], header: &str) -> Result<bool, Memory>
     ensures { IfOk result (λ are. are ≡ true → AreLike (map text_of words.now) header.now) }

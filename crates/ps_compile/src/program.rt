@@ -100,7 +100,7 @@ fn push_outside<'r>(
     push_groups(sections, groups)
 }
 
-/// Puts the sections of the lines behind the start of a loop last: a loop, and what follows its end.
+/// Puts the sections of the lines after the start of a loop last: a loop, and what follows its end.
 fn push_behind<'r>(
     alloc: Global,
     sections: &mut Vec<CompiledSection<'r>>,
@@ -124,7 +124,7 @@ fn push_behind<'r>(
     Ok(())
 }
 
-/// The compiled program of one part of a turn: the lines before the first start of a loop, and those behind each.
+/// The compiled program of one part of a turn: the lines before the first start of a loop, and those after each.
 fn program_of<'r>(
     alloc: Global,
     names: &Names,

@@ -1,5 +1,5 @@
 //! Where the keys come from and where the frames go: the two traits that a run is generic over, the
-//! system's own streams behind them, and devices in memory which tell all that they gave and took; and the trait of
+//! system's own streams after them, and devices in memory which tell all that they gave and took; and the trait of
 //! what plays games on such devices.
 #![tactic(auto)]
 

@@ -1,4 +1,4 @@
-//! A stream of std's behind a counter of its calls.
+//! A stream of std's after a counter of its calls.
 //!
 //! This module alone calls a stream, by two steps that are each one call. Whoever holds a `Stream` has no other way to
 //! the stream, so the count is the number of calls that the system saw.

@@ -14,7 +14,7 @@ abbrev pub cell_counts : List (List ℕ) → List ℕ
 cell_counts [] = []
 cell_counts (word ∷ words) = if is_sign Opening word then cells_from 1 words ∷ cell_counts words else cell_counts words
 
--- one more cell behind a word that begins one: a `[` or a bar
+-- one more cell after a word that begins one: a `[` or a bar
 abbrev pub begun_behind : ℕ → List ℕ → ℕ
 begun_behind count word = if is_sign Opening word || is_sign Bar word then count + 1 else count
 

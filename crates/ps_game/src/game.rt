@@ -25,7 +25,7 @@ use std::marker::Model;
 
 /// A game, as its text says it.
 pub struct Game {
-    /// The text behind `title`, without the blanks at its ends; empty where the prelude has none.
+    /// The text after `title`, without the blanks at its ends; empty where the prelude has none.
     pub title: Text,
     pub options: Options,
     pub names: Names,

@@ -45,7 +45,7 @@ AlikeBothWays = (names : Names) (a b : List RuleMeaning) → Alike names a b →
 abbrev pub AlikeThroughAnother : Type 0
 AlikeThroughAnother = (names : Names) (a b c : List RuleMeaning) → Alike names a b → Alike names b c → Alike names a c
 
--- lists that are alike stay so with lists behind them that are alike
+-- lists that are alike stay so with lists after them that are alike
 abbrev pub AppendedAreAlike : Type 0
 AppendedAreAlike =
     (names : Names) (a b c d : List RuleMeaning) → Alike names a b → Alike names c d → Alike names (a ++ c) (b ++ d)

@@ -14,7 +14,7 @@ use Rattle.ps_model.specs.game.Headline.{Answer, WantsMemory, CannotRead, Cannot
 use Rattle.ps_model.specs.game.Headline.{Ends, RunsRightly, text_count}
 use Rattle.ps_model.specs.game.Headline.{IsTrueOfText, script_of_text, texts_of}
 
--- reading behind the ending -------------------------------------------------------------------------------------------
+-- reading after the ending -------------------------------------------------------------------------------------------
 
 -- the keys that were read had ended the game, and the run called the reader once more: it isn't allowed, whether that
 -- call gave bytes or failed, and whatever the run answered
@@ -76,7 +76,7 @@ NoLongCall =
     told.reading ≡ Asked earlier last → (last ≡ Gives piece) ⊎ IsAmong piece earlier → CALL_LIMIT < length piece →
     Answers text told answer → ⊥
 
--- the run called the reader behind a call that gave nothing
+-- the run called the reader after a call that gave nothing
 abbrev pub NoCallBehindEnd : Type 0
 NoCallBehindEnd =
     (text : List ℕ) (told : Told) (answer : Answer) (before behind : List (List ℕ)) (last : Call) →
@@ -91,7 +91,7 @@ NoOddSizedCall =
     reader_before.odd_sized_calls < reader_after.odd_sized_calls →
     RunsRightly text reader_before reader_after writer_before writer_after answer → ⊥
 
--- two calls of the reader gave nothing: however the bytes of the others are cut into pieces, one of the two was behind
+-- two calls of the reader gave nothing: however the bytes of the others are cut into pieces, one of the two was after
 -- the end of the keys, or had no room
 abbrev pub NoSecondEmptyCall : Type 0
 NoSecondEmptyCall =

@@ -51,7 +51,7 @@ pub fn keys_in_pieces()
 {}
 
 /// What a run has written grows with each key, and each such front is a front of the whole output, whatever keys come
-/// behind them.
+/// after them.
 pub fn fronts_of_output()
     ensures grows { FrontGrows }
     ensures of_output { FrontOfOutput }
@@ -60,7 +60,7 @@ pub fn fronts_of_output()
 {}
 
 /// The whole output is the front of all keys, where the run has ended; where the keys end first, a line that says so
-/// stands behind it. Keys after the end change nothing.
+/// stands after it. Keys after the end change nothing.
 pub fn ends_of_output()
     ensures ended { OutputOfEnded }
     ensures unended { OutputOfUnended }
@@ -71,7 +71,7 @@ pub fn ends_of_output()
     ensures by_ending { WrittenByEnding }
 {}
 
-/// Runs that aren't allowed, whatever the game: calls of the reader behind the ending, behind its end, too many or too
+/// Runs that aren't allowed, whatever the game: calls of the reader after the ending, after its end, too many or too
 /// long, or with room for more or fewer bytes than a run asks for; writes of nothing, none where something is written,
 /// or more of them than there are texts, where the writer takes each whole; answers that tell of a failure that wasn't,
 /// or don't tell of one that was; wanting memory where nothing was to be made; and writing what isn't to be written.

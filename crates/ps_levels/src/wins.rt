@@ -98,7 +98,7 @@ fn meaning_of_name(alloc: Global, names: &Names, name: &str) -> Result<Option<Me
     Ok(Some(copy))
 }
 
-/// What the name behind `on` stands for, if there is none or it is declared.
+/// What the name after `on` stands for, if there is none or it is declared.
 fn read_place(
     alloc: Global,
     names: &Names,

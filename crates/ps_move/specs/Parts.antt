@@ -18,7 +18,7 @@ pub record IsPart (passes : ℕ) (old new : Grid) (layer : ℕ) : Type 0 where
   pub fewer : going_count new + passes ≤ going_count old
   pub same : passes ≡ 0 → new ≡ old
 
--- behind a cell that was left objects of its layer went, in so many passes more, up to another cell that was left, if
+-- after a cell that was left objects of its layer went, in so many passes more, up to another cell that was left, if
 -- that is still waited for
 pub record IsChain (passes : ℕ) (old new : Grid) (layer left : ℕ) (hole : Option ℕ) : Type 0 where
   pub shape : IsGrid old → IsGrid new

@@ -18,7 +18,7 @@ use Rattle.ps_names.specs.Known.{Named, mentions_of_names, named_object}
 use Rattle.ps_names.specs.LegendShown.{named_line}
 use Rattle.ps_names.specs.Wholes.{no_layers, missing, faults_of_lines, lines_of_name, shared_layers}
 
--- names that are known, and behind them those that legend lines declare
+-- names that are known, and after them those that legend lines declare
 abbrev pub known_with : List Named → List WrittenLine → List Named
 known_with known lines = known ++ map named_line (enumerate_from 0 (declarations lines))
 

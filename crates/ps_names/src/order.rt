@@ -1,4 +1,4 @@
-//! In which order the lines of the legend are looked at: each behind those that it mentions.
+//! In which order the lines of the legend are looked at: each after those that it mentions.
 //!
 //! It is Tarjan's search for the parts of a graph that are strongly connected. Nothing is promised of it but that the
 //! levels fall, which is tested; were they other levels, lines would be looked at one by one, which takes longer.
@@ -16,7 +16,7 @@ use std::alloc::Global;
 /// An order of the legend lines.
 #[derive(Drop)]
 pub struct Order {
-    /// The places of the lines, each behind those that it mentions, as far as it doesn't stand for itself.
+    /// The places of the lines, each after those that it mentions, as far as it doesn't stand for itself.
     pub places: Vec<u32>,
     /// The level of each line, by its place, from 1. No line mentions one of a higher level. Those of one level stand
     /// for themselves through one another.

@@ -59,7 +59,7 @@ fn rows_sleep(rows: &[CompiledRow]) -> bool
     rows.iter().all(|row| row_lets_sleep(rows, row))
 }
 
-/// How many cells are left of so many behind those of a row; nothing, where the row has more.
+/// How many cells are left of so many after those of a row; nothing, where the row has more.
 fn left_behind(row: &CompiledRow, most: usize) -> Option<usize> {
     let mut left = most;
     for part in row.parts.as_slice() {

@@ -41,7 +41,7 @@ fn all_last(gone: &[LayeredObject], writes: &[LayerWrite]) -> bool
         .all(|write| object_lasts(gone, write.layer, write.object))
 }
 
-/// Whether the write settles: it puts nothing that goes, so that behind it the same write changes nothing
+/// Whether the write settles: it puts nothing that goes, so that after it the same write changes nothing
 /// ([`settling_cells`]).
 fn settles(write: &CellWrite) -> bool
     ensures { result ≡ settles (write_shown write.now) }
@@ -121,7 +121,7 @@ pub fn writer_of(rows: &[CompiledRow]) -> Option<Writer>
     Some(Writer { leads: false, cell })
 }
 
-/// What it means of a write that it settles: behind it, the same write changes nothing. A law: it has no body, and its
+/// What it means of a write that it settles: after it, the same write changes nothing. A law: it has no body, and its
 /// contract is proved.
 pub fn settling_cells()
     ensures { SettlesAtOnce }

@@ -56,7 +56,7 @@ pub rules-step : (text : List ℕ) (line : ℕ) (names : Names) (rest : List Lin
     → rules_read names (here text line ++ rest) ≡ made ∷ rules_read names rest
 rules-step text line names rest made t b e = rw (t, b, e) refl
 
--- a line that is kept stands behind those before
+-- a line that is kept stands after those before
 pub line-kept : (lines : List CodeLine) (line : CodeLine) (others : List RuleLine) →
     lines_shown (lines ++ line ∷ []) ++ others ≡ lines_shown lines ++ (line_shown line ∷ others)
 line-kept lines line others =

@@ -56,7 +56,7 @@ fn over(
 /// next header, counted from 1; an absent section by an empty range.
 ///
 /// `Refused` with the first fault of these lines, if they have one; a loop without its end is told at the line of its
-/// start, behind all others. `Memory` if a growth was refused.
+/// start, after all others. `Memory` if a growth was refused.
 pub fn read_rules(
     alloc: Global,
     source: &Source,

@@ -13,7 +13,7 @@ use Rattle.ps_board.specs.Rows.{AreAlike}
 abbrev pub column_bytes : Names → Grid → ℕ → ℕ → List ℕ
 column_bytes names g row x = encode_utf8 (shown_character names (cell_at g (x * g.height + row)))
 
--- a place of a text before a row's first column or behind its last one, where the row begins at `start`
+-- a place of a text before a row's first column or after its last one, where the row begins at `start`
 abbrev pub IsOutside : ℕ → ℕ → ℕ → Type 0
 IsOutside start width at = (at < start) ⊎ (start + width ≤ at)
 

@@ -19,7 +19,7 @@ use std::marker::Model;
 
 /// The frames of a game: what they need of its names, made ready once. Contracts see the names.
 ///
-/// The text of a board's frame belongs to who has the board. It is drawn when the board is first shown, and behind a
+/// The text of a board's frame belongs to who has the board. It is drawn when the board is first shown, and after a
 /// change drawn anew only where the board shows other objects.
 #[derive(Drop)]
 pub struct Picture<'g> {

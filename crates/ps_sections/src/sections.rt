@@ -27,7 +27,7 @@ pub struct Sections {
     pub levels: Range<u32>,
 }
 
-/// The first line from `from` on that stands in the section or in a later one, or else one behind the last line.
+/// The first line from `from` on that stands in the section or in a later one, or else one after the last line.
 fn boundary(source: &Source, from: u32, section: Section) -> u32
     requires from_one { 1 ≤ from }
     requires near { from ≤ boundary source.now (rank section) }

@@ -294,7 +294,7 @@ const PLAYS: [(Told, &[Line]); 11] = [
         },
         &[(&["ps_play", "-"], "")],
     ),
-    // Where a file has the keys, nothing behind the game is read.
+    // Where a file has the keys, nothing after the game is read.
     (
         Told {
             input: PUSHING,
@@ -370,7 +370,7 @@ const CHECKS: [(Told, &[Line]); 8] = [
             "a.game\nlong.game\n",
         )],
     ),
-    // So they are behind one that holds no game.
+    // So they are after one that holds no game.
     (
         Told {
             input: b"d",
@@ -387,7 +387,7 @@ const CHECKS: [(Told, &[Line]); 8] = [
             "a.game\ncut.game\nb.game\n",
         )],
     ),
-    // So they are behind one that can't be read.
+    // So they are after one that can't be read.
     (
         Told {
             input: b"d",
@@ -414,7 +414,7 @@ const CHECKS: [(Told, &[Line]); 8] = [
         },
         &[(&["ps_play", "--check", "-"], "")],
     ),
-    // It is checked behind another one.
+    // It is checked after another one.
     (
         Told {
             input: PUSHING,

@@ -36,7 +36,7 @@ struct Seen {
     writes: u32,
 }
 
-/// Plays a game and compares what is written with `wanted`. No device is called behind its end or its failure, and no
+/// Plays a game and compares what is written with `wanted`. No device is called after its end or its failure, and no
 /// read asks for too much.
 fn watch(
     rt: &(impl Abort + AllocGlobal),

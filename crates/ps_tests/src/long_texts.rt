@@ -68,7 +68,7 @@ fn refuses_a_text_by_its_length(rt: HostRuntime) -> Result<(), Fail> {
     Ok(())
 }
 
-/// What stands behind OBJECTS in a game that takes objects away: each of its names may mean objects of several layers.
+/// What stands after OBJECTS in a game that takes objects away: each of its names may mean objects of several layers.
 const LAYERS: &str =
     "COLLISIONLAYERS\nBackground\nTarget\nPlayer, Wall, Crate\nA\nB\nC\nD\nRULES\n";
 
@@ -107,7 +107,7 @@ fn declare(rt: &(impl Abort + AllocGlobal), legend: &mut String, name: (&str, u3
 }
 
 /// Adds a line to a legend, which declares the name of a letter and a number by that of the next number, and what
-/// stands behind it.
+/// stands after it.
 fn declare_by_next(
     rt: &(impl Abort + AllocGlobal),
     legend: &mut String,

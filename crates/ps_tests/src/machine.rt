@@ -70,7 +70,7 @@ impl<'w> Machine<'w> {
         self.add(&self.opened, name, "\n")
     }
 
-    /// Writes a value and an end behind what a text has.
+    /// Writes a value and an end after what a text has.
     fn add<D: Display + Drop>(
         &self,
         text: &RefCell<String>,

@@ -22,7 +22,7 @@ const RIGHT: Key = Key::Move(Input::Right);
 
 const ACTION: Key = Key::Move(Input::Action);
 
-/// A key, what it writes, and what the player may do behind it.
+/// A key, what it writes, and what the player may do after it.
 type Step<'a> = (Key, &'a str, Phase);
 
 /// Whether bytes are an opening and the texts of these steps, and nothing else.

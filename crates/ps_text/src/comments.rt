@@ -25,7 +25,7 @@ fn plain_byte(depth: u32, byte: u8) -> u8
     byte
 }
 
-/// How many comments are open behind the byte, where so many are before it.
+/// How many comments are open after the byte, where so many are before it.
 fn depth_after(depth: u32, byte: u8) -> u32
     requires { depth ≤ TEXT_LIMIT }
     ensures depth { result ≡ lines.depth_behind depth byte }
@@ -40,7 +40,7 @@ fn depth_after(depth: u32, byte: u8) -> u32
     depth
 }
 
-/// How many comments are open behind the line, where so many are before it.
+/// How many comments are open after the line, where so many are before it.
 pub fn depth_after_line(line: &[u8], depth: u32) -> u32
     requires { depth + length line.now ≤ TEXT_LIMIT }
     ensures depth { result ≡ fold lines.depth_behind depth line.now }

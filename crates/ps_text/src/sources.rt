@@ -144,8 +144,8 @@ impl Source {
     }
 
     /// The text of the line, from 1 to `lines()`, that is taken as it stands, without the blanks at its ends, if the
-    /// line has one: behind `title`, `author` or `homepage` as the first word of a line above all sections, up to the
-    /// first `(`; behind `message` as the first word of a line of LEVELS; and behind the first `message` behind the
+    /// line has one: after `title`, `author` or `homepage` as the first word of a line above all sections, up to the
+    /// first `(`; after `message` as the first word of a line of LEVELS; and after the first `message` after the
     /// `->` of a line of RULES. It may be empty.
     pub fn rest(&self, line: u32) -> Option<Word<'_>>
         requires { HasLine self.now line }

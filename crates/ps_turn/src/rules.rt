@@ -29,7 +29,7 @@ pub trait Rules<B: Board> {
         ensures origin { B.origin board.new ≡ B.origin board.old };
 }
 
-/// The rules of a game's turns: those before the movement, and those behind it.
+/// The rules of a game's turns: those before the movement, and those after it.
 pub struct TurnRules<R> {
     pub plain: R,
     pub late: R,

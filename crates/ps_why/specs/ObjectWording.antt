@@ -36,7 +36,7 @@ why_no_row_words (Length word count) = length_words word.text.now count
 why_no_row_words (Character word character) = character_words word.text.now character
 why_no_row_words Untold = codes "."
 
--- that a line is none, behind a blank, if there is such a line
+-- that a line is none, after a blank, if there is such a line
 abbrev pub no_row_words : Option NoRow → List ℕ
 no_row_words None = []
 no_row_words (Some below) = codes " Line " ++ (decimal below.line ++ (codes " is none" ++ why_no_row_words below.why))

@@ -35,7 +35,7 @@ fn mark_of_word(word: Word<'_>) -> Option<Marks>
     alone(below(word))
 }
 
-/// What stands below the blank behind a word.
+/// What stands below the blank after a word.
 fn mark_behind(word: Word<'_>) -> Option<Marks>
     ensures { result ≡ mark_behind word.entry }
 {

@@ -66,7 +66,7 @@ fn why_no_row_words(alloc: Global, why: WhyNoRow<'_>) -> Result<String, Memory>
     }
 }
 
-/// That a line is none, behind a blank, if there is such a line.
+/// That a line is none, after a blank, if there is such a line.
 fn no_row_words(alloc: Global, below: Option<NoRow<'_>>) -> Result<String, Memory>
     ensures { IfOk result (λ words. string_bytes words ≡ no_row_words below.entry) }
 {

@@ -17,7 +17,7 @@ use std::alloc::Global;
 /// What is told of a fault.
 #[derive(Drop)]
 pub struct Details {
-    /// The line that has the fault, behind its number, and below it a mark under the words that it is about, if there
+    /// The line that has the fault, after its number, and below it a mark under the words that it is about, if there
     /// are such. Each line ends with a line feed. Of a text that is too long, nothing.
     pub line: String,
     /// A sentence or two, without a line feed. Empty where no more is told than the fault.

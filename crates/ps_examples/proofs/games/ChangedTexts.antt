@@ -21,6 +21,6 @@ many count bytes = flat_map (λ each. each) (replicate count bytes)
 abbrev pub objects : ℕ → List ℕ
 objects count = flat_map (λ number. codes "E" ++ (decimal number ++ codes "\nred\n")) (range_with_len 1 count)
 
--- their names, each behind a blank
+-- their names, each after a blank
 abbrev pub names_of_objects : ℕ → List ℕ
 names_of_objects count = flat_map (λ number. codes " E" ++ decimal number) (range_with_len 1 count)

@@ -46,7 +46,7 @@ has_names objects legend layers = is_none (first_fault
 abbrev two_objects : List ℕ
 two_objects = codes "Background\nx\nPlayer p\ny\n00000\n.1234\n00000\n00000\n00000\n00000\nz\n"
 
--- behind five sprite rows a further row of that kind names an object; a line of `=` isn't there
+-- after five sprite rows a further row of that kind names an object; a line of `=` isn't there
 objects_good : has_names two_objects (codes "q = Player") (codes "Background, 00000\n===\nPlayer") ≡ true
 unfolding chars
 objects_good = refl

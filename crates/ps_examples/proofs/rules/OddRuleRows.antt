@@ -117,14 +117,14 @@ first_line = refl
 
 -- groups and loops ----------------------------------------------------------------------------------------------------
 
--- a word that is left out beside a loop's word is told behind the loop's own faults
+-- a word that is left out beside a loop's word is told after the loop's own faults
 left_out_loops : map told (codes "rigid endloop" ∷ codes "startloop\nrandom startloop\nendloop" ∷ codes
     "startloop\nrandom endloop" ∷ codes "rigid random" ∷ [])
     ≡ at_line 30 kind.Loop ∷ at_line 31 kind.Loop ∷ at_line 31 kind.NotInProfile ∷ at_line 30 kind.BadBracket ∷ []
 unfolding chars is_utf8 encode utf8_valid_len
 left_out_loops = refl
 
--- `+` joins the rule right before, which is late where it is; one that is cut off behind `random` isn't at the start of
+-- `+` joins the rule right before, which is late where it is; one that is cut off after `random` isn't at the start of
 -- its line
 joined_rules : map told
     (codes "late [ A ] -> [ B ]\n+ late [ B ] -> [ A ]\n+ [ A ] -> [ B ]" ∷ codes
@@ -136,7 +136,7 @@ joined_rules : map told
 unfolding chars is_utf8 encode utf8_valid_len
 joined_rules = refl
 
--- a `+` behind a comment that begins above stands at the start of its line: the three rules are one group, which ends
+-- a `+` after a comment that begins above stands at the start of its line: the three rules are one group, which ends
 -- at C after an even number of rounds, and would end at B as three groups
 joined_behind_comment : written (base_game (codes "[ C ] -> [ A ] (x\n\n) + [ B ] -> [ C ]\n\n(y)+[ A ] -> [ B ]\n") []
     (codes "A\n")) (codes "x")
@@ -154,7 +154,7 @@ message_to_the_end : written (base_game (codes
 unfolding chars digits is_utf8 utf8_valid_len encode group program_run all_start_turns all_key_turns turn opening_step
 message_to_the_end = refl
 
--- without an arrow before it, and on the left of the arrow, `message` is a key word where it can't stand, behind which
+-- without an arrow before it, and on the left of the arrow, `message` is a key word where it can't stand, after which
 -- a comment may begin
 message_without_arrow : map told
     (codes "[ A ] -> message (\n[ Q ] -> cancel" ∷ codes "[ A ] message (\n[ Q ] ) -> cancel" ∷ codes

@@ -152,7 +152,7 @@ header_among_rules : refused (base_game (codes "[ A ] -> [ B ]\n(x) Sounds\n") [
 unfolding chars is_utf8 encode utf8_valid_len
 header_among_rules = refl
 
--- `message` is a word like others in SOUNDS: a comment begins behind it, and hides the headers below
+-- `message` is a word like others in SOUNDS: a comment begins after it, and hides the headers below
 message_in_sounds : refused (codes
     "OBJECTS\nBackground\nx\nPlayer\nx\nSOUNDS\nmessage (x\nCOLLISIONLAYERS\nBackground\nPlayer\nLEVELS\nPlayer") ≡
     at_line 12 kind.NoSection
@@ -164,7 +164,7 @@ message_in_prelude : refused (codes "message (x\nOBJECTS\n) realtime_interval 1\
 unfolding chars is_utf8 encode utf8_valid_len
 message_in_prelude = refl
 
--- a title may have a `)`; the comment behind it goes on below
+-- a title may have a `)`; the comment after it goes on below
 title_and_comment : option_map (λ read. read.title)
     (game (codes "title A ) B (x\nOBJECTS\n) y\n" ++ text_with [] [] [])) ≡ Some (codes "A ) B")
 unfolding chars is_utf8 encode utf8_valid_len
@@ -265,7 +265,7 @@ objects_at_limit : refused (text_with (more_objects 510) [] (more_names 510)) �
 unfolding chars is_utf8 encode utf8_valid_len digits
 objects_at_limit = refl
 
--- the 513th isn't, and is told behind its other faults
+-- the 513th isn't, and is told after its other faults
 objects_over : refused (text_with (more_objects 512) [] []) ≡ at_line 1026 kind.TooManyNames
 unfolding chars is_utf8 encode utf8_valid_len digits
 objects_over = refl

@@ -43,7 +43,7 @@ pub change_grouped : (a b : Bool) (result : Result) →
 change_grouped true b result = refl
 change_grouped false b result = refl
 
--- the round of a list behind another
+-- the round of a list after another
 pub round-append : (front behind : List RuleMeaning) (state : State) →
     round (front ++ behind) state ≡ after_change (round front state).changed (round behind (round front state).state)
 round-append [] behind state = refl

@@ -27,7 +27,7 @@ change_of_more rules state rounds h = (
   changes-next h.0 (round rules) state h.1 ∙ h.3,
 )
 
--- as `Settles`, behind rounds that changed something or not
+-- as `Settles`, after rounds that changed something or not
 pub record SettlesBehind (before : Bool) (rules : List RuleMeaning) (limit : ℕ) (state : State) (result : Result) :
     Type 0 where
   pub rounds : ℕ

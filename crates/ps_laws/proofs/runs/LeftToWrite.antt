@@ -93,7 +93,7 @@ cut_off_by : (script : Script) (start : Step) (text : List ℕ) (keys all : List
     IsCutOff text (start.text ++ (output_of_keys script start.session (ending_of start.session) all).written)
 cut_off_by script start text keys all e cut = rw e at cut
 
--- if the game goes on behind some keys, the front of them isn't yet the output
+-- if the game goes on after some keys, the front of them isn't yet the output
 pub left_to_write : (script : Script) (bytes more : List ℕ) (count : ℕ) →
     ending_behind script bytes count ≡ EndOfKeys →
     IsCutOff (front script bytes count) (output script (bytes ++ more)).written

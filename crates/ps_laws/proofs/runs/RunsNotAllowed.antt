@@ -251,7 +251,7 @@ pub reads_what_was_there : ReadsWhatWasThere
 reads_what_was_there reader_before reader_after writer_before writer_after told had is other tells =
     other (had_read reader_after.remaining had (read told.reading) (sym is ∙ tells.read))
 
--- a list can't both go on behind another and be a front of it
+-- a list can't both go on after another and be a front of it
 not_longer : (first second : List ℕ) → IsFront second first → IsCutOff first second → ⊥
 not_longer first second (rest, is) cut =
     let one = ap (λ (l : List ℕ). length l) is ∙ length-append second rest in

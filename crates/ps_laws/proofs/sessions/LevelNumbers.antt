@@ -134,7 +134,7 @@ never_fewer entries at (suc more) =
     let last = step_up entries (at + more) (is_level_found (slice_get entries (at + more))) refl in
     rw next (omega (arith, first, last))
 
--- of the places from one on, that of a level stands behind those of the levels between
+-- of the places from one on, that of a level stands after those of the levels between
 abbrev AreFound : List Entry → ℕ → ℕ → Type 0
 AreFound entries at count = (before entry : ℕ) → at ≤ entry → entry < at + count →
     is_level_found (slice_get entries entry) ≡ true →

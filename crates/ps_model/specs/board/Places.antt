@@ -29,7 +29,7 @@ abbrev pub column_by_column : Grid → List ℕ
 column_by_column g = range_with_len 0 (cell_count g)
 
 -- the ways in which parts of these lengths lie on a line of cells, the first part at its beginning and each other one
--- behind any gap; least gaps come first
+-- after any gap; least gaps come first
 abbrev pub ways_along : List ℕ → List ℕ → List (List ℕ)
 ways_along [] line = [] ∷ []
 ways_along (size ∷ sizes) line = elim (nat_le size (length line)) [

@@ -22,7 +22,7 @@ is_there_among objects (AnyOf line members) = list_any (is_among objects) member
 abbrev pub is_in : Meaning → List Slot → Bool
 is_in meaning cell = is_there_among (objects_in cell) meaning
 
--- what the name behind `on` stands for is in a cell; without such a name every cell will do
+-- what the name after `on` stands for is in a cell; without such a name every cell will do
 abbrev pub is_place : Option Meaning → List Slot → Bool
 is_place None cell = true
 is_place (Some meaning) cell = is_in meaning cell

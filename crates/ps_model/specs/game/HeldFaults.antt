@@ -1,5 +1,5 @@
 -- Which faults a text has. The list of faults is made so that its first one is told; some that hold it leaves out
--- behind others, and some that it lists stand at a header that isn't there. Here each row of the table holds or not by
+-- after others, and some that it lists stand at a header that isn't there. Here each row of the table holds or not by
 -- itself, whatever else is wrong of lines that can be read; a line of RULES that has no form has that fault alone.
 use Rattle.std.specs.Prelude.{◌≡◌, ◌≤◌, ◌⊎◌, ℕ, ◌&&◌, Some, None, option_to_list, List, [], ◌∷◌}
 use Rattle.std.specs.Prelude.{◌++◌}

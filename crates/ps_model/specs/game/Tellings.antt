@@ -1,6 +1,6 @@
 -- What the devices of a run tell of it. A reader tells at any time whether a call has failed, how many bytes its last
 -- call gave, how many calls it has had and how many of them gave nothing or had another room than a run asks for, and
--- perhaps the bytes that it still has to give; a writer tells likewise. What they tell before a run and behind it says
+-- perhaps the bytes that it still has to give; a writer tells likewise. What they tell before a run and after it says
 -- what the run read and wrote, and how it called them.
 use Rattle.std.specs.Prelude.{◌≡◌, ℕ, ◌+◌, ◌-◌, ◌^◌, ◌≤◌, Bool, true, false, ⊤, ◌⊎◌, Option, Some, None, option_map}
 use Rattle.std.specs.Prelude.{List, [], ◌∷◌, ◌++◌, length}
@@ -40,7 +40,7 @@ pub data ReaderCalls : Type 0 where
 
 -- a run, as its devices tell it
 pub record Told : Type 0 where
-  -- what it asked of the reader, and the bytes that the reader has left behind it
+  -- what it asked of the reader, and the bytes that the reader has left after it
   pub reading : ReaderCalls
   pub left : List ℕ
   -- the bytes that the writer took in it, and whether a write failed in it
@@ -113,7 +113,7 @@ abbrev pub idle_writes : Bool → ℕ
 idle_writes true = 1
 idle_writes false = 0
 
--- two devices that were well tell of this run, by what they told before it and by what they tell behind it
+-- two devices that were well tell of this run, by what they told before it and by what they tell after it
 pub record Tells (reader_before reader_after : ReaderState) (writer_before writer_after : WriterState) (told : Told) :
     Type 0 where
   -- no call of the reader had failed before; one has now exactly if one failed in the run

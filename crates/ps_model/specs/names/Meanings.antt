@@ -123,7 +123,7 @@ meaning_by_joiner of_mention legend Alone name = option_and_then of_mention (sli
 meaning_by_joiner of_mention legend And name = Some (AllOf name.line (objects_of legend name))
 meaning_by_joiner of_mention legend Or name = Some (AnyOf name.line (objects_of legend name))
 
--- what a mention stands for, behind so many synonyms at most; nothing where synonyms stand for themselves
+-- what a mention stands for, after so many synonyms at most; nothing where synonyms stand for themselves
 abbrev pub meaning_behind : List LegendName → ℕ → Mention → Option Meaning
 meaning_behind legend most (OfObject object) = Some (One object)
 meaning_behind legend zero (OfLine place) = None

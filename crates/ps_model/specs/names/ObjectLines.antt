@@ -1,4 +1,4 @@
--- The objects of OBJECTS. An object has a name line: its name, and behind it a second name of one character where it
+-- The objects of OBJECTS. An object has a name line: its name, and after it a second name of one character where it
 -- has one. Right below stand its colours, in a line that isn't blank, and right below these the five rows of its
 -- sprite, where it has one. Blank lines stand between objects and may be left out.
 use Rattle.std.specs.Prelude.{ℕ, zero, suc, ◌==◌, nat_le, Bool, true, false, ◌&&◌, ◌||◌, if◌then◌else◌, Option, None}

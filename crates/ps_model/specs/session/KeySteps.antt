@@ -24,7 +24,7 @@ key_pending true again left = LevelDone
 key_pending false true left = KeyAgain left
 key_pending false false left = Nothing
 
--- a turn of a key behind its frame: a message waits; without one the level ends on a win; otherwise the again turns
+-- a turn of a key after its frame: a message waits; without one the level ends on a win; otherwise the again turns
 -- come, so many at most, if the turn is to come again
 abbrev pub key_told : Script → Play → Done → ℕ → (Play → Step) → Step
 key_told script next done left again_turns = elim done.message [
@@ -127,7 +127,7 @@ key_in_level script play Restart =
     unless_ignored script.options.no_restart play (λ here. restarted script (with_board_in_history here) None)
 key_in_level script play Quit = quit
 
--- a level goes on behind a message
+-- a level goes on after a message
 abbrev pub gone_on : Script → Play → Pending → Step
 gone_on script play Nothing = quietly (Playing play)
 gone_on script play LevelDone = level_done script play

@@ -47,7 +47,7 @@ pub record Step : Type 0 where
 abbrev pub quietly : Session → Step
 quietly session = record { session = session; text = [] }
 
--- a step behind a text
+-- a step after a text
 abbrev pub after : List ℕ → Step → Step
 after text step = record { session = step.session; text = text ++ step.text }
 

@@ -18,7 +18,7 @@ abbrev pub start_pending : Bool → ℕ → Pending
 start_pending false left = Nothing
 start_pending true left = StartAgain left
 
--- a start behind a frame: a message waits; without one the again turns come, so many at most, if the turn is to come
+-- a start after a frame: a message waits; without one the again turns come, so many at most, if the turn is to come
 -- again
 abbrev pub start_told : Play → Option (List ℕ) → Bool → ℕ → (Play → Step) → Step
 start_told play (Some text) again left again_turns = waiting play text (start_pending again left)
@@ -81,7 +81,7 @@ fresh script entry level =
     let board : Grid = loaded script.names level in
     record { entry = entry; board = board; history = []; restart_board = board; room = first_room }
 
--- an entry begins: a message waits, a level starts; behind the last entry is the end
+-- an entry begins: a message waits, a level starts; after the last entry is the end
 abbrev pub entered : Script → ℕ → Option Entry → Step
 entered script entry None = record { session = Ended TheEnd; text = codes "* the end\n" }
 entered script entry (Some (MessageEntry text)) = record { session = AtMessage entry; text = message_line text }

@@ -38,7 +38,7 @@ without_empty_end ([] ∷ []) = []
 without_empty_end ((byte ∷ bytes) ∷ []) = (byte ∷ bytes) ∷ []
 without_empty_end (line ∷ next ∷ others) = line ∷ without_empty_end (next ∷ others)
 
--- a first line is there also where it is empty; a line behind it that is empty and the last isn't one
+-- a first line is there also where it is empty; a line after it that is empty and the last isn't one
 abbrev pub as_lines : List (List ℕ) → List (List ℕ)
 as_lines [] = []
 as_lines (first ∷ others) = first ∷ without_empty_end others
@@ -49,7 +49,7 @@ raw_lines bytes = as_lines (slice_split is_line_feed bytes)
 
 -- comments ------------------------------------------------------------------------------------------------------------
 
--- how many comments are open behind a byte, where so many are before it; a `)` outside a comment is an ordinary
+-- how many comments are open after a byte, where so many are before it; a `)` outside a comment is an ordinary
 -- character
 abbrev pub depth_behind : ℕ → ℕ → ℕ
 depth_behind depth byte = if byte == 40 then suc depth else (if byte == 41 then depth - 1 else depth)
@@ -99,13 +99,13 @@ end_of_word word = option_map (λ places. places.1) word
 abbrev pub end_of_first : List ℕ → List (List ℕ) → Option ℕ
 end_of_first bytes names = end_of_word (find (is_word bytes names) (take 1 (words_in Blanks bytes)))
 
--- the words of a line of RULES behind its first `->`
+-- the words of a line of RULES after its first `->`
 abbrev pub behind_arrow : List ℕ → List (ℕ × ℕ) → List (ℕ × ℕ)
 behind_arrow bytes words = drop (suc (prefix_len (λ word. not (is_word bytes (codes "->" ∷ []) word)) words)) words
 
--- where a text that is taken as it stands begins in a line whose comments are blanks: behind `title`, `author` or
--- `homepage` as the first word of a line of the prelude; behind `message` as the first word of a line of LEVELS; behind
--- the first `message` that stands behind the `->` of a line of RULES
+-- where a text that is taken as it stands begins in a line whose comments are blanks: after `title`, `author` or
+-- `homepage` as the first word of a line of the prelude; after `message` as the first word of a line of LEVELS; after
+-- the first `message` that stands after the `->` of a line of RULES
 abbrev pub text_place : Section → List ℕ → Option ℕ
 text_place Prelude uncommented = end_of_first uncommented (codes "title" ∷ codes "author" ∷ codes "homepage" ∷ [])
 text_place Levels uncommented = end_of_first uncommented (codes "message" ∷ [])
@@ -151,7 +151,7 @@ pub record Line : Type 0 where
   -- it isn't read past
   pub is_there : Bool
 
--- what stands behind a place of a line, the blanks at both ends left out
+-- what stands after a place of a line, the blanks at both ends left out
 abbrev pub text_behind : ℕ → ℕ → List ℕ → Taken
 text_behind start place behind =
     let skipped : ℕ = prefix_len is_blank behind in
