@@ -30,7 +30,7 @@ class Text:
 
 
 class Player:
-    """It knows lines of LEGEND behind the second header, and takes letters that aren't reserved."""
+    """It knows lines of LEGEND after the second header, and takes letters that aren't reserved."""
 
     def __init__(self, text, objects, reserved=""):
         self.text, self.objects, self.reserved, self.calls = text, objects, reserved, 0

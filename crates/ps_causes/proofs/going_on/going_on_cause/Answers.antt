@@ -10,7 +10,9 @@ returns c =
     let word : Word = c.index-word.result.now in
     let some : 0 < length words = search (rules, arith) in
     let count : c.len.result ≡ length words = search (rules, arith) in
-    let further : IsFurther c.args.source.now c.args.line c.in-Some.further = search rules in
-    (last-of_line c.args.source.now c.args.line words word some
-    (c.index-word.ensures ∙ ap (λ (count : ℕ). get_or words (count - 1) word) count) c.in_ok-words.ensures.each
-    c.in_ok-words.ensures.texts, further)
+    let further : IsFurther c.args.source.now c.args.line c.in-Some.further = search rules in (
+      last-of_line c.args.source.now c.args.line words word some
+          (c.index-word.ensures ∙ ap (λ (count : ℕ). get_or words (count - 1) word) count) c.in_ok-words.ensures.each
+          c.in_ok-words.ensures.texts,
+      further,
+    )
