@@ -90,14 +90,16 @@ abbrev pub corner_drawn : View → ℕ → Corner
 corner_drawn view rows =
     corner_following view.game.players rows view.size.columns view.corner view.frame view.changed
 
+-- what the rows of the terminal show then
+abbrev pub screen_drawn : View → List (List ℕ)
+screen_drawn view = screen_of view.size (corner_drawn view (rows_left view)) view.frame view.told
+
 -- the rows that the view changes are drawn
 abbrev pub drawn : View → Step
-drawn view =
-    let screen : List (List ℕ) = screen_of view.size (corner_drawn view (rows_left view)) view.frame view.told in
-    record {
-      view = with_screen view screen;
-      bytes = opening view.is_open ++ changes view.screen screen;
-    }
+drawn view = let screen : List (List ℕ) = screen_drawn view in record {
+  view = with_screen view screen;
+  bytes = opening view.is_open ++ changes view.screen screen;
+}
 
 -- the terminal is left: the cursor goes below what is drawn, and is shown
 abbrev pub left : Step → Step

@@ -147,8 +147,8 @@ pub fn screen_of(
     mut below: Vec<Text>,
 ) -> Result<Vec<Text>, Memory>
     ensures { IfOk result (λ screen. screen.items
-        ≡ frame_part (size.rows - length below.entry.items) size.columns corner (texts_of frame.now)
-        ++ below.entry.items) }
+        ≡ frame_part (size.rows - length below.items) size.columns corner (texts_of frame.now)
+        ++ below.items) }
 {
     let rows = size.rows().saturating_sub(below.len());
     let mut screen = Vec::new(alloc);

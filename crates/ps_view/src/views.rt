@@ -1,12 +1,12 @@
 //! A view in the making: the bytes of an output, one after the other.
 
-ghost use Rattle.std.specs.Prelude.{◌≡◌, ◌++◌, [], ◌∷◌, List, ℕ, OnOk, false, true, ◌==◌, ◌&&◌};
+ghost use Rattle.std.specs.Prelude.{◌≡◌, ◌++◌, [], ◌∷◌, List, ℕ, IfOk, OnOk, false, true, ◌==◌, ◌&&◌};
 ghost use Rattle.ps_view.specs.LineKinds.{kind_of};
 ghost use Rattle.ps_view.specs.LineFeeds.{EndsNoLine};
 ghost use Rattle.ps_view.specs.ToldGames.{known_of};
 ghost use Rattle.ps_view.specs.Views.{anew, blank_view, corner_drawn, corner_in, drawn, handed_on, is_size, left};
 ghost use Rattle.ps_view.specs.Views.{line_told, piece_step, size_step, text_of, told_step, view_behind, with_bytes};
-ghost use Rattle.ps_view.specs.Views.{with_size};
+ghost use Rattle.ps_view.specs.Views.{screen_drawn, with_size};
 ghost use Rattle.ps_view.specs.declared.line_kinds.LineKind.TheVariants.{Title, Level, Message, Note, Question};
 ghost use Rattle.ps_view.specs.declared.line_kinds.LineKind.TheVariants.{Ending, Empty, Row};
 
@@ -369,14 +369,22 @@ impl TerminalView {
         )
     }
 
+    /// What the rows of the terminal show then.
+    fn screen_drawn(&mut self) -> Result<Vec<Text>, Memory>
+        ensures screen { IfOk result (λ screen. screen.items ≡ screen_drawn self.old) }
+        ensures same { self.new ≡ self.old }
+    {
+        let below = self.told.rows(self.alloc, self.size)?;
+        let corner = self.corner_drawn(self.size.rows().saturating_sub(below.len()));
+        screen_of(self.alloc, self.size, corner, self.frames.last(), below)
+    }
+
     /// Draws the rows that the view changes.
     fn draw(&mut self, orders: &mut Line) -> Result<(), Memory>
         ensures view { OnOk result (self.new ≡ (drawn self.old).view) }
         ensures added { OnOk result (orders.new ≡ orders.old ++ (drawn self.old).bytes) }
     {
-        let below = self.told.rows(self.alloc, self.size)?;
-        let corner = self.corner_drawn(self.size.rows().saturating_sub(below.len()));
-        let screen = screen_of(self.alloc, self.size, corner, self.frames.last(), below)?;
+        let screen = self.screen_drawn()?;
         add_opening(self.is_open, orders)?;
         add_changes(self.alloc, &self.screen, &screen, orders)?;
         self.screen = screen;
