@@ -7,6 +7,10 @@ COMMENT = {".rt": re.compile(r"(?:^|\s)//[/!]?(.*)"), ".antt": re.compile(r"(?:^
 QUOTED = re.compile(r"`[^`\n]*`")
 BLOCK = re.compile(r"^( *)```.*?^ *```", re.S | re.M)
 LINK = re.compile(r"\[([^\]]*)\]\([^)]*\)")
+MARKS = {".rt": "//", ".antt": "-- "}
+MARK = re.compile(r"^(?://[/!]?|--) ?")
+RULER = re.compile(r"-{20,}")
+CLAUSE = re.compile(r"[;:]\s")
 END = re.compile(r"(?<=[.!?:;])[*_\"')]*\s+(?=[A-Z0-9`*(\[_\"']|$)")
 
 
@@ -45,3 +49,24 @@ def sentences(text):
             for sentence in END.split(" ".join(cell.split())):
                 if words := re.findall(r"[\w'’`.,-]*\w[\w'’`-]*|`", sentence):
                     yield sentence, words
+
+
+def comments(text, suffix):
+    """The comments of a source, each with the number of its first line and its text."""
+    begun, found = None, []
+    for number, line in enumerate(text.split("\n"), 1):
+        words = line.strip()
+        if not words.startswith(MARKS[suffix]) or RULER.search(words):
+            begun = None
+            continue
+        if begun is None:
+            begun = number
+            found.append((number, []))
+        found[-1][1].append(MARK.sub("", words))
+    return [(number, "\n".join(lines)) for number, lines in found]
+
+
+def clauses(text):
+    """The sentences of a comment, each with its words; a colon and a semicolon end one."""
+    for part in CLAUSE.split(text):
+        yield from sentences(part)

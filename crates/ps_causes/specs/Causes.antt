@@ -1,4 +1,4 @@
--- What is told of a fault, and when that is true of the text.
+-- What is said about a fault, and when that is true of the text.
 use Rattle.std.specs.Prelude.{◌≡◌, ◌≤◌, ◌<◌, ℕ, nat_eq, ◌-◌, Bool, false, true, ◌&&◌, ⊤, Some}
 use Rattle.std.specs.Prelude.{List, [], ◌∷◌, ◌++◌, codes}
 use Rattle.std.specs.Prelude.{slice_get, encode_utf8, slice_index_or}
@@ -47,7 +47,7 @@ joins_names word = list_any (bytes_eq (folded word)) (codes "and" ∷ codes "or"
 
 -- hints ---------------------------------------------------------------------------------------------------------------
 
--- what is told of a word is true
+-- what is said about a word is true
 abbrev pub IsHint : List ℕ → List ℕ → Hint → Type 0
 IsHint text word Nothing = ⊤
 IsHint text word (Near named) = IsDeclaredAt text named.line named.name.now × IsNear word named.name.now
@@ -171,7 +171,7 @@ pub record AreOnlyCommas (text : List ℕ) (line place : ℕ) : Type 0 where
   pub comma : slice_get text (place - 1) ≡ Some 44
   pub in_line : line_of_place text (place - 1) ≡ line
 
--- what is told of a line is true of the text
+-- what is said about a line is true of the text
 abbrev pub IsToldAt : List ℕ → ℕ → Cause → Type 0
 IsToldAt text line Untold = ⊤
 IsToldAt text line (Undeclared word hint) = IsUndeclared text line word hint

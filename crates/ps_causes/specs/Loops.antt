@@ -63,7 +63,7 @@ pub record IsUnended (text : List ℕ) (line : ℕ) (word : Word) : Type 0 where
   pub begins : is_sign LoopStart word.text.now ≡ true
   pub endless : NoneBetween (is_line_of LoopEnd text) (line + 1) (length (lines_of text) + 1)
 
--- what is told of a loop is true
+-- what is said about a loop is true
 abbrev pub IsToldOfLoop : List ℕ → ℕ → LoopCause → Type 0
 IsToldOfLoop text line (Nested word open_line) = IsNested text line word open_line
 IsToldOfLoop text line (Unbegun word ended) = IsUnbegun text line word ended

@@ -43,7 +43,7 @@ IsColourless text line None = lines_under text line ≡ []
 IsColourless text line (Some below) =
     (slice_get (lines_under text line) 0 ≡ Some (line_at text below)) × (is_blank_line (line_at text below) ≡ true)
 
--- so many rows of a sprite, one to four, stand below the first line of OBJECTS below a line, and then a line that is none
+-- `rows` rows of a sprite, one to four, stand below the first line of OBJECTS below a line, and then a line that is none
 pub record IsShortSprite (text : List ℕ) (line rows : ℕ) (below : Option NoRow) : Type 0 where
   pub counted : rows ≡ sprite_rows (drop 1 (lines_under text line))
   pub some : 1 ≤ rows
@@ -54,7 +54,7 @@ pub record IsShortSprite (text : List ℕ) (line rows : ℕ) (below : Option NoR
 abbrev pub IsObjectName : List ℕ → ℕ → Word → Type 0
 IsObjectName text line name = IsFirstWordOf text line name × (is_own Objects (line_at text line) ≡ true)
 
--- what is told of an object is true
+-- what is said about an object is true
 abbrev pub IsToldOfObject : List ℕ → ℕ → ObjectCause → Type 0
 IsToldOfObject text line (RowName word) = IsWordOf text line word × IsDeclaredAt text line word.text.now
 IsToldOfObject text line (Colourless name below) = IsObjectName text line name × IsColourless text line below

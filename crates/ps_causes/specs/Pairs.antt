@@ -14,7 +14,7 @@ use Rattle.ps_causes.specs.declared.causes.Shared.{Shared}
 use Rattle.ps_causes.specs.declared.causes.Shared.TheVariants.{Object, Property, Layer}
 use Rattle.ps_causes.specs.Meant.{names_in, meant, is_property_at, has_object, lies_on}
 
--- with words before a name of a rule, and others between it and a further one, the two stand in one cell, and neither
+-- with words before a name of a rule, and others between it and a further one: the two stand in one cell, and neither
 -- after `no`
 abbrev pub are_in_one_cell : List (List ℕ) → List (List ℕ) → Bool
 are_in_one_cell before between =

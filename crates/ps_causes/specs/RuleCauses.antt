@@ -33,7 +33,7 @@ pub record IsArrowOf (text : List ℕ) (line : ℕ) (arrow : Word) (before behin
   pub parts : texts_of text line ≡ before ++ arrow.text.now ∷ behind
   pub sign : is_sign Arrow arrow.text.now ≡ true
 
--- so many rows stand before and after the arrow, and not equally many
+-- `left` rows stand before the arrow, and `right` after it, and not equally many
 pub record IsRows (text : List ℕ) (line : ℕ) (arrow : Word) (left right : ℕ) : Type 0 where
   pub before : List (List ℕ)
   pub behind : List (List ℕ)
@@ -42,7 +42,7 @@ pub record IsRows (text : List ℕ) (line : ℕ) (arrow : Word) (left right : �
   pub on_the_right : right ≡ length (cell_counts behind)
   pub differ : nat_eq left right ≡ false
 
--- the row of a number, from 1, has so many cells before and after the arrow, and not equally many
+-- the row of a number, from 1, has `left` cells before the arrow, and `right` after it, and not equally many
 pub record IsCells (text : List ℕ) (line : ℕ) (arrow : Word) (row left right : ℕ) : Type 0 where
   pub before : List (List ℕ)
   pub behind : List (List ℕ)
@@ -58,7 +58,7 @@ pub record IsFurther (text : List ℕ) (line : ℕ) (further : Further) : Type 0
   pub own : is_own Rules (line_at text further.line) ≡ true
   pub part : is_part further.part (texts_of text further.line) ≡ true
 
--- what is told of a rule is true
+-- what is said about a rule is true
 abbrev pub IsToldOfRule : List ℕ → ℕ → RuleCause → Type 0
 IsToldOfRule text line (Pair word other shared) = IsPair text line word other shared
 IsToldOfRule text line (Several word declared) = IsSeveral text line word declared

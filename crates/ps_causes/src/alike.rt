@@ -43,8 +43,7 @@ fn counted(
     Ok(count)
 }
 
-/// How often the left of a rule has a word like that one, in a cell and not after `no`, where these words begin its
-/// line.
+/// How often the left of a rule has a word like that one, in a cell and not after `no`. These words begin its line.
 pub fn alike_on_left(
     alloc: Global,
     names: &Names,

@@ -4,7 +4,7 @@ use ps_facts::{Named, Slip};
 use ps_model::Section;
 use ps_text::Word;
 
-/// What is told of a word that isn't a name here.
+/// What is said about a word that isn't a name here.
 #[derive(Clone, Copy)]
 pub enum Hint<'a> {
     /// Nothing.
@@ -234,7 +234,7 @@ pub enum ObjectCause<'a> {
         name: Word<'a>,
         below: Option<u32>,
     },
-    /// Below the colours stand so many rows of a sprite, and then a line that is none, if there is one.
+    /// Below the colours stand this many rows of a sprite, and then a line that is none, if there is one.
     ShortSprite {
         name: Word<'a>,
         rows: usize,

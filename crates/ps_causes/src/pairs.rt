@@ -55,8 +55,8 @@ fn shared_of<'a>(
     Ok(shared_by(source, names, known, sought, first, second))
 }
 
-/// The words at a place and at another one after it, counted from the next, if they stand in one cell and share what
-/// is sought.
+/// The words at a place and at another one after it, counted from the next. They stand in one cell, and share what is
+/// sought; else nothing.
 fn pair_at<'a>(
     alloc: Global,
     source: &Source,

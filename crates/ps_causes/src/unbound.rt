@@ -207,7 +207,7 @@ fn cell_of(words: &[Word<'_>], at: usize) -> usize {
     cells_begun(&words[arrow..at])
 }
 
-/// What of the left the word at a place could mean, where the left has so many like it.
+/// What of the left the word at a place could mean, where the left has `times` like it.
 fn could_be<'a>(
     alloc: Global,
     names: &Names,
@@ -225,7 +225,7 @@ fn could_be<'a>(
     another(alloc, names, words, word, cell_of(words, at))
 }
 
-/// That so many like a word stand on the left, if it stands on the right and leaves something open.
+/// What a word of the right leaves open, with how many like it stand on the left. Nothing, if it leaves nothing open.
 fn unbound_at<'a>(
     alloc: Global,
     names: &Names,

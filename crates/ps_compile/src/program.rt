@@ -27,7 +27,7 @@ pub struct CompiledPrograms<'r> {
     pub late: Program<'r>,
 }
 
-/// Written out, so that who owns the programs calls this on each way out, instead of dropping their parts there.
+/// Written out: an owner of the programs calls this on each return path, and doesn't drop their parts there.
 impl<'r> Drop for CompiledPrograms<'r> {
     fn drop(self) {
         let CompiledPrograms {

@@ -7,7 +7,7 @@ use Rattle.ps_model.specs.text.Lines.{Line, lines_of}
 use Rattle.ps_model.specs.text.LineNumbers.{no_line, line_at}
 use Rattle.ps_facts.specs.LayerWords.{is_layer, layer_lines}
 
--- what comes first after so many stands at that place
+-- what comes first after the first n stands at the place n
 pub first-there : {A : Type 0} (xs ys : List A) (n : ℕ) (y : A) → drop n xs ≡ y ∷ ys → slice_get xs n ≡ Some y
 first-there [] ys zero y e = cc
 first-there [] ys (suc n) y e = cc

@@ -3,7 +3,7 @@ use Rattle.std.specs.Prelude.{ℕ, ◌+◌, ◌||◌, if◌then◌else◌, List,
 use Rattle.ps_facts.specs.declared.signs.Sign.TheVariants.{Opening, Bar}
 use Rattle.ps_facts.specs.Signs.{is_sign, is_edge}
 
--- how many cells a row has up to its end, the first bracket or arrow, where so many are before
+-- how many cells a row has up to its end, the first bracket or arrow, where `count` are before
 abbrev pub cells_from : ℕ → List (List ℕ) → ℕ
 cells_from count [] = count
 cells_from count (word ∷ words) =

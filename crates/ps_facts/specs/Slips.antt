@@ -45,7 +45,7 @@ section_of (Form ThirdName) = Objects
 section_of (Form NameAgain) = Objects
 section_of (Form RealTime) = Prelude
 
--- there are so many words
+-- there are `count` words
 abbrev pub are_so_many : ℕ → List (List ℕ) → Bool
 are_so_many count words = nat_eq (length words) count
 

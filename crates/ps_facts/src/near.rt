@@ -29,7 +29,7 @@ fn same_front(a: &[u8], b: &[u8]) -> usize
     shorter
 }
 
-/// The bytes after so many, the first ones.
+/// The bytes after the first `count`.
 fn behind(bytes: &[u8], count: usize) -> &[u8]
     requires { count ≤ length bytes.now }
     ensures { result.now ≡ drop count bytes.now }

@@ -36,7 +36,7 @@ pub struct Game {
     pub wins: Vec<Win>,
 }
 
-/// Written out, so that who owns a game calls this on each way out, instead of dropping its parts there.
+/// Written out: an owner of a game calls this on each return path, and doesn't drop its parts there.
 impl Drop for Game {
     fn drop(self) {
         let Game {

@@ -1,5 +1,5 @@
 -- Again turns, those of a key and those of the start of a level: the longest list of turns that count, of no more than
--- so many, which a message cuts. Each has a frame; what comes after the last one is said by that one, or by the turn
+-- a limit, which a message cuts. Each has a frame; what comes after the last one is said by that one, or by the turn
 -- that doesn't count.
 use Rattle.std.specs.Prelude.{◌≡◌, ℕ, zero, suc, ◌-◌, ◌≤◌, ◌⊎◌, Bool, true, ◌&&◌, ◌||◌, not, is_none}
 use Rattle.std.specs.Prelude.{None, List, [], ◌∷◌, length, ⊤}
@@ -36,7 +36,7 @@ Follow counts goes_on script board (done ∷ others) =
     (turn script None board ≡ Finished done) × (counts done ≡ true) × ((others ≡ []) ⊎ (goes_on done ≡ true)) × Follow
     counts goes_on script done.board others
 
--- they are no more than so many, and no such list is longer
+-- they are no more than the limit, and no such list is longer
 pub record IsLongest (counts goes_on : Done → Bool) (script : Script) (limit : ℕ) (board : Grid) (dones : List Done) :
     Type 0 where
   pub follow : Follow counts goes_on script board dones
@@ -46,7 +46,7 @@ pub record IsLongest (counts goes_on : Done → Bool) (script : Script) (limit :
 
 -- what they bring -----------------------------------------------------------------------------------------------------
 
--- what turns bring, of which so many are left: each its frame and what is told after it, and the last what comes where
+-- what turns bring, of which a number is left: each its frame and what is told after it, and the last what comes where
 -- they stop
 abbrev pub turns_told : (Play → Done → ℕ → (Play → Step) → Step) → (ℕ → Play → Step) → Script → List Done → ℕ → Play →
     Step

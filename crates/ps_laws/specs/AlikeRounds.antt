@@ -1,7 +1,7 @@
--- Two lists of rules are alike on a game where their rounds come to the same from each grid of the game, and to a grid
--- of the game. They needn't be alike rule by rule, nor have as many rules: several may stand for one, some may be left
--- out, and each may face down or right. Whatever is made of rounds comes to the same then: groups, passes, loops,
--- sections and programs.
+-- Two lists of rules are alike on a game where their rounds come to the same from each grid of the game. What they come
+-- to is again a grid of the game. They needn't be alike rule by rule, nor have as many rules: several may stand for
+-- one, some may be left out, and each may face down or right. Whatever is made of rounds comes to the same then:
+-- groups, passes, loops, sections and programs.
 use Rattle.std.specs.Prelude.{ℕ, List, ◌∷◌, ◌++◌, map, All}
 use Rattle.std.specs.List.{AllZip, flat_map}
 use Rattle.ps_model.specs.names.Names.{Names}

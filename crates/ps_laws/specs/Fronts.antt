@@ -1,5 +1,5 @@
--- What a run has written when it has read so far: the front of its output. It grows with each key until the game ends,
--- and the whole output is the front of all keys, with one more line where the keys end first.
+-- What a run has written when it has read so far: the front of its output. It grows with each key until the game ends.
+-- The whole output is the front of all keys, with one more line where the keys end first.
 use Rattle.std.specs.Prelude.{ℕ, ◌≤◌, Some, None, List, [], ◌∷◌, ◌++◌, length, ◌≡◌, ◌≢◌}
 use Rattle.ps_model.specs.declared.play.Ending.{Ending}
 use Rattle.ps_model.specs.declared.play.Ending.TheVariants.{EndOfKeys}
@@ -49,8 +49,8 @@ OutputOfUnended = (script : Script) (bytes : List ℕ) → ending_of (session_of
 abbrev pub EndsOtherwise : Type 0
 EndsOtherwise = (script : Script) (bytes : List ℕ) → ending_of (session_of script bytes) ≢ Some EndOfKeys
 
--- so the ending tells what is after the front: a run for which the keys ended says so in one more line, and any other
--- run writes no more than the texts of its keys
+-- so the ending tells what is after the front: a run for which the keys ended says so in one more line; any other run
+-- writes no more than the texts of its keys
 abbrev pub WrittenByEnding : Type 0
 WrittenByEnding = (script : Script) (bytes : List ℕ) →
     ((output script bytes).ending ≡ EndOfKeys →
@@ -72,8 +72,8 @@ abbrev pub EndStays : Type 0
 EndStays = (script : Script) (ending : Ending) (keys : List Key) →
     (session_after script (Ended ending) keys ≡ Ended ending) × (texts_of_keys script (Ended ending) keys ≡ [])
 
--- bytes that come in pieces: the front of two pieces is that of the first, and then the texts of the keys that the
--- second brings after what is held of the first; and so is the session
+-- bytes that come in pieces: the front of two pieces is that of the first, and then further texts: those of the keys
+-- that the second brings after what is held of the first; and so is the session
 abbrev pub FrontInPieces : Type 0
 FrontInPieces = (script : Script) (first second : List ℕ) →
     (whole_front script (first ++ second) ≡ whole_front script first ++ texts_of_keys script (session_of script first)

@@ -22,9 +22,9 @@ abbrev pub KeysInPieces : Type 0
 KeysInPieces =
     (first second : List ℕ) → keys_of (first ++ second) ≡ keys_of (before_held first) ++ keys_of (held first ++ second)
 
--- a reader that has given the keys of what it read, and holds what is held of it, reads a piece after that: it gives
--- the keys of both but for what is held then, and has again given the keys of all that it read, and holds what is held
--- of it
+-- a reader that has given the keys of what it read, and holds what is held of it, reads a piece after that. It gives
+-- the keys of both but for what is held then. So it has again given the keys of all that it read, and holds what is
+-- held of it
 abbrev pub ReadPieceByPiece : Type 0
 ReadPieceByPiece = (read piece kept : List ℕ) → kept ≡ held read →
     (keys_of read ++ keys_of (before_held (kept ++ piece)) ≡ keys_of (read ++ piece)) ×

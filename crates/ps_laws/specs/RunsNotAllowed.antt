@@ -47,8 +47,8 @@ NoWantWithoutKey =
     (text : List ℕ) (told : Told) → told.wrote ≢ [] → keys_of (read told.reading) ≡ [] →
     (GaveNothing told.reading → ⊥) → Answers text told WantsMemory → ⊥
 
--- the texts of all keys that were read are written, each of which has something, no call gave nothing, and the run
--- answers that it wants memory
+-- the texts of all keys that were read are written, each of which has something, and no call gave nothing. The run
+-- answers that it is out of memory
 abbrev pub NoWantBehindAllKeys : Type 0
 NoWantBehindAllKeys =
     (text : List ℕ) (told : Told) (script : Script) →
@@ -83,7 +83,7 @@ NoCallBehindEnd =
     told.reading ≡ Asked (before ++ [] ∷ behind) last → Answers text told answer → ⊥
 
 -- a call of the reader had room for fewer bytes than a run asks for at a time, or for more: so no run asks for a byte
--- at a time, not even one that stops at the last call that it makes, and none asks for 5,000 and tells of two calls
+-- at a time, not even one that stops at the last call that it makes. None asks for 5,000 and tells of two calls
 abbrev pub NoOddSizedCall : Type 0
 NoOddSizedCall =
     (text : List ℕ) (reader_before reader_after : ReaderState) (writer_before writer_after : WriterState)
@@ -170,9 +170,8 @@ NoWriteUncounted =
     1 ≤ length told.wrote → writer_after.calls ≡ writer_before.calls →
     Tells reader_before reader_after writer_before writer_after told → ⊥
 
--- the run called the writer more often than it has texts to write, but for one more call for each that took less than
--- it
--- was handed: so a text isn't handed on in pieces that the writer didn't ask for
+-- the run called the writer more often than it has texts to write and calls that took less than they were handed,
+-- together. So a text isn't handed on in pieces that the writer didn't ask for
 abbrev pub NoTextInPieces : Type 0
 NoTextInPieces =
     (text : List ℕ) (reader_before reader_after : ReaderState) (writer_before writer_after : WriterState) (told : Told)

@@ -1,5 +1,5 @@
--- Steps of a session one by one. Turns, openings and fronts are opened by these laws and by nothing else, so that a
--- proof about a session speaks of them by their names.
+-- Steps of a session one by one. Turns, openings and fronts are opened by these laws and by nothing else. So a proof
+-- about a session speaks of them by their names.
 use Rattle.std.specs.Prelude.{◌≡◌, ℕ, suc, Option, Some, None, List, [], ◌∷◌, ◌++◌, codes}
 use Rattle.ps_model.specs.declared.play.Input.{Input}
 use Rattle.ps_model.specs.declared.play.Key.{Key}

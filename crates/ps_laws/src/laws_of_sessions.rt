@@ -13,8 +13,8 @@ ghost use Rattle.ps_laws.specs.SessionBoards.{OpeningsHaveBoards, KeysKeepBoards
 ghost use Rattle.ps_laws.specs.AlikeScripts.{AlikeTurns, AlikeOpenings, AlikeKeys, AlikeRuns, AlikeGames};
 ghost use Rattle.ps_laws.specs.AlikeScripts.{AlikeProgramsOfGames};
 
-/// The again turns of a key, and those of a start, are those of the longest list of turns that count, no more than
-/// their limit; a message cuts it.
+/// The again turns of a key, and those of a start, are those of the longest list of turns that count, within their
+/// limit. A message cuts it.
 pub fn again_turns()
     ensures key { KeyTurnsAreLongest }
     ensures start { StartTurnsAreLongest }
@@ -54,8 +54,9 @@ pub fn session_boards()
     ensures sessions { SessionsHaveBoards }
 {}
 
-/// Scripts that are the same but for their rules, and whose programs come to the same on each grid of the game, have
-/// the same turns, the same steps and the same runs. So a game may be played by other programs than those of its rules.
+/// Take scripts that are the same but for their rules, and whose programs come to the same on each grid of the game.
+/// They have the same turns, the same steps and the same runs. So a game may be played by other programs than those of
+/// its rules.
 pub fn alike_scripts()
     ensures turns { AlikeTurns }
     ensures opening { AlikeOpenings }

@@ -12,7 +12,7 @@ use crate::scan::Scan;
 use ps_board::{Columns, recall_shape};
 use ps_program::CellWrite;
 
-/// Writes the cells of a row of the board that lie so many columns to the right of those of a set, and answers whether
+/// Writes the cells of a row of the board that lie `steps` columns to the right of those of a set. It answers whether
 /// one of them changed. Beyond the board's width nothing is written, and an object that has no room on a layer isn't
 /// put there.
 pub fn rewrite_ahead<B: Scan>(

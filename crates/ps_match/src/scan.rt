@@ -31,7 +31,7 @@ pub trait Scan: Board {
         requires { row < (Self.grid self.now).height }
         ensures { result ≡ row_fits (Self.grid self.now) (meaning_of_mask (mask_shown mask.now)) row };
 
-    /// The columns whose cells fit a mask, of as many rows of the board as there is room for, the first one and those
+    /// The columns whose cells fit a mask, of as many rows of the board as there is room for: the first one and those
     /// below it.
     fn scan_rows(&self, mask: &CellMask, first: u32, found: &mut [Columns<Self::Words>])
         requires { first + length found.old ≤ (Self.grid self.now).height }
@@ -58,9 +58,8 @@ pub trait Scan: Board {
     fn motions_there(&self) -> MotionSet
         ensures { HasMotionsIn (Self.grid self.now) result };
 
-    /// Topics, as a set of their numbers, outside of which another board of the same size, with as many layers and the
-    /// same room, has the same objects and motions in each cell. There may be more of them, and all of them, as a board
-    /// needn't look for it.
+    /// Topics, as a set of their numbers. Outside of them another board, of the same size, layers and room, has the
+    /// same objects and motions in each cell. There may be more of them, or all: a board needn't look for it.
     fn topics_differing(&self, other: &Self) -> Topics
         requires width { (Self.grid other.now).width ≡ (Self.grid self.now).width }
         requires height { (Self.grid other.now).height ≡ (Self.grid self.now).height }
@@ -77,7 +76,7 @@ pub trait Scan: Board {
             ≡ rewritten_cell before meaning cell (slice_get before.grid.cells cell) }
         ensures fixed { fixed_part Self.Board self.new ≡ fixed_part Self.Board self.old };
 
-    /// Writes the cells of a row of the board whose columns are in a set, and no other cell, and answers whether one of
+    /// Writes the cells of a row of the board whose columns are in a set, and no other cell. It answers whether one of
     /// them changed. Beyond the board's width nothing is written, and an object that has no room on a layer isn't put
     /// there.
     fn rewrite(&mut self, write: &CellWrite, row: u32, columns: &Columns<Self::Words>) -> bool

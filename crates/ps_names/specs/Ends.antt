@@ -6,12 +6,12 @@ use Rattle.ps_names.specs.declared.ends.End.TheVariants.{Unknown, Never, At}
 use Rattle.ps_names.specs.Known.{mention_shown}
 use Rattle.ps_names.specs.MeaningSteps.{behind_synonym}
 
--- after so many synonyms stands a mention
+-- after `passed` synonyms stands a mention
 abbrev pub StandsBehind : List LegendName → Mention → ℕ → Mention → Type 0
 StandsBehind legend mention passed last = (most : ℕ) →
     meaning_behind legend (passed + most) mention ≡ meaning_behind legend most last
 
--- after so many synonyms stands a mention that is none
+-- after `passed` synonyms stands a mention that is none
 pub record EndsAt (legend : List LegendName) (mention : Mention) (passed : ℕ) (last : Mention) : Type 0 where
   pub stands : StandsBehind legend mention passed last
   pub no_synonym : behind_synonym legend last ≡ None

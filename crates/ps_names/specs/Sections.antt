@@ -51,7 +51,7 @@ abbrev pub declaring_faults : List ObjectText → List WrittenLine → List Faul
 declaring_faults objects lines = object_faults 0 [] objects ++
     (form_faults (folded_names objects) lines ++ legend_faults (legend_of objects lines))
 
--- the layer of each of so many objects, if one names it, and how many layers there are
+-- the layer of each of `count` objects, if one names it, and how many layers there are
 abbrev pub layering_of : ℕ → List Layer → List (Option ℕ) × ℕ
 layering_of count layers = (layers_found count layers, length layers)
 

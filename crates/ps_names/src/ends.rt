@@ -20,7 +20,7 @@ pub enum End {
     Unknown,
     /// Nowhere, as one of them stands for itself.
     Never,
-    /// After so many of them, at a mention that is no synonym.
+    /// After `passed` of them, at a mention that is no synonym.
     At { passed: u32, mention: Mention },
 }
 

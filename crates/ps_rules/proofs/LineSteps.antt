@@ -40,7 +40,7 @@ pub nothing-here : (text : List ℕ) (line : ℕ) (rest : List Line) → (line_a
     → here text line ++ rest ≡ rest
 nothing-here text line rest t = rw t refl
 
--- a blank line is passed over
+-- a blank line is skipped
 pub blank-here : (text : List ℕ) (line : ℕ) (rest : List Line) → (line_at text line).is_there ≡ true
     → is_blank_line (line_at text line) ≡ true → lines_with_words (here text line ++ rest) ≡ lines_with_words rest
 blank-here text line rest t b = rw (t, b) refl

@@ -1,5 +1,5 @@
-//! The shape of a rule: `->` parts its line in a left and a right side, brackets part a side in rows and what stands
-//! outside them, and bars part a row in cells.
+//! The shape of a rule: `->` parts its line in a left and a right side. Brackets part a side in rows and what stands
+//! outside them. Bars part a row in cells.
 
 ghost use Rattle.std.specs.Prelude.{◌≡◌, IfOk, option_map, map};
 ghost use Rattle.ps_model.specs.text.OptionSteps.{all_there};
@@ -91,7 +91,7 @@ fn side_of<'a, 'n>(
 }
 
 /// The shape of a rule by the parts between its arrows, if these are its two sides. The parts are lent, so that none of
-/// the ways out gives them back.
+/// the return paths gives them back.
 fn shape_of_parts<'a, 'n>(
     alloc: Global,
     parts: &[&'a [Token<'n>]],

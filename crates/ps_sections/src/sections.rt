@@ -66,9 +66,9 @@ fn is_without_section(objects: bool, layers: bool, levels: bool) -> bool
 
 /// Where the lines of each section stand.
 ///
-/// `Refused` with the first fault of headers and prelude: by line, a header that repeats or follows a later section's,
-/// and a line of the prelude that asks for real time, or for rooms without a size; then, at the last line, that
-/// OBJECTS, COLLISIONLAYERS or LEVELS is missing. `Memory` if a growth was refused.
+/// `Refused` with the first fault of headers and prelude: by line, a header that repeats or follows a later section's;
+/// a line of the prelude that asks for real time, or for rooms without a size. Then, at the last line, that OBJECTS,
+/// COLLISIONLAYERS or LEVELS is missing. `Memory` if a growth was refused.
 pub fn read_sections(alloc: Global, source: &Source) -> Result<Sections, Refusal>
     ensures told { IfOk result (λ sections. AreSections source.now sections) }
     ensures refused { IfErr result (λ e. (fault : TheFault) → e ≡ Refusal.Refused fault

@@ -211,7 +211,7 @@ const PLAYS: [(Told, &[Line]); 11] = [
             (&["ps_play", "--level=2", "two.game"], "two.game\n"),
         ],
     ),
-    // A level that the game doesn't have is told of, and no key is asked for.
+    // A level that the game doesn't have is reported, and no key is asked for.
     (
         Told {
             input: b"d",
@@ -429,7 +429,7 @@ const CHECKS: [(Told, &[Line]); 8] = [
     ),
 ];
 
-/// What a front end is told of the game.
+/// What a front end learns of the game.
 const DESCRIBED: &str =
     "{\"glyphs\":[{\"glyph\":\".\",\"objects\":[\"Background\"]},{\"glyph\":\"#\",\"objects\":[\"Wall\"]},\
     {\"glyph\":\"P\",\"objects\":[\"Player\"]},{\"glyph\":\"*\",\"objects\":[\"Crate\"]},\

@@ -106,8 +106,8 @@ fn declare(rt: &(impl Abort + AllocGlobal), legend: &mut String, name: (&str, u3
         .expect(rt, "memory for a legend");
 }
 
-/// Adds a line to a legend, which declares the name of a letter and a number by that of the next number, and what
-/// stands after it.
+/// Adds a line to a legend, and what stands after it. It declares the name of a letter and a number by that of the next
+/// number.
 fn declare_by_next(
     rt: &(impl Abort + AllocGlobal),
     legend: &mut String,

@@ -31,7 +31,7 @@ impl<D: Drop> Watched<D> {
         }
     }
 
-    /// Counts a call of so many bytes.
+    /// Counts a call of `bytes` bytes.
     fn count(&mut self, bytes: usize)
         ensures { self.new.device ≡ self.old.device }
     {

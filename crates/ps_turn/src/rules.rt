@@ -35,7 +35,7 @@ pub struct TurnRules<R> {
     pub late: R,
 }
 
-/// Written out, so that who owns rules calls this on each way out, instead of dropping their parts there.
+/// Written out: an owner of rules calls this on each return path, and doesn't drop their parts there.
 impl<R: Drop> Drop for TurnRules<R> {
     fn drop(self) {
         let TurnRules {

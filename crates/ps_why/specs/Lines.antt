@@ -16,7 +16,7 @@ abbrev pub line_end : ℕ → List ℕ → ℕ
 line_end place [] = place
 line_end place (byte ∷ bytes) = if is_line_feed byte then place else line_end (suc place) bytes
 
--- the place after so many line feeds of bytes of which the first has this place, or else their end
+-- the place after `feeds` line feeds of bytes of which the first has this place, or else their end
 abbrev pub behind_feeds : ℕ → ℕ → List ℕ → ℕ
 behind_feeds place feeds [] = place
 behind_feeds place feeds (byte ∷ bytes) =
@@ -42,7 +42,7 @@ begins_from place [] = place
 begins_from place (byte ∷ bytes) = if goes_on byte then begins_from (suc place) bytes else place
 
 -- where a line is shown from that the text ends with: from its front where that shows what is marked, else from a place
--- before the mark, at most so many bytes before its end
+-- before the mark, not many bytes before its end
 abbrev pub marked_from : List ℕ → LineBytes → ℕ → ℕ → ℕ
 marked_from text line from to =
     let start = min (max (min from (to - MOST_BEFORE)) line.from) line.to in

@@ -1,4 +1,4 @@
--- What is told of an object, in words.
+-- What is said about an object, in words.
 use Rattle.std.specs.Prelude.{ℕ, Option, Some, None, List, [], ◌++◌, codes, encode_utf8}
 use Rattle.std.specs.Fmt.{decimal}
 use Rattle.ps_causes.specs.declared.causes.NoRow.{NoRow}
@@ -47,7 +47,7 @@ short_words name rows below =
     codes "The sprite of `" ++ (name ++ (codes "` has " ++ (decimal rows ++ (codes " of five rows." ++
     no_row_words below))))
 
--- what is told of an object
+-- what is said about an object
 abbrev pub object_sentence : ObjectCause → List ℕ
 object_sentence (RowName word) = row_name_words word.text.now
 object_sentence (Colourless name below) = colourless_words name.text.now below

@@ -39,7 +39,7 @@ marks_shown line start is_front None = []
 marks_shown line start is_front (Some marks) =
     (if is_front then codes "        " else codes "          ") ++ (carets marks start line ++ 10 ∷ [])
 
--- bytes of a line from a place on, as they are shown: at most so many
+-- bytes of a line from a place on, as they are shown, up to a limit
 abbrev pub part_shown : List ℕ → ℕ → Bool → Option Marks → List ℕ
 part_shown line start is_front marks = front_shown line is_front ++ marks_shown line start is_front marks
 

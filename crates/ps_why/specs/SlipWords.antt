@@ -1,4 +1,4 @@
--- What is told of a word that has a slip: what stands before it, the word, and what stands after it.
+-- What is said about a word that has a slip: what stands before it, the word, and what stands after it.
 use Rattle.std.specs.Prelude.{ℕ, List, ◌++◌, codes}
 use Rattle.ps_facts.specs.declared.slips.ShapeSlip.{ShapeSlip}
 use Rattle.ps_facts.specs.declared.slips.ShapeSlip.TheVariants.{LikeArrow, LikeBracket, NoArrow, SecondArrow}
@@ -136,6 +136,6 @@ slip_back (Rule slip) = rule_back slip
 slip_back (Place slip) = place_back slip
 slip_back (Form slip) = form_back slip
 
--- what is told of a word that has a slip
+-- what is said about a word that has a slip
 abbrev pub slip_words : Slip → List ℕ → List ℕ
 slip_words slip word = slip_front slip ++ (word ++ slip_back slip)

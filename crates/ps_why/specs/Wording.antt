@@ -1,4 +1,4 @@
--- What is told of a fault, in words.
+-- What is said about a fault, in words.
 use Rattle.std.specs.Prelude.{ℕ, nat_eq, nat_lt, true, if◌then◌else◌, List, [], ◌++◌, codes}
 use Rattle.std.specs.Prelude.{encode_utf8}
 use Rattle.std.specs.Fmt.{decimal, digits}
@@ -47,7 +47,7 @@ abbrev pub strange_words : ℕ → List ℕ → List ℕ
 strange_words character like =
     codes " Its character " ++ (code_words character ++ (codes " looks like " ++ (like ++ codes ".")))
 
--- what is told of a word, after a blank
+-- what is said about a word, after a blank
 abbrev pub hint_words : Hint → List ℕ
 hint_words Nothing = []
 hint_words (Near named) = near_words named.line named.name.now
@@ -140,7 +140,7 @@ like_header_words section =
 abbrev pub commas_words : List ℕ
 commas_words = codes "A line of COLLISIONLAYERS is names, parted by commas or blanks: this one has only commas."
 
--- what is told of a fault
+-- what is said about a fault
 abbrev pub sentence : Cause → List ℕ
 sentence Untold = []
 sentence (Undeclared word hint) = undeclared_words word.text.now hint

@@ -42,7 +42,7 @@ fn line_end(text: &[u8], from: usize) -> usize
     text.len()
 }
 
-/// The place after so many line feeds, or else the text's end.
+/// The place after `feeds` line feeds, or else the text's end.
 fn behind_feeds(text: &[u8], feeds: usize) -> usize
     ensures place { result ≡ behind_feeds 0 feeds text.now }
     ensures within { result ≤ length text.now }

@@ -113,8 +113,8 @@ fn part_of(text: &[u8], from: usize, to: usize) -> &[u8]
     &line[..MOST_SHOWN.min(line.len())]
 }
 
-/// Puts bytes of a line last, of which the first stands at a place of the text, and below them the marks, if there are
-/// some.
+/// Puts bytes of a line last, the first of which stands at a place of the text. Below them it puts the marks, if there
+/// are some.
 fn push_part(
     alloc: Global,
     page: &mut String,

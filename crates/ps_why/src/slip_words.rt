@@ -181,7 +181,7 @@ fn slip_back(slip: Slip) -> &'static str
     }
 }
 
-/// What is told of a word that has a slip.
+/// What is said about a word that has a slip.
 pub fn slip_words(alloc: Global, slip: Slip, word: &str) -> Result<String, Memory>
     ensures { IfOk result (λ words. string_bytes words ≡ slip_words slip word.now) }
 {

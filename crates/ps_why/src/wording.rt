@@ -72,7 +72,7 @@ fn strange_words(alloc: Global, character: char, like: &str) -> Result<String, M
     Ok(words)
 }
 
-/// What is told of a word, after a blank.
+/// What is said about a word, after a blank.
 fn hint_words(alloc: Global, hint: Hint<'_>) -> Result<String, Memory>
     ensures { IfOk result (λ words. string_bytes words ≡ hint_words hint.entry) }
 {
@@ -258,7 +258,7 @@ fn commas_words(alloc: Global) -> Result<String, Memory>
     Ok(words)
 }
 
-/// What is told of a fault: a sentence or two, and nothing where nothing is told.
+/// What is said about a fault: a sentence or two, and nothing where nothing is told.
 pub fn sentence(alloc: Global, cause: Cause<'_>) -> Result<String, Memory>
     ensures { IfOk result (λ words. string_bytes words ≡ sentence cause.entry) }
 {

@@ -217,7 +217,7 @@ property_before_wide : first (codes "q" ++ replicate 64 46) ≡ at_line 2 Proper
 unfolding chars encode
 property_before_wide = refl
 
--- so many rows, each a point
+-- `count` rows, each a point
 abbrev points : ℕ → List ℕ
 points count = flat_map (λ row. codes ".\n") (range_with_len 0 count)
 
@@ -256,7 +256,7 @@ too_many : first (many 999 ++ codes "P\nP") ≡ at_line 1001 TooManyEntries
 unfolding chars encode
 too_many = refl
 
--- the first fault of entries after so many others
+-- the first fault of entries after `place` others
 abbrev first_behind : ℕ → List ℕ → Option Fault
 first_behind place rows = first_fault (entries_faults names place (entry_lines (section_lines (lines_of (codes "LEVELS\n" ++ rows)) Levels)))
 

@@ -76,7 +76,7 @@ twice : has_names (codes "Background\nx\nPlayer P\ny\np\nz\n") [] (codes "Backgr
 unfolding chars
 twice = refl
 
--- a property on a layer line stands for its members, the last line that names an object counts, and an aggregate needs
+-- a property on a layer line stands for its members, and the last line that names an object counts; an aggregate needs
 -- layers of their own for its objects
 abbrev with_crates : List ℕ → List ℕ → Bool
 with_crates legend layers = has_names (codes "Background\nx\nPlayer p\ny\nA\nz\nB\nz") legend layers

@@ -89,7 +89,7 @@ left_out_and_unknown = refl
 
 -- RU14 ----------------------------------------------------------------------------------------------------------------
 
--- what is told of lines below so many rules
+-- what is said about lines below `count` rules
 abbrev told_below : ℕ → List ℕ → Option Fault
 told_below count rules = first_fault (faults_below base_names (record nothing_above { rules = count })
     (lines_below rules))

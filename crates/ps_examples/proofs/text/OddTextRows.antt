@@ -1,4 +1,4 @@
--- Odd texts, worked by hand: what is told of them first, and at which line; or what they say where they are games.
+-- Odd texts, worked by hand: what is said about them first, and at which line; or what they say where they are games.
 use Rattle.std.proofs.Common.{◌≡◌, ℕ, List, [], ◌∷◌, ◌++◌, ap, map, length, refl, Option, Some, None, true, false}
 use Rattle.std.specs.Prelude.{codes, option_map, replicate, nat_lt}
 use Rattle.std.specs.List.{flat_map, range_with_len}
@@ -26,7 +26,7 @@ use Rattle.ps_examples.proofs.games.WholeRuns.{written, refused}
 abbrev at_line : ℕ → FaultKind → Option Fault
 at_line line kind = Some (record { kind = kind; line = line })
 
--- the same is told of all these texts
+-- all these texts have the same answer
 abbrev AllRefused : Option Fault → List (List ℕ) → Type 0
 AllRefused fault texts = map refused texts ≡ map (λ text. fault) texts
 
@@ -250,7 +250,7 @@ bad_before_twice : refused (text_with (codes "Player P P\nx\n") [] []) ≡ at_li
 unfolding chars is_utf8 encode utf8_valid_len
 bad_before_twice = refl
 
--- so many objects more, each of two lines, and their names
+-- `count` objects more, each of two lines, and their names
 abbrev name_of : ℕ → List ℕ
 name_of number = codes "E" ++ decimal number
 
@@ -408,7 +408,7 @@ aggregates_on_layers : map refused
 unfolding chars is_utf8 encode utf8_valid_len
 aggregates_on_layers = refl
 
--- so many layers, all of Background
+-- `count` layers, all of Background
 abbrev layers : ℕ → List ℕ
 layers count = flat_map (λ line. line) (replicate count (codes "Background\n"))
 

@@ -59,7 +59,7 @@ unfolding chars digits is_utf8 utf8_valid_len encode group program_run all_start
 wide_gap = refl
 
 -- two ellipses: of places with the same leftmost or topmost end, the one comes first whose gap nearest to that end is
--- smaller, and of two with this gap the one with the smaller other gap
+-- smaller; of two with this gap, the one with the smaller other gap
 nearest_gap_rightwards : written (base_game (codes "right [ A | ... | B | ... | C ] -> [ | ... | D | ... | C ]\n") ([])
     (codes "AB.BC\n")) (codes "x")
     ≡ Some (codes "= T\n# level 1\nAB.BC\n\n.D.BC\n\n* end of keys\n")

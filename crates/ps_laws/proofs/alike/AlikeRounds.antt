@@ -1,5 +1,5 @@
--- Which lists of rules have equal rounds: those that are alike rule by rule, those made of such lists, those whose
--- rules face down or right, and those without a rule that does nothing.
+-- Which lists of rules have equal rounds: those that are alike rule by rule, and those made of such lists; those whose
+-- rules face down or right; and those without a rule that does nothing.
 use Rattle.std.proofs.Common.{◌≡◌, Bool, true, false, ◌||◌, List, [], ◌∷◌, ◌++◌, map, refl, sym, ◌∙◌, ap, subst}
 use Rattle.std.specs.Prelude.{All}
 use Rattle.std.specs.List.{AllZip, flat_map}

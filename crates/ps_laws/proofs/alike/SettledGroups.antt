@@ -8,7 +8,7 @@ use Rattle.ps_laws.specs.Settling.{reached_by, changes, Settles}
 use Rattle.ps_laws.proofs.common.EitherWay.{either_way}
 use Rattle.ps_laws.proofs.common.Steps.{changes-next, changes-before_first, changes-before_last}
 
--- one of so many rounds changes something
+-- one of the first `rounds` rounds changes something
 abbrev pub SomeChange : List RuleMeaning → State → ℕ → Type 0
 SomeChange rules state rounds = (number : ℕ) × (1 ≤ number) × (number ≤ rounds) ×
     (changes number (round rules) state ≡ true)

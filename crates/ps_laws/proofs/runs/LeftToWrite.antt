@@ -80,7 +80,7 @@ own_start : (script : Script) → IsOwn (opening_step script).session
 unfolding opening_step
 own_start script = of_enter script script.first_entry
 
--- the keys of some bytes and more are the first so many, and others
+-- the keys of some bytes and more are the first `count` of them, and others
 keys_parted : (bytes more : List ℕ) (count : ℕ) →
     keys_of (bytes ++ more) ≡ take count (keys_of bytes) ++ (drop count (keys_of bytes) ++ keys_of (held bytes ++ more))
 keys_parted bytes more count =

@@ -327,7 +327,7 @@ no_want_behind_ending text told script found whole (inr (own, own_found, right))
           ∙ ap (λ (l : List ℕ). l ++ cut.rest) (sym right.wrote);
     }
 
--- wanting memory where nothing was to be made
+-- running out of memory where nothing was to be made
 wanting_key : (read : List ℕ) (keys : ℕ) → keys_of read ≡ [] → keys < length (keys_of read) → ⊥
 wanting_key read keys none less =
     let no : length (keys_of read) ≡ 0 = ap (λ (k : List Key). length k) none in omega (arith, no, less)

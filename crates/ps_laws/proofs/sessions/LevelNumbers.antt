@@ -19,7 +19,7 @@ use Rattle.ps_model.specs.game.LevelRuns.{script_at_level}
 use Rattle.ps_laws.specs.LevelNumbers.{FoundLevelsAreNumbered, NumberedLevelsAreFound, LackedLevelsAreBeyond}
 use Rattle.ps_laws.specs.LevelNumbers.{FirstLevelIsStart, AnswersFromStart, AnswersAreTrueOfLevels}
 
--- the places of the levels among so many entries, from one on
+-- the places of the levels among `count` entries, from one on
 abbrev pub places_from : List Entry → ℕ → ℕ → List ℕ
 places_from entries at count = filter (λ entry. is_level_found (slice_get entries entry)) (range_with_len at count)
 

@@ -1,5 +1,5 @@
--- The parts into which elements of a kind cut a list have an element each, where no such element is first, last or
--- right after another one.
+-- Elements of a kind cut a list into parts. These have an element each, where no such element is first, last or right
+-- after another one.
 use Rattle.std.proofs.Common.{◌≡◌, Bool, true, false, List, [], ◌∷◌, cond, sym, subst, arith}
 use Rattle.std.specs.Prelude.{All, ⊤, drop}
 use Rattle.std.specs.List.{slice_split, onto_first}

@@ -1,7 +1,7 @@
--- What a run may answer, for every text and every stream of key bytes, in whatever pieces it comes: it refuses the text
+-- What a run may answer, for every text and every stream of key bytes, in whatever pieces it comes. It refuses the text
 -- with the first fault that the text has, or writes exactly the output of the text's game on the keys. Where memory is
--- refused, keys can't be read or the output can't be written, it stops and says so, and has written a front of it, as
--- said below. Whatever it answers, it asks for no more keys once those that it has read have ended the game.
+-- refused, keys can't be read or the output can't be written, it stops and says so. Then it has written a front of the
+-- output, as said below. Whatever it answers, it asks for no more keys once those that it has read have ended the game.
 use Rattle.std.specs.Prelude.{◌≡◌, ◌≢◌, ℕ, ◌+◌, ◌<◌, ◌≤◌, true, false, ⊤, ◌⊎◌, Option, Some, option_map, List, [], ◌++◌}
 use Rattle.std.specs.Prelude.{◌∷◌, length, take}
 use Rattle.std.specs.List.{All, concat}
@@ -47,7 +47,7 @@ pub record IsCutOff (first second : List ℕ) : Type 0 where
 abbrev pub texts_of : Script → List ℕ → List ℕ
 texts_of script bytes = front script bytes (length (keys_of bytes))
 
--- how the first so many keys of the bytes leave the game: it has ended, or else the keys have
+-- how the first `count` keys of the bytes leave the game: it has ended, or else the keys have
 abbrev pub ending_behind : Script → List ℕ → ℕ → Ending
 ending_behind script bytes count =
     let start : Step = opening_step script in
@@ -138,9 +138,9 @@ pub record StopsAtOnce (told : Told) : Type 0 where
   pub wrote_nothing : told.wrote ≡ []
   pub writer_is_well : WriterIsWell told
 
--- memory was refused in play: what was written is the opening and the texts of so many keys, whole, and not fewer than
--- were read before the last call; the game went on after them, and more was to be made: the text of a key that was
--- read, or, where the last call gave nothing, the line that says so
+-- memory was refused in play: what was written is the opening and the texts of some keys, whole, and not fewer than
+-- were read before the last call; the game went on after them. More was to be made: the text of a key that was read,
+-- or, where the last call gave nothing, the line that says so
 pub record StopsForMemory (script : Script) (told : Told) : Type 0 where
   pub reads : ReadsInTurn script told.reading told.left
   pub reader_is_well : ReaderIsWell told

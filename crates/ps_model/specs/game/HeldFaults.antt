@@ -29,8 +29,8 @@ use Rattle.ps_model.specs.game.Games.{Game, game_read, faults}
 abbrev pub items_of_sides : RuleShape → List (List Item)
 items_of_sides shape = flat_map (λ words. items_of words ∷ []) (cells_of_side shape.left ++ cells_of_side shape.right)
 
--- where the rows of a rule differ, no tree has all its cells: a name twice in a cell of either side, RU5, or `no`
--- before an aggregate, RU6, is a fault of the rule beside that of its rows, RU3
+-- where the rows of a rule differ, RU3, no tree has all its cells. Then a name twice in a cell of either side, RU5, or
+-- `no` before an aggregate, RU6, is a fault beside it
 abbrev pub hidden_by_rows : ℕ → LineForm → List Fault
 hidden_by_rows line StartForm = []
 hidden_by_rows line EndForm = []

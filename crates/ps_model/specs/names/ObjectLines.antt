@@ -44,7 +44,7 @@ abbrev pub lines_below : List Line → ℕ
 lines_below [] = 0
 lines_below (colours ∷ others) = if is_blank_line colours then 0 else suc (sprite_rows others)
 
--- the objects of lines of which the first ones, so many, belong to the object above
+-- the objects of lines of which the first `above` belong to the object above
 abbrev pub objects_below : ℕ → List Line → List ObjectText
 objects_below above [] = []
 objects_below (suc above) (line ∷ others) = objects_below above others

@@ -1,5 +1,5 @@
--- The shape of a rule: `->` parts its line in a left and a right side, brackets part a side in rows and what stands
--- outside them, and bars part a row in cells. Brackets that don't pair, or nest, make no shape.
+-- The shape of a rule: `->` parts its line in a left and a right side. Brackets part a side in rows and what stands
+-- outside them. Bars part a row in cells. Brackets that don't pair, or nest, make no shape.
 use Rattle.std.specs.Prelude.{Bool, true, false, not, Option, Some, None, List, [], ◌∷◌, ◌++◌, map, fold, drop}
 use Rattle.std.specs.Prelude.{slice_index_or}
 use Rattle.std.specs.List.{slice_split, list_any, flat_map}
