@@ -327,6 +327,14 @@ impl TerminalView {
         ensures added { OnOk result (orders.new ≡ orders.old ++ (line_told self.old Ending).bytes) }
     {
         self.told.set_news(&mut self.line);
+        self.draw_last(orders)
+    }
+
+    /// Draws for the last time, and leaves the terminal.
+    fn draw_last(&mut self, orders: &mut Line) -> Result<(), Memory>
+        ensures view { OnOk result (self.new ≡ (left (drawn self.old)).view) }
+        ensures added { OnOk result (orders.new ≡ orders.old ++ (left (drawn self.old)).bytes) }
+    {
         self.draw(orders)?;
         add_closing(self.alloc, self.screen.len(), orders)?;
         self.is_over = true;
