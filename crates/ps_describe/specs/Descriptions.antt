@@ -1,6 +1,6 @@
 -- What a front end needs to know of a game, as JSON: its title, how many levels it has, which keys it ignores, what each
 -- glyph stands for, which glyphs show a Player, and which objects no glyph shows.
-use Rattle.std.specs.Prelude.{◌≡◌, ℕ, nat_eq, Bool, false, Option, Some, None, List, [], ◌∷◌, ◌++◌, if◌then◌else◌, length}
+use Rattle.std.specs.Prelude.{◌≡◌, ℕ, Bool, false, Option, Some, None, List, [], ◌∷◌, ◌++◌, if◌then◌else◌, length}
 use Rattle.std.specs.Prelude.{map, filter, find, codes, encode_utf8, not, ◌&&◌}
 use Rattle.std.specs.List.{list_all, list_any, flat_map, range_with_len}
 use Rattle.ps_model.specs.declared.options.Options.{Options}
@@ -63,7 +63,7 @@ glyph_told names names_declared glyph =
 
 -- an object is that one
 abbrev pub is_that : ObjectId → ObjectId → Bool
-is_that wanted object = same_object object wanted
+is_that wanted other = same_object other wanted
 
 -- a glyph shows that object and no other
 abbrev pub shows_alone : ObjectId → Glyph → Bool
@@ -75,7 +75,7 @@ lacks_glyph names wanted = not (list_any (shows_alone wanted) names.glyphs)
 
 -- the object of that number
 abbrev pub object_of : ℕ → ObjectId
-object_of number = record { _0 = number }
+object_of place = record { 0 = place }
 
 -- the objects that no glyph shows alone, by their numbers
 abbrev pub objects_without_glyph : Names → List ObjectId

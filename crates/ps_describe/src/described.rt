@@ -13,9 +13,9 @@ ghost use Rattle.ps_describe.specs.Descriptions.{object_with, player_characters,
 ghost use Rattle.serde_json.specs.Data.{string};
 ghost use Rattle.serde_json.specs.View.{view};
 
-use crate::glyphs::{glyphs_told, names_told};
+use crate::glyphs::glyphs_told;
 use crate::players::player_characters;
-use crate::without_glyph::objects_without_glyph;
+use crate::without_glyph::names_without_glyph;
 use ps_facts::{Named, declared_names};
 use ps_game::{Game, read_game};
 use ps_levels::Entry;
@@ -116,8 +116,7 @@ fn description(alloc: Global, game: &Game, declared: &[Named<'_>]) -> Result<Val
     let ignored_keys = ignored_keys(alloc, game.options)?;
     let player_glyphs = players_told(alloc, &game.names)?;
     let title = String::from_str(alloc, game.title.as_str())?;
-    let unshown = objects_without_glyph(alloc, &game.names)?;
-    let without_glyph = names_told(alloc, &game.names, declared, &unshown)?;
+    let without_glyph = names_without_glyph(alloc, &game.names, declared)?;
     let parts = Parts {
         glyphs,
         ignored_keys,
