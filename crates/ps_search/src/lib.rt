@@ -9,7 +9,13 @@ mod answers;
 mod expanding;
 mod layers;
 mod moves;
+#[cfg(test)]
+mod puzzles;
 mod searching;
+#[cfg(test)]
+mod tables;
+#[cfg(test)]
+mod tests;
 mod visited;
 mod watchers;
 

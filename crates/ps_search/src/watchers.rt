@@ -8,6 +8,7 @@ pub trait Watcher {
 }
 
 /// Watches nothing, and never stops a search.
+#[derive(Drop)]
 pub struct Unwatched;
 
 impl Watcher for Unwatched {
