@@ -69,6 +69,7 @@ impl<K: Eq + Hash + Drop, I: Copy> Visited<K, I> {
     /// # Errors
     ///
     /// The limit where as many keys are kept and this is another one, or want of memory. All is as before.
+    #[tactic(auto, using(crate::proofs::Known::known))]
     pub(crate) fn note(&mut self, key: K, link: Link<I>) -> Result<(), Refused>
         requires long { length self.old.links.items ≡ length self.old.keys.keys }
         requires within { length self.old.keys.keys ≤ self.old.limit }
