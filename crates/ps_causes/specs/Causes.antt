@@ -6,7 +6,8 @@ use Rattle.std.specs.List.{IsAmong, list_any, starts_with}
 use Rattle.std.specs.Str.{bytes_eq, chars}
 use Rattle.std.specs.Str.Lossy.{utf8_valid_len}
 use Rattle.ps_model.specs.declared.texts.Section.{Section}
-use Rattle.ps_model.specs.declared.texts.Section.TheVariants.{Layers}
+use Rattle.ps_model.specs.declared.texts.Section.TheVariants.{Prelude, Objects, Legend, Sounds, Layers, Rules, Wins}
+use Rattle.ps_model.specs.declared.texts.Section.TheVariants.{Levels}
 use Rattle.ps_model.specs.text.LineNumbers.{line_at, HasLine}
 use Rattle.ps_model.specs.text.Lines.{Line, lines_of, folded}
 use Rattle.ps_model.specs.text.Sections.{rank, header_lines, has_section}
@@ -112,8 +113,20 @@ pub record IsLateHeader (text : List ℕ) (line : ℕ) (header : Word) (section 
 abbrev pub begins : Section → Line → Bool
 begins section line = line.is_header && nat_eq (rank section) (rank line.section)
 
--- no line is a header of the section
+-- a game needs the section
+abbrev pub is_needed : Section → Bool
+is_needed Objects = true
+is_needed Layers = true
+is_needed Levels = true
+is_needed Prelude = false
+is_needed Legend = false
+is_needed Sounds = false
+is_needed Rules = false
+is_needed Wins = false
+
+-- no line is a header of the section, which a game needs
 pub record IsMissing (text : List ℕ) (section : Section) (clue : Clue) : Type 0 where
+  pub needed : is_needed section ≡ true
   pub missing : has_section (header_lines (lines_of text)) section ≡ false
   pub true_clue : IsClue text section clue
 

@@ -4,7 +4,7 @@ ghost use Rattle.std.specs.Prelude.{◌≡◌, ◌++◌, true, false, ℕ, IfOk,
 ghost use Rattle.ps_model.specs.text.LineNumbers.{HasLine, line_at};
 ghost use Rattle.ps_model.specs.text.Lines.{lines_of};
 ghost use Rattle.ps_model.specs.text.Sections.{rank, header_lines, has_section};
-ghost use Rattle.ps_causes.specs.Causes.{IsToldAt, IsLaterHeader, begins};
+ghost use Rattle.ps_causes.specs.Causes.{IsToldAt, IsLaterHeader, begins, is_needed};
 ghost use Rattle.ps_causes.specs.Clues.{IsClue};
 ghost use Rattle.ps_causes.specs.LikeHeaders.{AreLike, IsLikeHeaderOf, header_word, letter, letters, letters_of};
 ghost use Rattle.ps_text.specs.WordViews.{text_of};
@@ -73,7 +73,8 @@ fn has_section(source: &Source, section: Section) -> bool
 
 /// The first of the sections that must be there and isn't.
 fn missing_section(source: &Source) -> Option<Section>
-    ensures { IfSome result (λ section. has_section (header_lines (lines_of source.now)) section ≡ false) }
+    ensures missing { IfSome result (λ section. has_section (header_lines (lines_of source.now)) section ≡ false) }
+    ensures needed { IfSome result (λ section. is_needed section ≡ true) }
 {
     if !has_section(source, Section::Objects) {
         return Some(Section::Objects);

@@ -6,7 +6,8 @@ ghost use Rattle.ps_model.specs.board.Attempts.{Rewritten, rewritten_cell};
 ghost use Rattle.ps_program.specs.ProgramShown.{mask_shown, write_shown};
 ghost use Rattle.ps_board.specs.ColumnSets.{row_fits};
 ghost use Rattle.ps_model.specs.meaning.Compiled.{cell_written};
-ghost use Rattle.ps_match.specs.InRoom.{meaning_of_mask, meaning_of_write, sides_of, write_in_room};
+ghost use Rattle.ps_match.specs.FixedParts.{fixed_part};
+ghost use Rattle.ps_match.specs.InRoom.{meaning_of_mask, meaning_of_write, write_in_room};
 ghost use Rattle.ps_match.specs.Together.{is_on_row, rewritten_where};
 ghost use Rattle.ps_match.specs.Nowhere.{HasMotionsIn, HasMovesIn, HasRowsIn, IsNowhere};
 ghost use Rattle.ps_match.specs.ScannedRows.{AreRowsScanned};
@@ -73,9 +74,7 @@ pub trait Scan: Board {
             let meaning = meaning_of_write (write_in_room (Self.table self.old) (write_shown write.now)) in
             record { grid = Self.grid self.new; changed = result }
             ≡ rewritten_cell before meaning cell (slice_get before.grid.cells cell) }
-        ensures table { Self.table self.new ≡ Self.table self.old }
-        ensures origin { Self.origin self.new ≡ Self.origin self.old }
-        ensures sides { sides_of (Self.grid self.new) ≡ sides_of (Self.grid self.old) };
+        ensures fixed { fixed_part Self.Board self.new ≡ fixed_part Self.Board self.old };
 
     /// Writes the cells of a row of the board whose columns are in a set, and no other cell. It answers whether one of
     /// them changed. Beyond the board's width nothing is written, and an object that has no room on a layer isn't put
@@ -86,7 +85,5 @@ pub trait Scan: Board {
             let becomes = cell_written (write_in_room (Self.table self.old) (write_shown write.now)) in
             record { grid = Self.grid self.new; changed = result }
             ≡ rewritten_where before becomes (is_on_row before.height row columns.now) }
-        ensures table { Self.table self.new ≡ Self.table self.old }
-        ensures origin { Self.origin self.new ≡ Self.origin self.old }
-        ensures sides { sides_of (Self.grid self.new) ≡ sides_of (Self.grid self.old) };
+        ensures fixed { fixed_part Self.Board self.new ≡ fixed_part Self.Board self.old };
 }

@@ -436,7 +436,7 @@ const DESCRIBED: &str =
     {\"glyph\":\"O\",\"objects\":[\"Target\"]},{\"glyph\":\"A\",\"objects\":[\"A\"]},\
     {\"glyph\":\"B\",\"objects\":[\"B\"]},{\"glyph\":\"C\",\"objects\":[\"C\"]},{\"glyph\":\"D\",\"objects\":[\"D\"]},\
     {\"glyph\":\"@\",\"objects\":[\"Crate\",\"Target\"]}],\
-    \"ignored_keys\":[],\"levels\":1,\"player_glyphs\":\"P\",\"title\":\"T\"}\n";
+    \"ignored_keys\":[],\"levels\":1,\"player_glyphs\":\"P\",\"title\":\"T\",\"without_glyph\":[]}\n";
 
 /// Command lines of a front end, and what must come of each.
 const FRONT_END: [(Told, &[Line]); 3] = [
