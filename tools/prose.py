@@ -3,11 +3,12 @@ import io
 import re
 import tokenize
 
-COMMENT = {".rt": re.compile(r"(?:^|\s)//[/!]?(.*)"), ".antt": re.compile(r"(?:^|\s)-- (.*)")}
+SLASHES = re.compile(r"(?:^|\s)//[/!]?(.*)")
+COMMENT = {".rt": SLASHES, ".test": SLASHES, ".antt": re.compile(r"(?:^|\s)-- (.*)")}
 QUOTED = re.compile(r"`[^`\n]*`")
 BLOCK = re.compile(r"^( *)```.*?^ *```", re.S | re.M)
 LINK = re.compile(r"\[([^\]]*)\]\([^)]*\)")
-MARKS = {".rt": "//", ".antt": "-- "}
+MARKS = {".rt": "//", ".test": "//", ".antt": "-- "}
 MARK = re.compile(r"^(?://[/!]?|--) ?")
 RULER = re.compile(r"-{20,}")
 CLAUSE = re.compile(r"[;:]\s")

@@ -33,15 +33,15 @@ NoReadFaultBehindEnding =
     script_of_text text ≡ Some script → (output script (read told.reading)).ending ≢ EndOfKeys →
     Answers text told CannotRead → ⊥
 
--- the game had ended and its whole output is written, and the run answers that it wants memory
+-- the game had ended and its whole output is written, and the run answers that it is out of memory
 abbrev pub NoWantBehindEnding : Type 0
 NoWantBehindEnding =
     (text : List ℕ) (told : Told) (script : Script) →
     script_of_text text ≡ Some script → told.wrote ≡ (output script (all_bytes told)).written →
     Answers text told WantsMemory → ⊥
 
--- something is written, what was read brings no key, no call gave nothing, and the run answers that it wants memory: so
--- neither does one that has called no reader, nor one that has read bytes alone which are no keys
+-- something is written, what was read brings no key, no call gave nothing, and the run answers that it is out of
+-- memory: so neither does one that has called no reader, nor one that has read bytes alone which are no keys
 abbrev pub NoWantWithoutKey : Type 0
 NoWantWithoutKey =
     (text : List ℕ) (told : Told) → told.wrote ≢ [] → keys_of (read told.reading) ≡ [] →

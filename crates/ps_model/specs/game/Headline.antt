@@ -22,8 +22,8 @@ use Rattle.ps_model.specs.game.Tellings.{Told, Tells, bytes_of_call, read_before
 abbrev pub script_of_text : List ℕ → Option Script
 script_of_text text = option_map script_of (game text)
 
--- what a run answers: how it ended; why the text is refused; or that it wants memory, can't read keys, or can't write
--- the output
+-- what a run answers: how it ended; why the text is refused; or that it is out of memory, can't read keys, or can't
+-- write the output
 pub data Answer : Type 0 where
   Ends : Ending → Answer
   Refuses : Fault → Answer
