@@ -64,7 +64,7 @@ module _ {Place Input : Type 0} (next : Place → Input → Option Place) (start
   }
 
   module _ (places : List Place) (links : List (Link Input)) (at end depth : ℕ) (searched : Searched next start inputs places links at end depth) where
-    -- no list of at most so many inputs leads past
+    -- no list of at most `depth` inputs leads past
     pub not_within : NotWithin next start inputs depth
     not_within keys given short past =
         let found = searched.covered keys given short in

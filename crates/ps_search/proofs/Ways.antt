@@ -63,7 +63,7 @@ module _ {Input : Type 0} where
       ap (λ (n : ℕ). get_or (fold with_way (with_way done first) rest) n []) e
       ∙ spelled_later rest (with_way done first) number link at (omega arith)
 
-  -- the list of a link with an input ends with it, behind that of its parent
+  -- the list of a link with an input ends with it, after that of its parent
   pub way-parent : (links : List (Link Input)) (number : ℕ) (link : Link Input) → slice_get links number ≡ Some link → link.parent < number → way links number ≡ way links link.parent ++ option_to_list link.input
   way-parent links number link at h =
       let e : 0 + number ≡ number = omega arith in

@@ -20,7 +20,7 @@ module _ {Place Input Fault : Type 0} (next : Place → Input → Option Place) 
   IsAnswer (Never states) = NeverWins next start inputs × (states ≤ limit)
   IsAnswer (Unknown states depth why) = NotWithin next start inputs depth × (states ≤ limit) × IsReason limit states why
 
--- the keys are told, or want of memory is
+-- the keys are told, or that memory ran out
 abbrev pub IsWon : {Input Fault : Type 0} → List Input → ℕ → ℕ → Found Input Fault → Type 0
 IsWon keys depth count (Won told) = told.items ≡ keys
 IsWon keys depth count (Never states) = ⊥

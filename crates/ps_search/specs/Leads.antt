@@ -24,6 +24,6 @@ module _ {Place Input : Type 0} (next : Place → Input → Option Place) (start
   abbrev pub NeverWins : Type 0
   NeverWins = (keys : List Input) → AreGiven keys → led next start keys ≡ None → ⊥
 
-  -- no list of at most so many inputs leads past
+  -- no list of at most `depth` inputs leads past
   abbrev pub NotWithin : ℕ → Type 0
   NotWithin depth = (keys : List Input) → AreGiven keys → length keys ≤ depth → led next start keys ≡ None → ⊥

@@ -20,8 +20,8 @@ module _ {Place Input : Type 0} (next : Place → Input → Option Place) (start
     pub given : AreGiven next start inputs (way links number)
     pub leads : led next start (way links number) ≡ slice_get places number
 
-  -- Places are numbered as they are met. All that lists of at most `depth` inputs lead to have numbers below `end`, and all
-  -- that one more input leads to from places below `at` have numbers too.
+  -- Places are numbered as they are met. Lists of at most `depth` inputs lead to numbers below `end` alone.
+  -- All that one more input leads to from places below `at` has a number too.
   pub record Searched (places : List Place) (links : List (Link Input)) (at end depth : ℕ) : Type 0 where
     pub long : length links ≡ length places
     pub ordered : AreOrdered links

@@ -79,8 +79,8 @@ fn enter<M: Moves>(
     }
 }
 
-/// Gives each input to the place with the number under work, and keeps the places that they lead to, up to an input
-/// that leads past.
+/// Gives each input to the place with the number under work, up to one that leads past. Keeps the places that they lead
+/// to.
 ///
 /// # Errors
 ///

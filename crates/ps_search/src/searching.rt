@@ -72,8 +72,8 @@ fn won<K: Eq + Hash + Drop, I: Copy, F: Drop>(
 
 /// Searches breadth first for the shortest list of these inputs that leads past, and keeps at most `limit` keys.
 ///
-/// Where memory is wanting, or the watcher stops it, or the graph has a fault of its own, the answer says up to which
-/// length no list leads past.
+/// It may run out of memory, the watcher may stop it, or the graph may have a fault of its own. Then the answer says up
+/// to which length no list leads past.
 pub fn search<M: Moves, W: Watcher>(
     alloc: Global,
     moves: &mut M,

@@ -30,7 +30,7 @@ pub(crate) struct Visited<K: Eq + Hash + Drop, I: Copy> {
     pub limit: u32,
 }
 
-/// Written out, so that a search calls this on each way out, instead of dropping the parts there.
+/// Written out, so that a search calls this on every return path, instead of dropping the parts there.
 impl<K: Eq + Hash + Drop, I: Copy> Drop for Visited<K, I> {
     fn drop(self) {
         let Visited {
@@ -68,7 +68,7 @@ impl<K: Eq + Hash + Drop, I: Copy> Visited<K, I> {
     ///
     /// # Errors
     ///
-    /// The limit where as many keys are kept and this is another one, or want of memory. All is as before.
+    /// The limit where as many keys are kept and this is another one, or `Memory`. All is as before.
     #[tactic(auto, using(crate::proofs::Known::known))]
     pub(crate) fn note(&mut self, key: K, link: Link<I>) -> Result<(), Refused>
         requires long { length self.old.links.items ≡ length self.old.keys.keys }
@@ -103,7 +103,7 @@ impl<K: Eq + Hash + Drop, I: Copy> Visited<K, I> {
     ///
     /// # Errors
     ///
-    /// Want of memory.
+    /// Out of memory.
     pub(crate) fn spell(&self, alloc: Global, number: u32, last: I) -> Result<Vec<I>, AllocError>
         requires ordered { AreOrdered self.now.links.items }
         requires below { number < length self.now.links.items }

@@ -87,7 +87,7 @@ module _ (script : Script) (entry : ℕ) where
   told done left f each None false true m w e first second h = rw (m, w, e, key_told) (each first second h)
   told done left f each None false false m w e first second h = rw (m, w, e, key_told) (inl (both_play entry first second h))
 
-  -- what is told behind the frame of a turn
+  -- what is told after the frame of a turn
   framed : (done : Done) (left : ℕ) (f : Play → Step) → GoAlike entry f →
       GoAlike entry (λ play. key_told script (seen script (with_turn play done)) done left f)
   framed done left f each first second h =
