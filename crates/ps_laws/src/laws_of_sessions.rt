@@ -1,4 +1,5 @@
-//! Laws of sessions: again turns, steps and what they write, the boards of sessions, and scripts that are alike.
+//! Laws of sessions: again turns, steps and what they write, the boards of sessions, scripts that are alike, and by what
+//! a level goes on.
 //!
 //! Each function here is a law: it has no body, and its contract is proved.
 
@@ -12,6 +13,8 @@ ghost use Rattle.ps_laws.specs.SessionSteps.{KeysWriteTheirTexts};
 ghost use Rattle.ps_laws.specs.SessionBoards.{OpeningsHaveBoards, KeysKeepBoards, SessionsHaveBoards};
 ghost use Rattle.ps_laws.specs.AlikeScripts.{AlikeTurns, AlikeOpenings, AlikeKeys, AlikeRuns, AlikeGames};
 ghost use Rattle.ps_laws.specs.AlikeScripts.{AlikeProgramsOfGames};
+ghost use Rattle.ps_laws.specs.SolvingSpots.{SpotsDecide, SpotsAreOfSessions, LevelsAreNotPast, LeftLevelsArePast};
+ghost use Rattle.ps_laws.specs.SolvingSpots.{PastStaysPast, ListsGoBySpots};
 
 /// The again turns of a key, and those of a start, are those of the longest list of turns that count, within their
 /// limit. A message cuts it.
@@ -64,4 +67,16 @@ pub fn alike_scripts()
     ensures runs { AlikeRuns }
     ensures games { AlikeGames }
     ensures programs { AlikeProgramsOfGames }
+{}
+
+/// How a level goes on is decided by its spot: its board, the board that a restart goes back to, and what a waiting
+/// message goes on with. What was done before and the room that is seen make no difference. Who leaves a level is past
+/// it, and stays so; so lists of inputs lead past it where they lead to no spot.
+pub fn solving_spots()
+    ensures decide { SpotsDecide }
+    ensures sessions { SpotsAreOfSessions }
+    ensures here { LevelsAreNotPast }
+    ensures left { LeftLevelsArePast }
+    ensures past { PastStaysPast }
+    ensures lists { ListsGoBySpots }
 {}
