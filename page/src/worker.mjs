@@ -2,6 +2,7 @@
 // message, and a page that has had enough of it ends it.
 import { Answer } from "./answer.mjs";
 import { textOf } from "./bytes.mjs";
+import { unpacked } from "./lzma.mjs";
 import { OutputReader } from "./output.mjs";
 import { OUTPUT, Program, runToEnd } from "./program.mjs";
 
@@ -18,6 +19,7 @@ let game = null;
 class Played {
   #reader = new OutputReader();
   #answer = new Answer(MOST_FRAMES);
+  #said = "";
   #program;
 
   constructor(text, words) {
@@ -26,8 +28,8 @@ class Played {
   }
 
   #take(file, bytes) {
-    if (file !== OUTPUT) return;
-    for (const part of this.#reader.feed(bytes)) this.#answer.add(part);
+    if (file !== OUTPUT) this.#said += textOf(bytes);
+    else for (const part of this.#reader.feed(bytes)) this.#answer.add(part);
   }
 
   type(keys, isReplay) {
@@ -35,9 +37,9 @@ class Played {
     this.#program.type(keys);
   }
 
-  // What the program wrote since it was asked last.
+  // What the program wrote since it was asked last, whether it has ended, and what it said on standard error.
   told() {
-    return { parts: this.#answer.take(), isOver: this.#program.isOver, status: this.#program.status };
+    return { parts: this.#answer.take(), isOver: this.#program.isOver, said: this.#said };
   }
 }
 
@@ -56,9 +58,9 @@ function beginsAtLevels() {
 }
 
 const requests = {
-  async load({ packed }) {
-    engine = await WebAssembly.compile(packed);
-    return { engine };
+  load({ packed, length }) {
+    engine = new WebAssembly.Module(unpacked(packed, length));
+    return { compiled: engine };
   },
   use({ compiled }) {
     engine = compiled;
@@ -81,12 +83,10 @@ const requests = {
 };
 
 // Answers the request that a message brings.
-export async function obey({ number, name, ...request }) {
+onmessage = ({ data: { number, name, ...request } }) => {
   try {
-    postMessage({ number, answer: await requests[name](request) });
+    postMessage({ number, answer: requests[name](request) });
   } catch (error) {
     postMessage({ number, failure: String(error) });
   }
-}
-
-onmessage = (event) => obey(event.data);
+};
