@@ -6,17 +6,19 @@ and exports of functions, classes and constants where they are declared.
 import json
 import re
 
-IMPORT = re.compile(r'^import \{ ([^}]*) \} from "\./([\w.]+)";$', re.M)
+IMPORT = re.compile(r'^import \{ ([^}]*) \} from "(?:\.|\.\.)/(?:\w+/)*([\w.]+)";$', re.M)
+WHERE = re.compile(r'^import .* from "([\w./]+)";$', re.M)
 COMMENT = re.compile(r"^ *//.*\n", re.M)
 EXPORT = re.compile(r"^export (?=(?:async )?(?:function\*?|class|const) (\w+))", re.M)
 
 
-def in_order(folder, name, made):
-    """A module and those that it stands on, each behind those that it stands on itself. Modules in `made` have no file."""
+def in_order(file, made):
+    """The file of a module and those of modules that it stands on, each behind those that it stands on itself. Modules in `made` have
+    no file, but a name."""
     order = []
-    for _, other in [] if name in made else IMPORT.findall((folder / name).read_text()):
-        order += [each for each in in_order(folder, other, made) if each not in order]
-    return [*order, name]
+    for other in [] if file.name in made else WHERE.findall(file.read_text()):
+        order += [each for each in in_order((file.parent / other).resolve(), made) if each not in order]
+    return [*order, file]
 
 
 def as_function(name, text):
@@ -26,10 +28,10 @@ def as_function(name, text):
     return f'modules["{name}"] = (() => {{\n{body}\nreturn {{ {names} }};\n}})();\n'
 
 
-def bundle(folder, name, made=None):
-    """The script of a module and of all that it stands on. `made` has texts of modules that have no file, by their names."""
+def bundle(file, made=None):
+    """The script of a module and of all that it stands on, whose names differ. `made` has texts of modules that have no file."""
     made = made or {}
-    texts = [(each, made.get(each) or (folder / each).read_text()) for each in dict.fromkeys(in_order(folder, name, made))]
+    texts = [(each.name, made.get(each.name) or each.read_text()) for each in dict.fromkeys(in_order(file.resolve(), made))]
     return '"use strict";\nconst modules = {};\n' + "".join(as_function(*each) for each in texts)
 
 

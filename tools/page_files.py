@@ -57,9 +57,9 @@ class Part:
 
 def script_of(engine):
     """The script of pages, with the engine in it."""
-    worker = bundle(PAGE / "src", "worker.mjs")
+    worker = bundle(PAGE / "src/worker.mjs")
     parts = constants(WORKER=worker, ENGINE_LENGTH=len(engine), ENGINE=base64.b64encode(packed(engine)).decode())
-    return Part("\n" + bundle(PAGE / "src", "main.mjs", {"parts.mjs": parts}), "js")
+    return Part("\n" + bundle(PAGE / "src/main.mjs", {"parts.mjs": parts}), "js")
 
 
 def style():
