@@ -12,6 +12,7 @@ import re
 from bundle import bundle, constants, in_script
 from crates import TOP
 from engine import packed
+from letters import letters_of
 
 PAGE = TOP / "page"
 PLACE = re.compile(r"\{\{(\w+)\}\}")
@@ -55,11 +56,15 @@ class Part:
         return f'<script src="{self.name()}"></script>' if self.ending == "js" else f'<link rel="stylesheet" href="{self.name()}">'
 
 
+def engine_constants(engine):
+    """The engine as constants of a module."""
+    return constants(ENGINE=letters_of(packed(engine)), ENGINE_LENGTH=len(engine))
+
+
 def script_of(engine):
     """The script of pages, with the engine in it."""
     worker = bundle(PAGE / "src/worker.mjs")
-    parts = constants(WORKER=worker, ENGINE_LENGTH=len(engine), ENGINE=base64.b64encode(packed(engine)).decode())
-    return Part("\n" + bundle(PAGE / "src/main.mjs", {"parts.mjs": parts}), "js")
+    return Part("\n" + bundle(PAGE / "src/main.mjs", {"parts.mjs": constants(WORKER=worker) + engine_constants(engine)}), "js")
 
 
 def style():

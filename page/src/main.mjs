@@ -1,13 +1,14 @@
 // The page: one game, or a list of games of which one is chosen.
 import { bytesOfBase64 } from "./bytes.mjs";
 import { Helpers } from "./helper.mjs";
+import { bytesOfLetters } from "./letters.mjs";
 import { ENGINE, ENGINE_LENGTH, WORKER } from "./parts.mjs";
 import { Player } from "./player.mjs";
 
 const element = (id) => document.getElementById(id);
 const games = JSON.parse(element("texts").textContent);
 const title = document.title;
-const player = new Player(new Helpers(WORKER, bytesOfBase64(ENGINE), ENGINE_LENGTH));
+const player = new Player(new Helpers(WORKER, bytesOfLetters(ENGINE), ENGINE_LENGTH));
 
 // The game that the address names, or the only one.
 function chosen() {
