@@ -235,3 +235,25 @@ def check_list(page, count):
     expect(page.browser.run("return document.getElementById('list').hidden"), "the list isn't left")
     page.browser.run("history.back(); await new Promise((done) => setTimeout(done, 300))")
     expect(not page.browser.run("return document.getElementById('list').hidden"), "there is no way back to the list")
+
+
+# Presses buttons one after the other, each when the one before has been answered and drawn. Milliseconds for a key, in the median.
+TYPE = """
+const times = [], box = document.getElementById('keys'), channel = new MessageChannel();
+const turn = () => new Promise((done) => { channel.port2.onmessage = done; channel.port1.postMessage(0); });
+for (const key of values[0]) {
+  const length = box.value.length, start = performance.now();
+  document.querySelector(`[data-key=${key}]`).click();
+  while (box.value.length === length) await turn();
+  document.body.getBoundingClientRect();
+  times.push(performance.now() - start);
+}
+return times.sort((a, b) => a - b)[times.length >> 1];
+"""
+
+
+def measure(page, keys):
+    """When the first board is shown, and what a key takes with its drawing."""
+    page.until(lambda state: state["rows"] != [], "the first board")
+    first = page.browser.run("return performance.getEntriesByName('board')[0].startTime")
+    return f"first board after {first:.0f} ms, a key in {page.browser.run(TYPE, keys):.2f} ms with its drawing"

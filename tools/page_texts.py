@@ -1,4 +1,5 @@
 """Texts of games by which pages are checked."""
+import random
 
 HEAD = """title {title}
 
@@ -126,3 +127,12 @@ def large_level(side):
     rows[1] = "#P" + rows[1][2:]
     rows[-2] = rows[-2][:-2] + "+#"
     return HEAD.format(title="Far and wide", message="A sign.") + "\n".join(rows) + "\n"
+
+
+def pushing(side, count):
+    """A game of pushing on a board of that side, with so many keys, which are the same each time."""
+    chance = random.Random(1)
+    rows = [["#" if {x, y} & {0, side - 1} else chance.choice("........**+#") for x in range(side)] for y in range(side)]
+    rows[side // 2][side // 2] = "P"
+    text = HEAD.format(title="Pushing", message="A sign.") + "\n".join(map("".join, rows)) + "\n"
+    return text, "".join(chance.choice("wasd") for _ in range(count))

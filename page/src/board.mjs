@@ -1,6 +1,8 @@
 // The board: a table whose cells show glyphs, and tell readers of screens what they are.
 import { harmless } from "./harmless.mjs";
 
+// The name under which a browser notes when a board is laid out: tools/check_page measures by it.
+const LAID_OUT = "board";
 // What a cell is called that no glyph shows.
 const UNKNOWN = "several objects";
 
@@ -55,6 +57,7 @@ export class Board {
     this.#frame.style.setProperty("--rows", Math.max(1, cells.length));
     this.#frame.style.setProperty("--columns", Math.max(1, ...cells.map((row) => row.length)));
     this.#frame.scrollTo(0, 0);
+    performance.mark(LAID_OUT);
   }
 
   #show(cell, glyph) {
