@@ -10,10 +10,12 @@ const games = JSON.parse(element("texts").textContent);
 const title = document.title;
 const player = new Player(new Helpers(WORKER, bytesOfLetters(ENGINE), ENGINE_LENGTH));
 
+// Where in the page a game is.
+const placeOf = (game) => `#${encodeURIComponent(game.name)}`;
+
 // The game that the address names, or the only one.
 function chosen() {
-  const name = decodeURIComponent(location.hash.slice(1));
-  return games.length === 1 ? games[0] : games.find((game) => game.name === name);
+  return games.length === 1 ? games[0] : games.find((game) => placeOf(game) === location.hash);
 }
 
 // Shows the game that the address names, or the list.
@@ -34,7 +36,7 @@ function listGames() {
   element("games").replaceChildren(...games.map((game) => {
     const [item, link] = [document.createElement("li"), document.createElement("a")];
     link.textContent = game.title;
-    link.href = `#${encodeURIComponent(game.name)}`;
+    link.href = placeOf(game);
     item.append(link);
     return item;
   }));

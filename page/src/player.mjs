@@ -58,8 +58,8 @@ export class Player {
   async #try(bytes, told) {
     told.textContent = "";
     const checked = await this.#wait(this.#checking.check(bytes));
-    this.#checking.end();
     if (checked === null) return;
+    this.#checking.end();
     if (checked.fault !== undefined) {
       told.textContent = harmlessLines(checked.fault);
       this.#text.mark(checked.fault);
@@ -81,7 +81,7 @@ export class Player {
     if (opening === null) return;
     this.#isOpen = true;
     this.#take(opening);
-    if (keys !== "") await this.#wait(this.#run.replay(keys, (answer) => this.#take(answer, true)));
+    if (await this.#wait(this.#run.replay(keys, (answer) => this.#take(answer, true))) === null) return;
     this.#showKeys();
     this.#pump();
   }
@@ -159,6 +159,7 @@ export class Player {
 
   #fail(error) {
     this.#run.end();
+    this.#checking.end();
     this.#isOpen = false;
     element("fault").textContent = `The engine stopped: ${harmless(error.message)}`;
     element("stopped").hidden = false;

@@ -32,7 +32,7 @@ export class Run {
     return this.#ask("type", { keys: bytesOf(key), isReplay: false });
   }
 
-  // Hands it many keys, piece by piece, and calls `told` with what the program wrote for each piece.
+  // Hands it many keys, piece by piece, and calls `told` with what the program wrote for each piece. How many it was handed.
   async replay(keys, told) {
     let answer = { isOver: false };
     const characters = [...keys];
@@ -42,6 +42,7 @@ export class Run {
       answer = await this.#ask("type", { keys: bytesOf(piece), isReplay: true });
       told(answer);
     }
+    return this.keys.length;
   }
 
   // What a check says of a text.
