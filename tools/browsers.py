@@ -76,7 +76,7 @@ class Chromium(Browser):
         super().__init__()
         taken, self.orders = os.pipe()
         self.answers, given = os.pipe()
-        words = [path_of("chromium"), "--headless=new", "--no-sandbox", "--disable-gpu", "--disable-dev-shm-usage", "--no-first-run",
+        words = [path_of("chromium"), "--headless=new", "--no-sandbox", "--disable-gpu", "--disable-dev-shm-usage", "--no-first-run", "--hide-scrollbars",
                  "--remote-debugging-pipe", f"--user-data-dir={self.room.name}/profile", "about:blank"]
         script = 'exec 3<&"$1" 4>&"$2"; shift 2; exec "$@"'
         self.begin(["bash", "-c", script, "bash", str(taken), str(given), *words], pass_fds=(taken, given))

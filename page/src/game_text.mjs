@@ -30,12 +30,13 @@ export class GameText {
     this.bytes = bytes;
   }
 
-  // Marks the line of a fault, as the player tells it.
+  // Marks the line of a fault, as the player tells it, and brings it into sight.
   mark(fault) {
     const number = Number(/^line (\d+):/.exec(fault)?.[1] ?? 0);
     const lines = this.#box.value.split("\n");
     if (number < 1 || number > lines.length) return;
     const start = lines.slice(0, number - 1).reduce((length, line) => length + line.length + 1, 0);
     this.#box.setSelectionRange(start, start + lines[number - 1].length);
+    this.#box.scrollTop = (this.#box.scrollHeight / lines.length) * number - this.#box.clientHeight / 2;
   }
 }
