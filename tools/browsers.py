@@ -7,6 +7,7 @@ import base64
 import json
 import os
 import pathlib
+import select
 import shutil
 import signal
 import socket
@@ -54,8 +55,8 @@ class Browser:
 
     def begin(self, words, **more):
         """Starts the program in a group of its own, which is ended with it."""
-        self.process = subprocess.Popen(words, env=environment(self.room.name), stdin=subprocess.DEVNULL, stdout=subprocess.DEVNULL,
-                                        stderr=subprocess.DEVNULL, start_new_session=True, **more)
+        nothing = dict.fromkeys(("stdin", "stdout", "stderr"), subprocess.DEVNULL)
+        self.process = subprocess.Popen(words, env=environment(self.room.name), start_new_session=True, **nothing, **more)
 
     def end(self):
         if self.process:
@@ -76,13 +77,14 @@ class Chromium(Browser):
         super().__init__()
         taken, self.orders = os.pipe()
         self.answers, given = os.pipe()
-        words = [path_of("chromium"), "--headless=new", "--no-sandbox", "--disable-gpu", "--disable-dev-shm-usage", "--no-first-run", "--hide-scrollbars",
-                 "--remote-debugging-pipe", f"--user-data-dir={self.room.name}/profile", "about:blank"]
+        words = [path_of("chromium"), "--headless=new", "--no-sandbox", "--disable-gpu", "--disable-dev-shm-usage", "--no-first-run",
+                 "--hide-scrollbars", "--remote-debugging-pipe", f"--user-data-dir={self.room.name}/profile", "about:blank"]
         script = 'exec 3<&"$1" 4>&"$2"; shift 2; exec "$@"'
-        self.begin(["bash", "-c", script, "bash", str(taken), str(given), *words], pass_fds=(taken, given))
+        numbers = [str(taken), str(given)]
+        self.begin(["bash", "-c", script, "bash", *numbers, *words], pass_fds=(taken, given))
         os.close(taken)
         os.close(given)
-        self.left, self.number, self.session, self.errors = b"", 0, None, []
+        self.left, self.number, self.session, self.errors, self.is_loaded = b"", 0, None, [], False
         target = next(one for one in self.targets() if one["type"] == "page")
         self.session = self.order("Target.attachToTarget", targetId=target["targetId"], flatten=True)["sessionId"]
         for domain in ("Page", "Runtime", "Log"):
@@ -100,6 +102,8 @@ class Chromium(Browser):
     def message(self):
         """The next message of the browser."""
         while b"\0" not in self.left:
+            if not select.select([self.answers], [], [], ANSWERS_IN)[0]:
+                raise Broken("Chromium doesn't answer")
             more = os.read(self.answers, 1 << 20)
             if not more:
                 raise Broken("Chromium has ended")
@@ -107,25 +111,34 @@ class Chromium(Browser):
         said, _, self.left = self.left.partition(b"\0")
         return json.loads(said)
 
+    def note(self, said):
+        """Keeps of a message what the browser complains of, and whether a page is loaded."""
+        words = said.get("params", {})
+        if said.get("method") == "Log.entryAdded":
+            self.errors.append(words["entry"]["text"])
+        elif said.get("method") == "Runtime.exceptionThrown":
+            self.errors.append(words["exceptionDetails"].get("exception", {}).get("description", "an error"))
+        elif said.get("method") == "Page.loadEventFired":
+            self.is_loaded = True
+
     def order(self, method, **words):
-        """Gives an order, and waits for its answer. What the browser complains of meanwhile is kept in `errors`."""
+        """Gives an order, and waits for its answer."""
         self.number += 1
         told = {"id": self.number, "method": method, "params": words} | ({"sessionId": self.session} if self.session else {})
         os.write(self.orders, json.dumps(told).encode() + b"\0")
         while True:
             said = self.message()
-            if said.get("method") == "Log.entryAdded":
-                self.errors.append(said["params"]["entry"]["text"])
-            elif said.get("method") == "Runtime.exceptionThrown":
-                self.errors.append(said["params"]["exceptionDetails"].get("exception", {}).get("description", "an error"))
-            elif said.get("id") == self.number:
+            self.note(said)
+            if said.get("id") == self.number:
                 if "error" in said:
                     raise Broken(f"{method}: {said['error']['message']}")
                 return said["result"]
 
     def open(self, address):
-        self.order("Page.navigate", url=address)
-        self.run("return new Promise((done) => document.readyState === 'complete' ? done() : addEventListener('load', () => done()))")
+        self.is_loaded = False
+        is_other = "loaderId" in self.order("Page.navigate", url=address)
+        while is_other and not self.is_loaded:
+            self.note(self.message())
 
     def run(self, script, *values):
         """Runs the body of an asynchronous function, whose parameters are `values`. What it answers."""
@@ -161,17 +174,17 @@ class Chromium(Browser):
 
 
 class Firefox(Browser):
-    """Firefox. It listens at a port of this machine that it is told, and each message begins with its length."""
+    """Firefox. It listens at a port of this machine, and each message begins with its length."""
 
-    def __init__(self, **settings):
+    def __init__(self):
         super().__init__()
         with socket.socket() as free:
             free.bind(("127.0.0.1", 0))
             port = free.getsockname()[1]
         profile = pathlib.Path(self.room.name) / "profile"
         profile.mkdir()
-        settings = {"marionette.port": port, "browser.shell.checkDefaultBrowser": False, "datareporting.policy.dataSubmissionEnabled": False,
-                    "app.update.enabled": False, "dom.w3c_touch_events.enabled": 1, **settings}
+        settings = {"marionette.port": port, "browser.shell.checkDefaultBrowser": False, "app.update.enabled": False,
+                    "datareporting.policy.dataSubmissionEnabled": False, "dom.w3c_touch_events.enabled": 1}
         lines = (f'user_pref("{name}", {json.dumps(value)});\n' for name, value in settings.items())
         (profile / "user.js").write_text("".join(lines))
         self.begin([path_of("firefox"), "--headless", "--marionette", "--no-remote", "--profile", str(profile)])
@@ -230,8 +243,10 @@ class Firefox(Browser):
             {"type": "keyDown", "value": value}, {"type": "keyUp", "value": value}]}])
 
     def touch(self, x, y):
-        self.order("WebDriver:PerformActions", actions=[{"type": "pointer", "id": "finger", "parameters": {"pointerType": "touch"}, "actions": [
-            {"type": "pointerMove", "x": round(x), "y": round(y)}, {"type": "pointerDown", "button": 0}, {"type": "pointerUp", "button": 0}]}])
+        pressed = [{"type": kind, "button": 0} for kind in ("pointerDown", "pointerUp")]
+        steps = [{"type": "pointerMove", "x": round(x), "y": round(y)}, *pressed]
+        finger = {"type": "pointer", "id": "finger", "parameters": {"pointerType": "touch"}, "actions": steps}
+        self.order("WebDriver:PerformActions", actions=[finger])
 
     def look(self, width, height, is_phone=False, is_dark=False, is_still=False):
         """A window whose page has that size. What a reader wants is settled when this browser begins."""

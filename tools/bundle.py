@@ -1,7 +1,8 @@
 """Joins modules of JavaScript to one script, so that a page is one file.
 
-Each module becomes a function that gives what it exports. Lines of comments stay behind: they are a tenth of a page's script. What a module may have is plain: imports of names from modules beside it,
-and exports of functions, classes and constants where they are declared.
+Each module becomes a function that gives what it exports. Lines of comments stay behind, as a page is to be small. What a module may
+have is plain: imports of names from other modules, one line each, and exports of functions, classes and constants where they are
+declared.
 """
 import json
 import re

@@ -38,9 +38,9 @@ STACK = 4 << 20
 MOST_MEMORY = 1 << 32
 LINK = f"""-flavor wasm -mwasm64 --no-entry --stack-first -z stack-size={STACK} --max-memory={MOST_MEMORY} --export-memory
     --gc-sections --strip-all --threads=1""".split()
-# The program is parked in a call of read_keys. No function on the way there is called by a pointer.
+# The program is parked in a call of read_keys.
 OPTIMISE = """--enable-bulk-memory --enable-mutable-globals --enable-nontrapping-float-to-int --enable-sign-ext --enable-multivalue
-    --asyncify --pass-arg=asyncify-imports@host.read_keys --pass-arg=asyncify-ignore-indirect -Oz""".split()
+    --asyncify --pass-arg=asyncify-imports@host.read_keys -Oz""".split()
 # The literal bits and the window with which an engine packs best.
 PACKING = {"id": lzma.FILTER_LZMA1, "preset": 9 | lzma.PRESET_EXTREME, "lc": 4, "lp": 0, "pb": 0, "dict_size": 1 << 21}
 
@@ -96,8 +96,6 @@ def compiled(kit, room, parts):
 
 def build(out):
     """Builds the engine into a file. Raises Unbuilt."""
-    if shutil.which("wasm-opt") is None:
-        raise Unbuilt("wasm-opt isn't there, which lets a program wait for keys: install binaryen (version 108 or later)")
     kit = toolchain()
     with tempfile.TemporaryDirectory() as folder:
         room = pathlib.Path(folder)
@@ -112,6 +110,15 @@ def build(out):
             raise Unbuilt(f"the linker wrote something that isn't known here: {what}") from what
         run(["wasm-opt", *OPTIMISE, narrow, "-o", made])
         shutil.move(made, out)
+
+
+def lacking():
+    """What is to be installed before an engine can be built, in a line; nothing where all is there."""
+    if shutil.which("rt") is None:
+        return "the toolchain's command rt isn't there, which builds the engine of pages"
+    if shutil.which("wasm-opt") is None:
+        return "wasm-opt isn't there, which lets the engine of pages wait for keys: install binaryen, version 108 or later"
+    return ""
 
 
 def is_current(out):

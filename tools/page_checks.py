@@ -219,10 +219,12 @@ def check_hostile(page, title):
     expect(state["title"] == title and state["heading"] == title.strip(), f"the title: {state['title']!r}, {state['heading']!r}")
     page.browser.press("d")
     state = page.until(lambda state: state["waits"], "the hostile message")
-    expect("<img src=x" in state["said"] and "\u2067" not in state["said"] and "\x07" not in state["said"], f"the message: {state['said']!r}")
+    said = state["said"]
+    expect("<img src=x" in said and "\u2067" not in said and "\x07" not in said, f"the message: {said!r}")
     expect(state.get("broken") is None, f"a text did something: {state}")
     expect(page.browser.run("return document.images.length + document.scripts.length") <= 2, "an element came from a text")
-    asked = page.browser.run("return performance.getEntriesByType('resource').map((one) => one.name).filter((name) => !name.startsWith('blob:'))")
+    asked = page.browser.run("return performance.getEntriesByType('resource').map((one) => one.name)")
+    asked = [name for name in asked if not name.startswith("blob:")]
     expect(asked == [], f"the page asked for {asked}")
 
 
