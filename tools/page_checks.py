@@ -133,6 +133,20 @@ def check_replay(page):
     past_hello(page)
 
 
+def check_levels(page):
+    """A game begins at any level, where the player has the option for it."""
+    past_hello(page)
+    if page.browser.run("return document.getElementById('level-part').hidden"):
+        return "but the player has no option --level"
+    page.browser.run("document.getElementById('levels').value = '2'; document.getElementById('begin').click()")
+    page.until(lambda state: state["rows"][1:2] == ["#o...m.#"] and state["keys"] == "", "level 2")
+    page.replay("a")
+    page.until(lambda state: state["rows"][2:3] == ["#P.*..+#"] and state["level"] == "Level 2 of 2", "the same board behind a key")
+    page.click("begin")
+    page.until(lambda state: state["keys"] == "" and state["level"] == "Level 2 of 2", "level 2 once more")
+    return ""
+
+
 # The rows of the roller that a page shows from now on.
 WATCH = """
 window.seen = [];
