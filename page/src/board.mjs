@@ -51,7 +51,8 @@ export class Board {
     this.clear();
     for (const row of cells) {
       const line = this.#table.insertRow();
-      for (const _ of row) line.insertCell();
+      line.setAttribute("role", "row");
+      for (const _ of row) line.insertCell().setAttribute("role", "cell");
     }
     this.#shown = cells.map((row) => row.map(() => ""));
     this.#frame.style.setProperty("--rows", Math.max(1, cells.length));
