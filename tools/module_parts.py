@@ -148,9 +148,8 @@ def plays(top):
     return not NOT_AT_PLAY.match(top)
 
 
-def members_of(pieces, head, top, own):
-    """What a part has: its own pieces, copies, and those of other parts that it mentions."""
-    most = MOST_COPIED_AT_PLAY if plays(top) else MOST_COPIED
+def members_of(pieces, head, top, own, most):
+    """What a part has: its own pieces, copies of others of at most so many lines, and those of other parts that it mentions."""
     copies, named = set(), set()
     walk = [other for name in own for other in pieces[name].mentions]
     while walk:
@@ -165,15 +164,17 @@ def members_of(pieces, head, top, own):
     return copies, named
 
 
-def cut(lines):
-    """The parts of a module, the largest first."""
+def cut(lines, most_at_play=MOST_COPIED_AT_PLAY, most_elsewhere=MOST_COPIED):
+    """The parts of a module, the largest first. Functions of at most so many lines are copied, the first number for parts that play
+    keys."""
     pieces, others = read_pieces(lines)
     order = finished_order(pieces)
     head = heads_of(pieces, order, dominators(pieces, order))
     owned = {}
     for name in order:
         owned.setdefault(head[name], set()).add(name)
-    members = {top: (own, *members_of(pieces, head, top, own)) for top, own in owned.items()}
+    most = {top: most_at_play if plays(top) else most_elsewhere for top in owned}
+    members = {top: (own, *members_of(pieces, head, top, own, most[top])) for top, own in owned.items()}
     exported = {name for _, _, named in members.values() for name in named}
     parts = [Part(lines_of(pieces, others, exported, *sets), plays(top)) for top, sets in members.items()]
     return sorted(parts, key=lambda part: -len(part.lines))

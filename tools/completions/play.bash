@@ -24,7 +24,11 @@ _play() {
         compopt -o filenames 2>/dev/null
         return
         ;;
-    --install)
+    --title)
+        COMPREPLY=()
+        return
+        ;;
+    --install | --engine)
         mapfile -t COMPREPLY < <(compgen -d -- "$word")
         compopt -o filenames 2>/dev/null
         return
@@ -33,7 +37,7 @@ _play() {
     options='--level --fresh --plain --check --why --help --version'
     case ${COMP_WORDS[0]##*/} in
     ps_play) options+=' --keys --view --sizes --show --describe --explain' ;;
-    *) options+=' --prove --keep --install' ;;
+    *) options+=' --page --title --engine --prove --keep --install' ;;
     esac
     case $word in
     -*) mapfile -t COMPREPLY < <(compgen -W "$options" -- "$word") ;;
