@@ -83,7 +83,9 @@ pub fn search<M: Moves, W: Watcher>(
     limit: u32,
     watcher: &mut W,
 ) -> Found<M::Input, M::Fault>
-    ensures { IsAnswer (M.next moves.old) (M.start moves.old) inputs.now limit result }
+    ensures answer { IsAnswer (M.next moves.old) (M.start moves.old) inputs.now limit result }
+    ensures next { M.next moves.new ≡ M.next moves.old }
+    ensures start { M.start moves.new ≡ M.start moves.old }
 {
     let mut visited = match begin(alloc, moves, inputs, limit) {
         Ok(visited) => visited,

@@ -1,6 +1,6 @@
 //! The places that a search has met, numbered as they are met.
 
-ghost use Rattle.std.specs.Prelude.{◌≡◌, ◌<◌, ◌≤◌, ◌^◌, ◌∷◌, ◌++◌, [], true, length, Option, Some, slice_get, IfErr, OnErr, IfOk, OnOk};
+ghost use Rattle.std.specs.Prelude.{◌≡◌, ◌<◌, ◌≤◌, ◌∷◌, ◌++◌, [], length, IfErr, OnErr, IfOk, OnOk};
 ghost use Rattle.ps_search.specs.Ways.{way, AreOrdered};
 ghost use Rattle.ps_search.specs.Noted.{IsNoted, IsRefusal};
 
