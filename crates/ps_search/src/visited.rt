@@ -30,7 +30,7 @@ pub(crate) struct Visited<K: Eq + Hash + Drop, I: Copy> {
     pub limit: u32,
 }
 
-/// Written out, so that a search calls this on each way out, instead of dropping the parts there.
+/// Written out, so that a search calls this on every return path, instead of dropping the parts there.
 impl<K: Eq + Hash + Drop, I: Copy> Drop for Visited<K, I> {
     fn drop(self) {
         let Visited {

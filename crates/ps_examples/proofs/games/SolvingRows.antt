@@ -1,5 +1,5 @@
--- Levels that are solved, worked by hand: a crate that one push brings onto a target, one that can't be moved, and a level
--- that is won on a board that the key leaves as it is.
+-- Levels that are solved, worked by hand. One push brings a crate onto a target. One crate can't be moved. One level is won
+-- on a board that the key leaves as it is.
 use Rattle.std.proofs.Common.{◌≡◌, ◌⊎◌, inl, inr, ap, ℕ, List, [], ◌∷◌, refl, Option, Some, None, true, false, true≢false, sym, ◌≤◌, length, arith, is_none, ◌∙◌}
 use Rattle.std.specs.Prelude.{codes}
 use Rattle.std.specs.Option.{option_and_then}
