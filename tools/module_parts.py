@@ -149,7 +149,7 @@ def plays(top):
 
 
 def members_of(pieces, head, top, own, most):
-    """What a part has: its own pieces, copies of others of at most so many lines, and those of other parts that it mentions."""
+    """What a part has: its own pieces, copies of others up to a number of lines, and those of other parts that it mentions."""
     copies, named = set(), set()
     walk = [other for name in own for other in pieces[name].mentions]
     while walk:
@@ -165,7 +165,7 @@ def members_of(pieces, head, top, own, most):
 
 
 def cut(lines, most_at_play=MOST_COPIED_AT_PLAY, most_elsewhere=MOST_COPIED):
-    """The parts of a module, the largest first. Functions of at most so many lines are copied, the first number for parts that play
+    """The parts of a module, the largest first. Functions up to a number of lines are copied, the first number for parts that play
     keys."""
     pieces, others = read_pieces(lines)
     order = finished_order(pieces)
