@@ -169,8 +169,12 @@ class Chromium(Browser):
             {"name": "prefers-color-scheme", "value": "dark" if is_dark else "light"},
             {"name": "prefers-reduced-motion", "value": "reduce" if is_still else "no-preference"}])
 
-    def picture(self, file):
-        pathlib.Path(file).write_bytes(base64.b64decode(self.order("Page.captureScreenshot")["data"]))
+    def picture(self, file, selector="html"):
+        """Leaves a picture of the page, from its top down to the end of an element."""
+        ends = "const end = document.querySelector(values[0]).getBoundingClientRect().bottom + 12;"
+        width, height = self.run(f"{ends} return [innerWidth, Math.min(innerHeight, end)]", selector)
+        clip = {"x": 0, "y": 0, "width": width, "height": height, "scale": 1}
+        pathlib.Path(file).write_bytes(base64.b64decode(self.order("Page.captureScreenshot", clip=clip)["data"]))
 
 
 class Firefox(Browser):
@@ -254,5 +258,6 @@ class Firefox(Browser):
         self.order("WebDriver:SetWindowRect", width=width + outer[0], height=height + outer[1])
 
     def picture(self, file):
+        """Leaves a picture of the page as far as it is in the window."""
         said = self.order("WebDriver:TakeScreenshot", full=False)
         pathlib.Path(file).write_bytes(base64.b64decode(said["value"]))

@@ -72,9 +72,10 @@ export class Board {
     if (frame.scrollWidth <= frame.clientWidth && frame.scrollHeight <= frame.clientHeight) return;
     const y = cells.findIndex((row) => row.some((glyph) => this.#players.has(glyph)));
     if (y < 0) return;
-    const cell = this.#table.rows[y].cells[cells[y].findIndex((glyph) => this.#players.has(glyph))];
-    const left = placeInSight(frame.scrollLeft, frame.clientWidth, cell.offsetLeft, cell.offsetWidth);
-    const top = placeInSight(frame.scrollTop, frame.clientHeight, cell.offsetTop, cell.offsetHeight);
+    const cell = this.#table.rows[y].cells[cells[y].findIndex((glyph) => this.#players.has(glyph))].getBoundingClientRect();
+    const board = this.#table.getBoundingClientRect();
+    const left = placeInSight(frame.scrollLeft, frame.clientWidth, cell.left - board.left, cell.width);
+    const top = placeInSight(frame.scrollTop, frame.clientHeight, cell.top - board.top, cell.height);
     frame.scrollTo(left, top);
   }
 }

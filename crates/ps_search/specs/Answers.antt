@@ -16,13 +16,13 @@ IsReason limit states (Moves fault) = Unit {0}
 module _ {Place Input Fault : Type 0} (next : Place → Input → Option Place) (start : Place) (inputs : List Input) (limit : ℕ) where
   -- the answer is true of the graph, and keeps the limit
   abbrev pub IsAnswer : Found Input Fault → Type 0
-  IsAnswer (Won keys) = WinsInFewest next start inputs keys.items
+  IsAnswer (Won found) = WinsInFewest next start inputs found.items
   IsAnswer (Never states) = NeverWins next start inputs × (states ≤ limit)
   IsAnswer (Unknown states depth why) = NotWithin next start inputs depth × (states ≤ limit) × IsReason limit states why
 
--- the keys are told, or that memory ran out
+-- the list is told, or that memory ran out
 abbrev pub IsWon : {Input Fault : Type 0} → List Input → ℕ → ℕ → Found Input Fault → Type 0
-IsWon keys depth count (Won told) = told.items ≡ keys
-IsWon keys depth count (Never states) = ⊥
-IsWon keys depth count (Unknown states told Memory) = (states ≡ count) × (told ≡ depth)
-IsWon keys depth count (Unknown states told why) = ⊥
+IsWon won depth count (Won told) = told.items ≡ won
+IsWon won depth count (Never states) = ⊥
+IsWon won depth count (Unknown states told Memory) = (states ≡ count) × (told ≡ depth)
+IsWon won depth count (Unknown states told why) = ⊥

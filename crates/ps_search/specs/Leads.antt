@@ -12,18 +12,18 @@ module _ {Place Input : Type 0} (next : Place → Input → Option Place) where
 module _ {Place Input : Type 0} (next : Place → Input → Option Place) (start : Place) (inputs : List Input) where
   -- a list of the inputs that may be given
   abbrev pub AreGiven : List Input → Type 0
-  AreGiven keys = All (Contains inputs) keys
+  AreGiven list = All (Contains inputs) list
 
-  -- the keys lead past, and no list of fewer does
-  pub record WinsInFewest (keys : List Input) : Type 0 where
-    pub given : AreGiven keys
-    pub wins : led next start keys ≡ None
-    pub fewest : (others : List Input) → AreGiven others → led next start others ≡ None → length keys ≤ length others
+  -- the list leads past, and no shorter one does
+  pub record WinsInFewest (list : List Input) : Type 0 where
+    pub given : AreGiven list
+    pub wins : led next start list ≡ None
+    pub fewest : (others : List Input) → AreGiven others → led next start others ≡ None → length list ≤ length others
 
   -- no list leads past
   abbrev pub NeverWins : Type 0
-  NeverWins = (keys : List Input) → AreGiven keys → led next start keys ≡ None → ⊥
+  NeverWins = (list : List Input) → AreGiven list → led next start list ≡ None → ⊥
 
   -- no list of at most `depth` inputs leads past
   abbrev pub NotWithin : ℕ → Type 0
-  NotWithin depth = (keys : List Input) → AreGiven keys → length keys ≤ depth → led next start keys ≡ None → ⊥
+  NotWithin depth = (list : List Input) → AreGiven list → length list ≤ depth → led next start list ≡ None → ⊥

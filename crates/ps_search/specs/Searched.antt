@@ -28,8 +28,8 @@ module _ {Place Input : Type 0} (next : Place → Input → Option Place) (start
     pub spelled : (number : ℕ) → number < length places → IsSpelled places links number
     pub shallow : (number : ℕ) → number < end → length (way links number) ≤ depth
     pub deeper : (number : ℕ) → number < length places → length (way links number) ≤ depth + 1
-    pub covered : (keys : List Input) → AreGiven next start inputs keys → length keys ≤ depth
-        → (number : ℕ) × (number < end) × (led next start keys ≡ slice_get places number)
+    pub covered : (list : List Input) → AreGiven next start inputs list → length list ≤ depth
+        → (number : ℕ) × (number < end) × (led next start list ≡ slice_get places number)
     pub closed : (number : ℕ) (place : Place) → number < at → slice_get places number ≡ Some place
         → (input : Input) → Contains inputs input → IsNumbered places (next place input)
     pub within : end ≤ length places

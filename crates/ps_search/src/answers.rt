@@ -1,17 +1,17 @@
 //! What a search finds.
 
-/// What a search has found. Lists are lists of the inputs that it was given.
+/// What a search has found. Its lists are made of the inputs that the search was given.
 #[derive(Drop)]
 pub enum Found<I, F> {
     /// These inputs lead past, in this order, and no shorter list does.
     Won {
-        keys: Vec<I>,
+        inputs: Vec<I>,
     },
-    /// No list leads past; this many keys stand for all places that lists lead to.
+    /// No list leads past; `states` keys stand for all places that lists lead to.
     Never {
         states: u32,
     },
-    /// No list of at most `depth` inputs leads past; this many keys were kept when the search stopped.
+    /// No list of at most `depth` inputs leads past; `states` keys were kept when the search stopped.
     Unknown {
         states: u32,
         depth: u32,
@@ -22,7 +22,7 @@ pub enum Found<I, F> {
 /// Why a search doesn't know whether a list leads past.
 #[derive(Drop)]
 pub enum Why<F> {
-    /// It kept as many keys as it may, and met one more.
+    /// It kept as many keys as the limit allows, and met one more.
     Limit,
     /// It ran out of memory.
     Memory,

@@ -22,12 +22,17 @@ fn advance<M: Moves>(
     layer: Layer,
     input: M::Input,
 ) -> Result<bool, Why<M::Fault>>
-    requires work { UnderWork (M.next moves.old) (M.start moves.old) inputs.now (M.is_key moves.old) (M.place moves.old) (M.here moves.old) visited.old.keys.keys visited.old.links.items layer.at layer.end layer.depth }
+    requires work { UnderWork (M.next moves.old) (M.start moves.old) inputs.now (M.is_key moves.old) (M.place
+        moves.old) (M.here moves.old) visited.old.keys.keys visited.old.links.items layer.at layer.end layer.depth }
     requires given { Contains inputs.now input }
     requires within { length visited.old.keys.keys ≤ visited.old.limit }
-    ensures work { OnOk result (UnderWork (M.next moves.old) (M.start moves.old) inputs.now (M.is_key moves.new) (M.place moves.new) (M.here moves.old) visited.new.keys.keys visited.new.links.items layer.at layer.end layer.depth) }
-    ensures numbered { OnOk result ((place : Option M.Place) → IsNumbered (map (M.place moves.old) visited.old.keys.keys) place → IsNumbered (map (M.place moves.new) visited.new.keys.keys) place) }
-    ensures led { IfOk result (IsLed (map (M.place moves.new) visited.new.keys.keys) (M.next moves.old (M.here moves.old) input)) }
+    ensures work { OnOk result (UnderWork (M.next moves.old) (M.start moves.old) inputs.now (M.is_key moves.new)
+        (M.place moves.new) (M.here moves.old) visited.new.keys.keys visited.new.links.items layer.at layer.end
+        layer.depth) }
+    ensures numbered { OnOk result ((place : Option M.Place) → IsNumbered (map (M.place moves.old)
+        visited.old.keys.keys) place → IsNumbered (map (M.place moves.new) visited.new.keys.keys) place) }
+    ensures led { IfOk result (IsLed (map (M.place moves.new) visited.new.keys.keys) (M.next moves.old (M.here
+        moves.old) input)) }
     ensures here { OnOk result (M.here moves.new ≡ M.here moves.old) }
     ensures next { M.next moves.new ≡ M.next moves.old }
     ensures start { M.start moves.new ≡ M.start moves.old }
@@ -64,9 +69,12 @@ fn enter<M: Moves>(
     visited: &Visited<M::Key, M::Input>,
     layer: Layer,
 ) -> Result<(), M::Fault>
-    requires kept { Kept (M.next moves.old) (M.start moves.old) inputs.now (M.is_key moves.old) (M.place moves.old) visited.now.keys.keys visited.now.links.items layer.at layer.end layer.depth }
+    requires kept { Kept (M.next moves.old) (M.start moves.old) inputs.now (M.is_key moves.old) (M.place moves.old)
+        visited.now.keys.keys visited.now.links.items layer.at layer.end layer.depth }
     requires below { layer.at < layer.end }
-    ensures work { OnOk result (UnderWork (M.next moves.old) (M.start moves.old) inputs.now (M.is_key moves.new) (M.place moves.new) (M.here moves.new) visited.now.keys.keys visited.now.links.items layer.at layer.end layer.depth) }
+    ensures work { OnOk result (UnderWork (M.next moves.old) (M.start moves.old) inputs.now (M.is_key moves.new)
+        (M.place moves.new) (M.here moves.new) visited.now.keys.keys visited.now.links.items layer.at layer.end
+        layer.depth) }
     ensures next { M.next moves.new ≡ M.next moves.old }
     ensures start { M.start moves.new ≡ M.start moves.old }
 {
@@ -91,10 +99,12 @@ pub(crate) fn expand<M: Moves>(
     visited: &mut Visited<M::Key, M::Input>,
     layer: Layer,
 ) -> Result<Option<M::Input>, Why<M::Fault>>
-    requires kept { Kept (M.next moves.old) (M.start moves.old) inputs.now (M.is_key moves.old) (M.place moves.old) visited.old.keys.keys visited.old.links.items layer.at layer.end layer.depth }
+    requires kept { Kept (M.next moves.old) (M.start moves.old) inputs.now (M.is_key moves.old) (M.place moves.old)
+        visited.old.keys.keys visited.old.links.items layer.at layer.end layer.depth }
     requires below { layer.at < layer.end }
     requires within { length visited.old.keys.keys ≤ visited.old.limit }
-    ensures done { IfOk result (IsDone (M.next moves.old) (M.start moves.old) inputs.now (M.is_key moves.new) (M.place moves.new) visited.new.keys.keys visited.new.links.items layer.at layer.end layer.depth) }
+    ensures done { IfOk result (IsDone (M.next moves.old) (M.start moves.old) inputs.now (M.is_key moves.new)
+        (M.place moves.new) visited.new.keys.keys visited.new.links.items layer.at layer.end layer.depth) }
     ensures next { M.next moves.new ≡ M.next moves.old }
     ensures start { M.start moves.new ≡ M.start moves.old }
     ensures within { length visited.new.keys.keys ≤ visited.new.limit }

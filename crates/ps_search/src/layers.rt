@@ -16,7 +16,8 @@ impl Layer {
         requires at { self.at + 1 < 2 ^ 32 }
         requires depth { self.depth + 1 < 2 ^ 32 }
         ensures at { result.at ≡ self.at + 1 }
-        ensures layer { ((self.at + 1 ≢ self.end) × (result.end ≡ self.end) × (result.depth ≡ self.depth)) ⊎ ((self.at + 1 ≡ self.end) × (result.end ≡ count) × (result.depth ≡ self.depth + 1)) }
+        ensures layer { ((self.at + 1 ≢ self.end) × (result.end ≡ self.end) × (result.depth ≡ self.depth)) ⊎
+            ((self.at + 1 ≡ self.end) × (result.end ≡ count) × (result.depth ≡ self.depth + 1)) }
     {
         let at = self.at + 1;
         if at == self.end {

@@ -54,7 +54,8 @@ pub trait Moves {
         ensures start { IfOk result (λ key. place self.new key ≡ start self.old) }
         ensures next { next self.new ≡ next self.old }
         ensures begins { start self.new ≡ start self.old }
-        ensures kept { (key : Self.Key) → is_key self.old key → is_key self.new key × (place self.new key ≡ place self.old key) };
+        ensures kept { (key : Self.Key) → is_key self.old key → is_key self.new key × (place self.new key ≡ place
+            self.old key) };
 
     /// Goes to the place that a key stands for.
     ///
@@ -66,7 +67,8 @@ pub trait Moves {
         ensures here { OnOk result (here self.new ≡ place self.old key.now) }
         ensures next { next self.new ≡ next self.old }
         ensures begins { start self.new ≡ start self.old }
-        ensures kept { (key : Self.Key) → is_key self.old key → is_key self.new key × (place self.new key ≡ place self.old key) };
+        ensures kept { (key : Self.Key) → is_key self.old key → is_key self.new key × (place self.new key ≡ place
+            self.old key) };
 
     /// Tells where an input leads to from the place that was gone to last, and stays there.
     ///
@@ -74,12 +76,15 @@ pub trait Moves {
     ///
     /// The graph's own.
     fn step(&mut self, input: Self::Input) -> Result<Step<Self::Key>, Self::Fault>
-        ensures led { IfOk result (IsStep (is_key self.new) (place self.new) (here self.old) (next self.old (here self.old) input)) }
+        ensures led { IfOk result (IsStep (is_key self.new) (place self.new) (here self.old) (next self.old (here
+            self.old) input)) }
         ensures here { OnOk result (here self.new ≡ here self.old) }
         ensures next { next self.new ≡ next self.old }
         ensures begins { start self.new ≡ start self.old }
-        ensures kept { (key : Self.Key) → is_key self.old key → is_key self.new key × (place self.new key ≡ place self.old key) };
+        ensures kept { (key : Self.Key) → is_key self.old key → is_key self.new key × (place self.new key ≡ place
+            self.old key) };
 
     /// Equal keys stand for one place.
-    ghost one_place: { (moves : Self) (one other : Self.Key) → Self.Key.eq one other ≡ true → place moves one ≡ place moves other };
+    ghost one_place: { (moves : Self) (one other : Self.Key) → Self.Key.eq one other ≡ true → place moves one ≡
+        place moves other };
 }

@@ -18,14 +18,15 @@ use std::hash::Hash;
 ///
 /// # Errors
 ///
-/// Why the search can't begin; then no key is kept.
+/// Why the search can't begin: no key is kept then.
 fn begin<M: Moves>(
     alloc: Global,
     moves: &mut M,
     inputs: &[M::Input],
     limit: u32,
 ) -> Result<Visited<M::Key, M::Input>, Why<M::Fault>>
-    ensures kept { IfOk result (λ visited. Kept (M.next moves.old) (M.start moves.old) inputs.now (M.is_key moves.new) (M.place moves.new) visited.keys.keys visited.links.items 0 1 0) }
+    ensures kept { IfOk result (λ visited. Kept (M.next moves.old) (M.start moves.old) inputs.now (M.is_key
+        moves.new) (M.place moves.new) visited.keys.keys visited.links.items 0 1 0) }
     ensures within { IfOk result (λ visited. length visited.keys.keys ≤ visited.limit) }
     ensures limit { IfOk result (λ visited. visited.limit ≡ limit) }
     ensures next { M.next moves.new ≡ M.next moves.old }
@@ -48,7 +49,7 @@ fn begin<M: Moves>(
     }
 }
 
-/// The list that leads past: that of the place under work, and then the input.
+/// The list that leads past: that of the place under work, and then the input. Out of memory, the answer says so.
 fn won<K: Eq + Hash + Drop, I: Copy, F: Drop>(
     alloc: Global,
     visited: &Visited<K, I>,
@@ -58,10 +59,11 @@ fn won<K: Eq + Hash + Drop, I: Copy, F: Drop>(
     requires ordered { AreOrdered visited.now.links.items }
     requires below { layer.at < length visited.now.links.items }
     requires within { length visited.now.keys.keys ≤ visited.now.limit }
-    ensures { IsWon (way visited.now.links.items layer.at ++ input ∷ []) layer.depth (length visited.now.keys.keys) result }
+    ensures { IsWon (way visited.now.links.items layer.at ++ input ∷ []) layer.depth (length visited.now.keys.keys)
+        result }
 {
     match visited.spell(alloc, layer.at, input) {
-        Ok(keys) => Found::Won { keys },
+        Ok(inputs) => Found::Won { inputs },
         Err(AllocError) => Found::Unknown {
             states: visited.count(),
             depth: layer.depth,
@@ -72,8 +74,8 @@ fn won<K: Eq + Hash + Drop, I: Copy, F: Drop>(
 
 /// Searches breadth first for the shortest list of these inputs that leads past, and keeps at most `limit` keys.
 ///
-/// It may run out of memory, the watcher may stop it, or the graph may have a fault of its own. Then the answer says up
-/// to which length no list leads past.
+/// If it runs out of memory, the watcher stops it or the graph fails, the answer says up to which length no list leads
+/// past: what was found until then isn't lost.
 pub fn search<M: Moves, W: Watcher>(
     alloc: Global,
     moves: &mut M,
@@ -81,7 +83,9 @@ pub fn search<M: Moves, W: Watcher>(
     limit: u32,
     watcher: &mut W,
 ) -> Found<M::Input, M::Fault>
-    ensures { IsAnswer (M.next moves.old) (M.start moves.old) inputs.now limit result }
+    ensures answer { IsAnswer (M.next moves.old) (M.start moves.old) inputs.now limit result }
+    ensures next { M.next moves.new ≡ M.next moves.old }
+    ensures start { M.start moves.new ≡ M.start moves.old }
 {
     let mut visited = match begin(alloc, moves, inputs, limit) {
         Ok(visited) => visited,

@@ -1,7 +1,5 @@
 //! Graphs that are written out in a table, for tests.
 
-ghost use Rattle.std.specs.Prelude.{◌+◌, ◌*◌, Some, slice_index_or};
-
 use crate::moves::{Moves, Step};
 
 /// How many inputs each place has.

@@ -20,7 +20,7 @@ impl Watcher for StopsAt {
 /// What was found, in a word, with how many inputs or states, and the depth where it isn't known.
 fn shown(found: &Found<u32, u32>) -> (&'static str, usize, u32) {
     match found {
-        Found::Won { keys } => ("won", keys.len(), 0),
+        Found::Won { inputs } => ("won", inputs.len(), 0),
         Found::Never { states } => ("never", *states as usize, 0),
         Found::Unknown { states, depth, why } => {
             let word = match why {
@@ -94,7 +94,7 @@ const ROUND: [Option<u32>; 8] = [
 fn the_shortest_list_is_told_in_its_order(rt: HostRuntime) {
     let found = searched(rt.alloc(), &TWO_WAYS, None, 100, &mut Unwatched);
     match found {
-        Found::Won { keys } => assert!(rt; keys.as_slice() == [2, 3].as_slice()),
+        Found::Won { inputs } => assert!(rt; inputs.as_slice() == [2, 3].as_slice()),
         _ => assert!(rt; false),
     }
 }

@@ -1,6 +1,6 @@
 //! The places that a search has met, numbered as they are met.
 
-ghost use Rattle.std.specs.Prelude.{◌≡◌, ◌<◌, ◌≤◌, ◌^◌, ◌∷◌, ◌++◌, [], true, length, Option, Some, slice_get, IfErr, OnErr, IfOk, OnOk};
+ghost use Rattle.std.specs.Prelude.{◌≡◌, ◌<◌, ◌≤◌, ◌∷◌, ◌++◌, [], length, IfErr, OnErr, IfOk, OnOk};
 ghost use Rattle.ps_search.specs.Ways.{way, AreOrdered};
 ghost use Rattle.ps_search.specs.Noted.{IsNoted, IsRefusal};
 
@@ -68,12 +68,13 @@ impl<K: Eq + Hash + Drop, I: Copy> Visited<K, I> {
     ///
     /// # Errors
     ///
-    /// The limit where as many keys are kept and this is another one, or `Memory`. All is as before.
+    /// The limit where as many keys are kept and this is another one, or out of memory. All is as before.
     #[tactic(auto, using(crate::proofs::Known::known))]
     pub(crate) fn note(&mut self, key: K, link: Link<I>) -> Result<(), Refused>
         requires long { length self.old.links.items ≡ length self.old.keys.keys }
         requires within { length self.old.keys.keys ≤ self.old.limit }
-        ensures noted { OnOk result (IsNoted K.eq self.old.keys.keys self.old.links.items key link self.new.keys.keys self.new.links.items) }
+        ensures noted { OnOk result (IsNoted K.eq self.old.keys.keys self.old.links.items key link
+            self.new.keys.keys self.new.links.items) }
         ensures within { length self.new.keys.keys ≤ self.new.limit }
         ensures limit { self.new.limit ≡ self.old.limit }
         ensures stay { OnErr result (self.new.keys.keys ≡ self.old.keys.keys) }
@@ -107,16 +108,16 @@ impl<K: Eq + Hash + Drop, I: Copy> Visited<K, I> {
     pub(crate) fn spell(&self, alloc: Global, number: u32, last: I) -> Result<Vec<I>, AllocError>
         requires ordered { AreOrdered self.now.links.items }
         requires below { number < length self.now.links.items }
-        ensures { IfOk result (λ keys. keys.items ≡ way self.now.links.items number ++ last ∷ []) }
+        ensures { IfOk result (λ inputs. inputs.items ≡ way self.now.links.items number ++ last ∷ []) }
     {
-        let mut keys = Vec::new(alloc);
-        keys.push(last)?;
+        let mut inputs = Vec::new(alloc);
+        inputs.push(last)?;
         let mut at = number;
         while let Some(input) = self.links[at as usize].input {
-            keys.push(input)?;
+            inputs.push(input)?;
             at = self.links[at as usize].parent;
         }
-        keys.reverse();
-        Ok(keys)
+        inputs.reverse();
+        Ok(inputs)
     }
 }

@@ -1,4 +1,4 @@
-use Rattle.std.proofs.Common.{sym, ap, subst, ◌∙◌, length, List}
+use Rattle.std.proofs.Common.{◌≡◌, sym, ap, subst, ◌∙◌, length, List, arith}
 use Rattle.ps_search.specs.Noted.{IsRefusal}
 use Rattle.ps_search.proofs.Answering.{begun}
 use Rattle.ps_search.proofs.searching.begin.Goals as goal
@@ -10,6 +10,10 @@ returns-in-Ok-note-clause-kept g c =
 
 pub returns-in-Err-Limit-clause-why : goal.returns-in-Err-Limit-clause-why
 returns-in-Err-Limit-clause-why g c =
-    let none = ap (λ (k : List g.row.M-Key.Denot). length k) (sym c.new-visited.ensures.keys ∙ sym c.in-Err-Limit.ensures.stay) in
-    let refused = subst (IsRefusal c.note.new.self.limit (length c.note.new.self.keys.keys)) c.in-Err-Limit.field-0-is c.in-Err-Limit.ensures.refused in
-    none ∙ refused ∙ c.in-Err-Limit.ensures.limit ∙ c.new-visited.ensures.limit
+    let none : 0 ≡ length c.note.new.self.keys.keys =
+    ap (λ (k : List g.row.M-Key.Denot). length k) (sym c.new-visited.ensures.keys ∙ sym c.in-Err-Limit.ensures.stay) in
+    let refused : length c.note.new.self.keys.keys ≡ c.note.new.self.limit =
+    subst (IsRefusal c.note.new.self.limit (length c.note.new.self.keys.keys)) c.in-Err-Limit.field-0-is
+    c.in-Err-Limit.ensures.refused in
+    let limit : c.note.new.self.limit ≡ c.new-visited.result.limit = c.in-Err-Limit.ensures.limit in
+    let given : c.new-visited.result.limit ≡ c.args.limit = c.new-visited.ensures.limit in omega arith

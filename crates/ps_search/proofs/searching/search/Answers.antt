@@ -3,13 +3,13 @@ use Rattle.ps_search.specs.Answers.{IsReason}
 use Rattle.ps_search.proofs.Answering.{stopped, ended, moved, told, done_as, before_end}
 use Rattle.ps_search.proofs.searching.search.Goals as goal
 
-pub returns-then-not-goes_on : goal.returns-then-not-goes_on
-returns-then-not-goes_on g c =
+pub returns-then-not-goes_on-clause-answer : goal.returns-then-not-goes_on-clause-answer
+returns-then-not-goes_on-clause-answer g c =
     let within = c.loop-layer.invariant.within in
     (stopped _ _ _ _ _ _ _ _ _ _ c.loop-layer.invariant.kept, omega arith, tt)
 
-pub returns : goal.returns
-returns g c =
+pub returns-clause-answer : goal.returns-clause-answer
+returns-clause-answer g c =
     (ended _ _ _ _ _ _ _ _ _ _ c.loop-layer.invariant.kept (omega arith), omega arith)
 
 pub loop-layer-preserved : goal.loop-layer-preserved
@@ -35,8 +35,8 @@ loop-layer-preserved g c =
       limit = c.expand.ensures.limit ∙ c.loop-layer.invariant.limit;
     }
 
-pub returns-in-Ok-Some : goal.returns-in-Ok-Some
-returns-in-Ok-Some g c =
+pub returns-in-Ok-Some-clause-answer : goal.returns-in-Ok-Some-clause-answer
+returns-in-Ok-Some-clause-answer g c =
     let done = done_as c.args.inputs.now (g.M.Moves.is_key c.expand.new.moves) (g.M.Moves.place c.expand.new.moves) c.expand.new.visited.keys.keys c.expand.new.visited.links.items
     c.loop-layer.layer.at c.loop-layer.layer.end c.loop-layer.layer.depth (g.M.Moves.next c.loop-layer.moves) (g.M.Moves.next c.args.moves.now) (g.M.Moves.start c.loop-layer.moves) (g.M.Moves.start c.args.moves.now)
     c.in-Ok-Some.field-0 (Some c.in-Ok-Some.input) c.loop-layer.invariant.next c.loop-layer.invariant.start c.in-Ok-Some.field-0-is c.in-Ok-Some.ensures.done in
@@ -46,8 +46,8 @@ returns-in-Ok-Some g c =
     c.args.limit _ c.loop-layer.layer.depth (length c.expand.new.visited.keys.keys) c.won.result c.won.ensures done.1
     (stopped _ _ _ _ _ _ _ _ _ _ c.loop-layer.invariant.kept) (omega arith)
 
-pub returns-in-Err-expand : goal.returns-in-Err-expand
-returns-in-Err-expand g c =
+pub returns-in-Err-expand-clause-answer : goal.returns-in-Err-expand-clause-answer
+returns-in-Err-expand-clause-answer g c =
     let limit = c.expand.ensures.limit ∙ c.loop-layer.invariant.limit in
     let within = c.expand.ensures.within in
     let count = c.count-states-in-Err-expand.ensures in (

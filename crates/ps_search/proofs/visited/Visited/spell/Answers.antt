@@ -16,9 +16,9 @@ loop-input-preserved g c =
     record {
       below = let h = parent_before links c.requires.ordered at link is c.in-Some.input input in let m = c.loop-input.invariant.below in omega arith;
       spells =
-          let pushed : c.push-in-Some.new.self.items ≡ c.loop-input.keys.items ++ c.in-Some.input ∷ [] = c.in_ok-push-2.ensures.items in
+          let pushed : c.push-in-Some.new.self.items ≡ c.loop-input.inputs.items ++ c.in-Some.input ∷ [] = c.in_ok-push-2.ensures.items in
           ap (λ (k : List g.row.I.Denot). way links link.parent ++ reverse k) pushed
-          ∙ spell_more links c.requires.ordered at link is c.loop-input.keys.items _ c.in-Some.input input c.loop-input.invariant.spells;
+          ∙ spell_more links c.requires.ordered at link is c.loop-input.inputs.items _ c.in-Some.input input c.loop-input.invariant.spells;
     }
 
 pub returns : goal.returns
@@ -26,4 +26,7 @@ returns g c =
     let links = c.args.self.now.links.items in
     let link = c.index.result.now in
     let is : slice_get links c.loop-input.at ≡ Some link = slice_get_read links (length links) c.loop-input.at link refl c.loop-input.invariant.below c.index.ensures in
-    c.reverse.ensures.items ∙ spell_all links c.requires.ordered c.loop-input.at link is c.loop-input.keys.items _ c.in_default.is c.loop-input.invariant.spells
+    let told : c.reverse.new.self.items ≡ reverse c.loop-input.inputs.items = c.reverse.ensures.items in
+    let all : reverse c.loop-input.inputs.items ≡ way links c.args.number ++ c.args.last ∷ [] =
+    spell_all links c.requires.ordered c.loop-input.at link is c.loop-input.inputs.items _ c.in_default.is c.loop-input.invariant.spells in
+    told ∙ all

@@ -6,7 +6,7 @@ abbrev pub invariant-loop-input : goal.invariant-loop-input
 invariant-loop-input g l =
     record {
       below : l.at < length l.self.links.items;
-      spells : way l.self.links.items l.at ++ reverse l.keys.items ≡ way l.self.links.items l.number ++ l.fn.last ∷ [];
+      spells : way l.self.links.items l.at ++ reverse l.inputs.items ≡ way l.self.links.items l.number ++ l.fn.last ∷ [];
     }
 
 abbrev pub decreases-loop-input : goal.decreases-loop-input
