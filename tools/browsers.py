@@ -40,9 +40,6 @@ def environment(home):
 class Browser:
     """A browser that has begun, with a folder of its own."""
 
-    # Whether it can be told, once it has begun, that its reader wants darkness or no motion.
-    can_wish = False
-
     def __init__(self):
         self.room = tempfile.TemporaryDirectory(ignore_cleanup_errors=True)
         self.process = None
@@ -70,8 +67,6 @@ class Browser:
 
 class Chromium(Browser):
     """Chromium. It reads orders from its descriptor 3 and answers on 4, each ended by a zero byte."""
-
-    can_wish = True
 
     def __init__(self):
         super().__init__()
@@ -191,7 +186,7 @@ class Firefox(Browser):
                     "datareporting.policy.dataSubmissionEnabled": False, "dom.w3c_touch_events.enabled": 1}
         lines = (f'user_pref("{name}", {json.dumps(value)});\n' for name, value in settings.items())
         (profile / "user.js").write_text("".join(lines))
-        self.begin([path_of("firefox"), "--headless", "--marionette", "--no-remote", "--profile", str(profile)])
+        self.begin([path_of("firefox"), "--headless", "--marionette", "--remote-allow-system-access", "--no-remote", "--profile", str(profile)])
         self.socket, self.left, self.number, self.errors = self.connect(port), b"", 0, []
         self.message()
         self.order("WebDriver:NewSession", capabilities={"alwaysMatch": {"unhandledPromptBehavior": "dismiss"}})
@@ -253,9 +248,13 @@ class Firefox(Browser):
         self.order("WebDriver:PerformActions", actions=[finger])
 
     def look(self, width, height, is_phone=False, is_dark=False, is_still=False):
-        """A window whose page has that size. What a reader wants is settled when this browser begins."""
+        """A window whose page has that size, of a reader who wants darkness, or no motion."""
         outer = self.run("return [outerWidth - innerWidth, outerHeight - innerHeight]")
         self.order("WebDriver:SetWindowRect", width=width + outer[0], height=height + outer[1])
+        self.order("Marionette:SetContext", value="chrome")
+        for name, value in (("ui.prefersReducedMotion", is_still), ("layout.css.prefers-color-scheme.content-override", not is_dark)):
+            self.order("WebDriver:ExecuteScript", script="Services.prefs.setIntPref(...arguments)", args=[name, int(value)])
+        self.order("Marionette:SetContext", value="content")
 
     def picture(self, file):
         """Leaves a picture of the page as far as it is in the window."""

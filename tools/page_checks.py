@@ -5,6 +5,8 @@ PATIENCE = 60
 # Within how many milliseconds a page that is stopped has to say so.
 STOPS_IN = 500
 LEAST_BUTTON = 40
+# A ground that is darker than that, of 255, is dark.
+MIDDLE = 128
 
 STATE = """
 const by = (id) => document.getElementById(id);
@@ -175,10 +177,12 @@ def check_colours(page):
     """The page is dark where the reader wants that, and light else."""
     canvas = """const probe = document.createElement('p'); document.body.append(probe); probe.style.color = 'Canvas';
         const colour = getComputedStyle(probe).color; probe.remove(); return Number(/\\d+/.exec(colour)[0])"""
-    page.browser.look(1000, 800, is_dark=True)
-    dark = page.browser.run(canvas)
-    page.browser.look(1000, 800)
-    expect(dark < 64 < 192 < page.browser.run(canvas), f"the ground of a dark page is {dark}")
+    for is_dark in (True, False):
+        page.browser.look(1000, 800, is_dark=is_dark)
+        end = time.monotonic() + PATIENCE
+        while (page.browser.run(canvas) < MIDDLE) != is_dark:
+            expect(time.monotonic() < end, f"the page isn't {'dark' if is_dark else 'light'}")
+            time.sleep(0.05)
 
 
 def check_fault(page, told):

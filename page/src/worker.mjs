@@ -13,6 +13,7 @@ const MOST_FRAMES = 60;
 const MOST_FRAMES_OF_REPLAY = 1;
 
 let engine = null;
+let whyNoEngine = "";
 let game = null;
 
 // A game that is being played.
@@ -82,11 +83,13 @@ const requests = {
   },
 };
 
-// Answers the request that a message brings.
+// Answers the request that a message brings. Where there is no engine each answer says why.
 onmessage = ({ data: { number, name, ...request } }) => {
   try {
+    if (engine === null && whyNoEngine) throw new Error(whyNoEngine);
     postMessage({ number, answer: requests[name](request) });
   } catch (error) {
-    postMessage({ number, failure: String(error) });
+    if (engine === null) whyNoEngine ||= `it can't be loaded: ${error.message}`;
+    postMessage({ number, failure: error.message });
   }
 };
