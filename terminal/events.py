@@ -63,7 +63,7 @@ class Events:
         self._waiting = collections.deque(event for event in self._waiting if event.kind is not Kind.KEY)
 
     def _look(self, seconds):
-        """Takes what is there, or comes within so many seconds."""
+        """Takes what is there, or comes within that time, in seconds."""
         sources = [source for source in (self._console.keys, self._signals.fd, self.output) if source is not None]
         ready = select.select(sources, [], [], seconds)[0]
         for number in self._signals.told():

@@ -20,10 +20,15 @@ class GameText:
     """A copy of a game's text, in a file that is deleted at the end."""
 
     def __init__(self, name):
-        data = _bytes_of(name)
-        self.digest = hashlib.sha256(data).hexdigest()
+        self.data = _bytes_of(name)
+        self.digest = hashlib.sha256(self.data).hexdigest()
         descriptor, self.path = tempfile.mkstemp(prefix="play-", suffix=".game")
-        with open(descriptor, "wb") as file:
+        os.close(descriptor)
+        self.write(self.data)
+
+    def write(self, data):
+        """Makes the copy have these bytes."""
+        with open(self.path, "wb") as file:
             file.write(data)
 
     def __enter__(self):

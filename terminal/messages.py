@@ -8,7 +8,7 @@ _LEAST_ROOM = 12
 
 
 def room_below(rows):
-    """How many rows a terminal of so many rows has for what is told last."""
+    """How many rows a terminal of that height has for what is told last."""
     return rows - 6 if rows >= 8 else (rows + 1) // 2
 
 

@@ -2,7 +2,7 @@
 from typed_keys import Key
 
 _MOVES = (Key.UP, Key.LEFT, Key.DOWN, Key.RIGHT, Key.ACT)
-# The player keeps so many boards for undo.
+# How many boards the player keeps for undo.
 _MOST_KEPT = 1000
 
 

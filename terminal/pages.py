@@ -6,7 +6,7 @@ _BACK = "-- any key goes back --"
 
 
 def _pages(lines, rows):
-    """The lines in pieces of so many rows, each with a last line that says what a key does."""
+    """The lines in pieces of at most `rows` rows, each with a last line that says what a key does."""
     most = max(rows - 1, 1)
     pieces = [lines[place:place + most] for place in range(0, len(lines), most)] or [[]]
     return [piece + [_FURTHER] for piece in pieces[:-1]] + [pieces[-1] + [_BACK]]

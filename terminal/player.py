@@ -53,13 +53,14 @@ def status_of(code):
 
 
 class Described:
-    """What the player says of a game: the title, how many levels, the keys without use, and the glyphs."""
+    """What the player says of a game: the title, how many levels, the keys without use, the glyphs, and what has none."""
 
     def __init__(self, said):
         self.title = said.get("title", "")
         self.levels = said.get("levels", 0)
         self.ignored = said.get("ignored_keys", [])
         self.glyphs = [(each["glyph"], each["objects"]) for each in said.get("glyphs", [])]
+        self.without_glyph = said.get("without_glyph", [])
 
 
 class Player:

@@ -29,7 +29,7 @@ class Progress:
         return int(word) if word.isdigit() else 1
 
     def level(self, levels):
-        """The level at which the game goes on, of so many; 1 where it begins anew."""
+        """The level at which the game goes on, from 1 to the number of its levels; 1 where it begins anew."""
         return self._furthest if 1 < self._furthest <= levels else 1
 
     def reached(self, level):

@@ -3,6 +3,7 @@ from console import Console
 from events import Events, Kind
 from game_list import GameList
 from game_text import GameText
+from given_glyphs import with_glyphs
 from harmless import decoded, harmless_lines
 from plain_screen import PlainScreen
 from player import Fault, Player, Run
@@ -29,7 +30,7 @@ class Sitting:
     def play_game(self):
         """Plays the game that is asked for. Its status, and what it said on standard error."""
         with GameText(self.asked.game) as text:
-            described = self.player.describe(text.path)
+            described = self._described(text)
             self._begin()
             with_keys = True
             try:
@@ -52,6 +53,11 @@ class Sitting:
         finally:
             self.console.give_back()
 
+    def _described(self, text):
+        """What the player says of a game. On a screen each object has a glyph then, as far as its name has letters left."""
+        described = self.player.describe(text.path)
+        return described if self.asked.is_plain else with_glyphs(self.player, text, described)
+
     def _begin(self):
         """From now on keys come as they are pressed, and signals are told with them."""
         self.signals.catch()
@@ -68,7 +74,7 @@ class Sitting:
         """Plays a game of the list; what it says on standard error stands below the board until a key comes."""
         try:
             with GameText(path) as text:
-                said = self._play(text, self.player.describe(text.path))[1]
+                said = self._play(text, self._described(text))[1]
         except Fault as fault:
             said = fault.said
         except OSError as error:

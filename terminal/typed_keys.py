@@ -2,7 +2,7 @@
 import enum
 import re
 
-# A sequence that has begun waits so many seconds for its rest.
+# How many seconds a sequence that has begun waits for its rest.
 SEQUENCE_WAIT = 0.05
 
 # Whole sequences: those of the Linux console's first function keys, of most other keys, of some, and a key with Alt.

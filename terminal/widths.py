@@ -1,4 +1,4 @@
-"""How many columns of a terminal a text covers, and texts in rows of so many columns."""
+"""How many columns of a terminal a text covers, and texts in rows of a given width."""
 import unicodedata
 
 MORE = "\u2026"
@@ -14,7 +14,7 @@ def columns_of(character):
 
 
 def fitting(text, columns):
-    """How many of the first characters fit into so many columns."""
+    """How many of the first characters fit into a number of columns."""
     left = columns
     for place, character in enumerate(text):
         left -= columns_of(character)
@@ -24,7 +24,7 @@ def fitting(text, columns):
 
 
 def cut(text, columns):
-    """The text; where it is too long for so many columns, its beginning and a mark."""
+    """The text; where it has more columns than these, its beginning and a mark."""
     if fitting(text, columns) == len(text):
         return text
     return text[:fitting(text, columns - 1)] + MORE
@@ -37,7 +37,7 @@ def break_of(text, columns):
 
 
 def wrapped(text, columns):
-    """The text in rows of so many columns, broken between words where that is possible."""
+    """The text in rows of at most `columns` columns, broken between words where that is possible."""
     rows = []
     while fitting(text, columns) < len(text):
         place = break_of(text, columns)

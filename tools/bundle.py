@@ -1,6 +1,6 @@
 """Joins modules of JavaScript to one script, so that a page is one file.
 
-Each module becomes a function that gives what it exports. Lines of comments stay behind, as a page is to be small. What a module may
+Each module becomes a function that gives what it exports. Lines of comments are left out, as a page is to be small. What a module may
 have is plain: imports of names from other modules, one line each, and exports of functions, classes and constants where they are
 declared.
 """
@@ -14,7 +14,7 @@ EXPORT = re.compile(r"^export (?=(?:async )?(?:function\*?|class|const) (\w+))",
 
 
 def in_order(file, made):
-    """The file of a module and those of modules that it stands on, each behind those that it stands on itself. Modules in `made` have
+    """The file of a module and those of modules that it stands on, each after those that it stands on itself. Modules in `made` have
     no file, but a name."""
     order = []
     for other in [] if file.name in made else WHERE.findall(file.read_text()):

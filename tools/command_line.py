@@ -12,7 +12,7 @@ def stop(why):
 
 
 def words_of(doc, options=()):
-    """The words behind the tool's name. -h or --help first among them prints what the tool does, and ends."""
+    """The words after the tool's name. -h or --help first among them prints what the tool does, and ends."""
     words = sys.argv[1:]
     if words[:1] in (["-h"], ["--help"]):
         print(doc.strip())

@@ -31,7 +31,7 @@ def minutes_of(crate, known):
 
 
 def in_order(names, uses):
-    """These crates and those of this repository that they stand on, each behind those that it stands on itself."""
+    """These crates and those of this repository that they stand on, each after those that it stands on itself."""
     order = []
     for name in names:
         if name in uses:
@@ -40,5 +40,5 @@ def in_order(names, uses):
 
 
 def below(crate, uses):
-    """The crates of this repository that one stands on, each behind those that it stands on itself."""
+    """The crates of this repository that one stands on, each after those that it stands on itself."""
     return tuple(in_order(uses[crate], uses))

@@ -32,7 +32,7 @@ FLAGS = """-ffunction-sections -fdata-sections --no-default-config -fno-crash-di
 C_FLAGS = ["-O2", "-ffreestanding", "-nostdinc", "-Wall", "-Wextra", "-Werror"]
 # Parts that play keys are to be quick as well as small, and others small.
 LEVEL_AT_PLAY, LEVEL_ELSEWHERE = "-Os", "-Oz"
-# Functions of at most so many lines are copied into each part that calls them: with fewer a key costs up to twice as much.
+# How many lines a function has at most that is copied into each part that calls it: with fewer a key costs up to twice as much.
 MOST_COPIED_AT_PLAY, MOST_COPIED = 600, 5
 STACK = 4 << 20
 MOST_MEMORY = 1 << 32

@@ -7,9 +7,9 @@ several parts call stand in each of them, where they can be put in line.
 import dataclasses
 import re
 
-# A subtree of at least so many lines is a part.
+# How many lines a subtree has at least that is a part.
 LEAST_PART = 45_000
-# Functions of at most so many lines stand in each part that calls them: of a part that plays keys, and of another one. With fewer a
+# How many lines a function has at most that stands in each part that calls it: a part that plays keys, and another one. With fewer a
 # key costs up to a half more; parts that read texts or tell faults gain nothing by more.
 MOST_COPIED_AT_PLAY = 600
 MOST_COPIED = 150
@@ -139,7 +139,7 @@ def heads_of(pieces, order, above):
 
 
 def is_copied(piece, most):
-    """Whether each part that mentions a piece gets it for itself, where it has at most so many lines."""
+    """Whether each part that mentions a piece gets it for itself, where it has at most that number of lines."""
     return not piece.changes() and len(piece.lines) <= most and bool(OWN.match(piece.lines[0]))
 
 
@@ -149,7 +149,7 @@ def plays(top):
 
 
 def members_of(pieces, head, top, own, most):
-    """What a part has: its own pieces, copies of others of at most so many lines, and those of other parts that it mentions."""
+    """What a part has: its own pieces, copies of others up to a number of lines, and those of other parts that it mentions."""
     copies, named = set(), set()
     walk = [other for name in own for other in pieces[name].mentions]
     while walk:
@@ -165,7 +165,7 @@ def members_of(pieces, head, top, own, most):
 
 
 def cut(lines, most_at_play=MOST_COPIED_AT_PLAY, most_elsewhere=MOST_COPIED):
-    """The parts of a module, the largest first. Functions of at most so many lines are copied, the first number for parts that play
+    """The parts of a module, the largest first. Functions up to a number of lines are copied, the first number for parts that play
     keys."""
     pieces, others = read_pieces(lines)
     order = finished_order(pieces)

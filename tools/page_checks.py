@@ -2,7 +2,7 @@
 import time
 
 PATIENCE = 60
-# A page that is stopped has to say so within so many milliseconds.
+# Within how many milliseconds a page that is stopped has to say so.
 STOPS_IN = 500
 LEAST_BUTTON = 40
 # So many characters are told of the state of a page.
@@ -94,7 +94,7 @@ def check_keys(page):
     page.browser.press("r")
     page.until(lambda state: state["rows"][1:2] == ["#.P*+#"] and state["keys"] == "xazar", "the restart")
     page.browser.press("d")
-    page.until(lambda state: state["said"] == "Well done." and state["waits"], "the message behind the first level")
+    page.until(lambda state: state["said"] == "Well done." and state["waits"], "the message after the first level")
 
 
 def check_names(page):
@@ -116,7 +116,7 @@ def check_touch(page):
     page.until(lambda state: state["rows"] != [], "the first board")
     for key, middle in (("a", "#P.*+#"), ("d", "#.P*+#"), ("z", "#P.*+#"), ("r", "#.P*+#")):
         page.touch(f"[data-key={key}]")
-        page.until(lambda state, middle=middle: state["rows"][1] == middle, f"{middle} behind a touch of {key}")
+        page.until(lambda state, middle=middle: state["rows"][1] == middle, f"{middle} after a touch of {key}")
     wide = page.browser.run("return [document.documentElement.scrollWidth, innerWidth]")
     expect(wide[0] <= wide[1], f"the page is wider than the window: {wide}")
     for key in "wasdxzr":
@@ -130,7 +130,7 @@ def check_replay(page):
     page.replay("xdx")
     page.until(lambda state: state["level"] == "Level 2 of 2" and state["keys"] == "xdx", "level 2 by pasted keys")
     page.browser.press("s")
-    page.until(lambda state: state["rows"][1:2] == ["#...om.#"] and state["keys"] == "xdxs", "a key behind those that were pasted")
+    page.until(lambda state: state["rows"][1:2] == ["#...om.#"] and state["keys"] == "xdxs", "a key after those that were pasted")
     page.replay("xdx da\x1b[Cz q")
     page.until(lambda state: state["said"] == "Quit." and state["isStopped"], "the end")
     page.click("anew")
@@ -145,7 +145,7 @@ def check_levels(page):
     page.browser.run("document.getElementById('levels').value = '2'; document.getElementById('begin').click()")
     page.until(lambda state: state["rows"][1:2] == ["#o...m.#"] and state["keys"] == "", "level 2")
     page.replay("a")
-    page.until(lambda state: state["rows"][2:3] == ["#P.*..+#"] and state["level"] == "Level 2 of 2", "the same board behind a key")
+    page.until(lambda state: state["rows"][2:3] == ["#P.*..+#"] and state["level"] == "Level 2 of 2", "the same board after a key")
     page.click("begin")
     page.until(lambda state: state["keys"] == "" and state["level"] == "Level 2 of 2", "level 2 once more")
     return ""
@@ -195,7 +195,7 @@ def check_fault(page, told):
     page.until(lambda state: state["textFault"].rstrip() == faulty[1].rstrip(), f"the fault {faulty[1]!r}")
     page.browser.run("document.activeElement.blur()")
     page.browser.press("a")
-    expect_rows(page, ["######", "#P.*+#", "######"], "the game before, behind a fault")
+    expect_rows(page, ["######", "#P.*+#", "######"], "the game before, after a fault")
     page.choose(good)
     page.until(lambda state: state["title"] == "Far and wide" and not state["textFault"], "the other text")
 
@@ -276,7 +276,7 @@ def check_list(page, count):
 
 
 def measure(page, keys):
-    """When the first board is shown, and what a key takes with its drawing."""
+    """When the first board is shown, and the cost of a key with its drawing."""
     page.until(lambda state: state["rows"] != [], "the first board")
     first = page.browser.run("return performance.getEntriesByName('board')[0].startTime")
     return f"first board after {first:.0f} ms, a key in {page.browser.run(TYPE, keys):.2f} ms with its drawing"

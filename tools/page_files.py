@@ -27,7 +27,7 @@ class Game:
     text: bytes
 
     def told(self):
-        """What the page is told of it. The text is in base64, so that nothing of it means anything to a browser."""
+        """What the page knows of it. The text is in base64, so that nothing of it means anything to a browser."""
         return {"name": self.name, "title": self.title, "text": base64.b64encode(self.text).decode()}
 
 

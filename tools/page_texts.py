@@ -130,7 +130,7 @@ def large_level(side):
 
 
 def pushing(side, count):
-    """A game of pushing on a board of that side, with so many keys, which are the same each time."""
+    """A game of pushing on a board of that side, with a number of keys, which are the same each time."""
     chance = random.Random(1)
     rows = [["#" if {x, y} & {0, side - 1} else chance.choice("........**+#") for x in range(side)] for y in range(side)]
     rows[side // 2][side // 2] = "P"

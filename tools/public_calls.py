@@ -1,7 +1,7 @@
-"""The public calls of the crates that can answer that memory is wanting, as they stand in the sources.
+"""The public calls of the crates that can answer that they are out of memory, as they stand in the sources.
 
 Public are the functions that a crate exports, the methods of types that it exports, and those of traits that it
-exports, once for all types; of crates that others stand on. A call can answer that memory is wanting where its answer
+exports, once for all types; of crates that others stand on. A call can answer that it is out of memory where its answer
 is a `Result` whose error is `AllocError`, or one of these crates' types that is called `Memory` or has a variant of
 that name; and so can the command line.
 """
@@ -9,9 +9,9 @@ import re
 
 from crates import TOP, read_uses
 
-# What answers a status, and tells on standard error that memory is wanting.
+# What answers a status, and says on standard error that it is out of memory.
 TELLING = ["run_command_line"]
-# The names that a crate exports; a type that can say that memory is wanting; what stands in a source, by lines.
+# The names that a crate exports; a type that can say out of memory; what stands in a source, by lines.
 EXPORT = re.compile(r"^pub use [\w:]*?(\w+|\{[^}]*\});", re.M)
 WANTING = re.compile(r"^pub (?:struct (Memory);|enum (\w+) \{\n(?:(?!\}).*\n)*?    Memory,\n)", re.M)
 FUNCTION = r"^ *(?P<open>pub )?fn (?P<name>\w+)(?P<rest>[^{;]*)"
@@ -53,7 +53,7 @@ def exports_of(crate):
 
 
 def public_calls():
-    """Those calls by name, a method behind its type or trait and `::`, each once."""
+    """Those calls by name, a method after its type or trait and `::`, each once."""
     uses = read_uses()
     crates = {crate: sources_of(crate) for crate in uses if any(crate in rest for rest in uses.values())}
     found = [match for sources in crates.values() for source in sources for match in WANTING.finditer(source)]

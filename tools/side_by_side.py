@@ -1,4 +1,4 @@
-"""Tasks of crates side by side: each in one of several copies of the sources, behind those that it waits for.
+"""Tasks of crates side by side: each in one of several copies of the sources, after those that it waits for.
 
 Runs of the prover in one checkout wait for one another where they have a crate below in common; in copies they don't. What the
 tasks of a crate leave in its folder `out` goes with it into a copy and back, and the libraries below it are lent to the copy.
@@ -222,8 +222,8 @@ class Runner:
 
 
 def run_all(crates, tasks, tell):
-    """Runs the tasks, whose crates stand in an order in which each is behind those below it. `tell` hears of each that has
-    ended: the task, whether it ended well, and the seconds that it took. None begins behind one that didn't. Whether all did."""
+    """Runs the tasks, whose crates stand in an order in which each comes after those below it. `tell` hears of each that has
+    ended: the task, whether it ended well, and the seconds that it took. None begins after one that didn't. Whether all did."""
     lock = alone()
     # Who ends this ends what it has begun, too.
     for number in (signal.SIGINT, signal.SIGTERM):

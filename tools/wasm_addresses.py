@@ -20,7 +20,7 @@ WRAP, EXTEND_SIGNED, EXTEND_UNSIGNED = b"\xa7", b"\xac", b"\xad"
 LOADS, STORES = range(0x28, 0x36), range(0x36, 0x3F)
 # Of each store the type of the value.
 STORED = dict(zip(STORES, (I32, I64, F32, F64, I32, I32, I64, I64, I64)))
-# What stands behind an instruction: numbers, so many of them; a list of numbers; bytes, so many of them.
+# What stands after an instruction: a count of numbers; a list of numbers; a count of bytes.
 NUMBERS = {0x02: 1, 0x03: 1, 0x04: 1, 0x0C: 1, 0x0D: 1, 0x10: 1, 0x20: 1, 0x21: 1, 0x22: 1, 0x23: 1, 0x24: 1, 0x41: 1, 0x42: 1, 0xD2: 1}
 BYTES = {0x43: 4, 0x44: 8}
 BRANCH_TABLE, TYPED_SELECT = 0x0E, 0x1C
@@ -149,7 +149,7 @@ def instruction(code, body):
 
 
 def function(data, parameters):
-    """The code of a function with so many parameters."""
+    """The code of a function with a number of parameters."""
     code = Reader(data)
     groups = [(code.number(), code.byte()) for _ in range(code.number())]
     body = Body(parameters + sum(count for count, _ in groups))

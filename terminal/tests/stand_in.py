@@ -121,7 +121,8 @@ def describe(name):
     title, entries = read_game(name)
     levels = sum(isinstance(entry, list) for entry in entries)
     glyphs = [{"glyph": "P", "objects": ["Player"]}, {"glyph": "*", "objects": ["Goal", "Light"]}]
-    write(json.dumps({"title": title, "levels": levels, "ignored_keys": [], "glyphs": glyphs, "player_glyphs": "P"}))
+    write(json.dumps({"title": title, "levels": levels, "ignored_keys": [], "glyphs": glyphs, "player_glyphs": "P",
+                      "without_glyph": []}))
 
 
 def part(rows, columns, frame):

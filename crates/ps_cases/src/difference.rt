@@ -56,7 +56,7 @@ fn first_line(text: &[u8]) -> &[u8]
     text
 }
 
-/// The number of the line that begins behind these bytes.
+/// The number of the line that begins after these bytes.
 fn line_number(front: &[u8]) -> usize
     ensures { result ≡ length (filter (λ byte. byte == 10) front.now) + 1 }
 {

@@ -10,7 +10,7 @@ use std::alloc::{AllocError, Global};
 /// More bytes than any of the games has keys or writes.
 const WHOLE: usize = 1_048_576;
 
-/// Of what a game writes beyond what it must, so many bytes are looked at.
+/// How many bytes are looked at of what a game writes beyond what it must.
 const BEYOND: usize = 4096;
 
 /// A line of a text in quotes, with its line feed, or that the text has ended.
@@ -30,7 +30,7 @@ fn told(alloc: Global, difference: Difference<'_>) -> Result<String, AllocError>
     format!(in alloc; "played otherwise: line {number} must be {wanted}, and is {written}")
 }
 
-/// What to say of a game that is played with these keys, at most so many bytes at a call of a device: where it writes
+/// What to say of a game that is played with these keys, at most `piece` bytes at a call of a device: where it writes
 /// something else than it must, or nothing.
 fn complaint(
     alloc: Global,

@@ -24,7 +24,7 @@ use Rattle.ps_facts.specs.NamesShown.{is_own}
 use Rattle.ps_facts.specs.Signs.{is_sign, has_sign}
 use Rattle.ps_facts.specs.Slips.{section_of}
 
--- a list is what stands before a place, what stands there, and what stands behind it
+-- a list is what stands before a place, what stands there, and what stands after it
 pub parts-at : {A B : Type 0} (f : A → B) (xs : List A) (k : ℕ) (d : A) → k < length xs →
     map f xs ≡ map f (take k xs) ++ f (get_or xs k d) ∷ map f (drop (k + 1) xs)
 parts-at f [] k d less = absurd (omega arith)
@@ -82,7 +82,7 @@ told-pair text line words other word shared each texts found =
       true_share = found.true_share;
     }
 
--- a word at a place behind `no`, and the line that makes it several objects at once
+-- a word at a place after `no`, and the line that makes it several objects at once
 pub told-several : (text : List ℕ) (line : ℕ) (words : List Word) (at declared : ℕ) (d : Word) → at < length words →
     All (IsWordOf text line) words → map text_of words ≡ texts_of text line →
     is_barred (map text_of (take at words)) ≡ true →

@@ -1,4 +1,4 @@
--- What is told of a fault, and when that is true of the text.
+-- What is said about a fault, and when that is true of the text.
 use Rattle.std.specs.Prelude.{◌≡◌, ◌≤◌, ◌<◌, ℕ, nat_eq, ◌-◌, Bool, false, true, ◌&&◌, ⊤, Some}
 use Rattle.std.specs.Prelude.{List, [], ◌∷◌, ◌++◌, codes}
 use Rattle.std.specs.Prelude.{slice_get, encode_utf8, slice_index_or}
@@ -6,7 +6,8 @@ use Rattle.std.specs.List.{IsAmong, list_any, starts_with}
 use Rattle.std.specs.Str.{bytes_eq, chars}
 use Rattle.std.specs.Str.Lossy.{utf8_valid_len}
 use Rattle.ps_model.specs.declared.texts.Section.{Section}
-use Rattle.ps_model.specs.declared.texts.Section.TheVariants.{Layers}
+use Rattle.ps_model.specs.declared.texts.Section.TheVariants.{Prelude, Objects, Legend, Sounds, Layers, Rules, Wins}
+use Rattle.ps_model.specs.declared.texts.Section.TheVariants.{Levels}
 use Rattle.ps_model.specs.text.LineNumbers.{line_at, HasLine}
 use Rattle.ps_model.specs.text.Lines.{Line, lines_of, folded}
 use Rattle.ps_model.specs.text.Sections.{rank, header_lines, has_section}
@@ -46,7 +47,7 @@ joins_names word = list_any (bytes_eq (folded word)) (codes "and" ∷ codes "or"
 
 -- hints ---------------------------------------------------------------------------------------------------------------
 
--- what is told of a word is true
+-- what is said about a word is true
 abbrev pub IsHint : List ℕ → List ℕ → Hint → Type 0
 IsHint text word Nothing = ⊤
 IsHint text word (Near named) = IsDeclaredAt text named.line named.name.now × IsNear word named.name.now
@@ -85,7 +86,7 @@ byte_of Tab = 9
 byte_of CarriageReturn = 13
 byte_of Comment = 40
 
--- a blank right behind a word of the line, which isn't its last
+-- a blank right after a word of the line, which isn't its last
 pub record IsBrokenRow (text : List ℕ) (line : ℕ) (row : Word) (blank : Blank) : Type 0 where
   pub stands : IsWordOf text line row
   pub further : Word
@@ -112,8 +113,20 @@ pub record IsLateHeader (text : List ℕ) (line : ℕ) (header : Word) (section 
 abbrev pub begins : Section → Line → Bool
 begins section line = line.is_header && nat_eq (rank section) (rank line.section)
 
--- no line is a header of the section
+-- a game needs the section
+abbrev pub is_needed : Section → Bool
+is_needed Objects = true
+is_needed Layers = true
+is_needed Levels = true
+is_needed Prelude = false
+is_needed Legend = false
+is_needed Sounds = false
+is_needed Rules = false
+is_needed Wins = false
+
+-- no line is a header of the section, which a game needs
 pub record IsMissing (text : List ℕ) (section : Section) (clue : Clue) : Type 0 where
+  pub needed : is_needed section ≡ true
   pub missing : has_section (header_lines (lines_of text)) section ≡ false
   pub true_clue : IsClue text section clue
 
@@ -158,7 +171,7 @@ pub record AreOnlyCommas (text : List ℕ) (line place : ℕ) : Type 0 where
   pub comma : slice_get text (place - 1) ≡ Some 44
   pub in_line : line_of_place text (place - 1) ≡ line
 
--- what is told of a line is true of the text
+-- what is said about a line is true of the text
 abbrev pub IsToldAt : List ℕ → ℕ → Cause → Type 0
 IsToldAt text line Untold = ⊤
 IsToldAt text line (Undeclared word hint) = IsUndeclared text line word hint

@@ -33,7 +33,7 @@ pub record IsOpenAt (text : List ℕ) (line : ℕ) : Type 0 where
   pub a_comment : is_untaken (line_at text line) ≡ true
   pub unclosed : never_closes 1 (drop (place + 1) text) ≡ true
 
--- what is told of a section that isn't there
+-- what is said about a section that isn't there
 abbrev pub IsClue : List ℕ → Section → Clue → Type 0
 IsClue text section Nothing = ⊤
 IsClue text section (Like line) = IsLikeHeaderOf text (header_word section) line

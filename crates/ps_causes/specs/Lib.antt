@@ -1,6 +1,7 @@
 pub mod Causes
 pub mod Clues
 pub mod GoingOn
+pub mod LineEnds
 pub mod LikeHeaders
 pub mod Loops
 pub mod Meant

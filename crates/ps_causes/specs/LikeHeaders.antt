@@ -31,7 +31,7 @@ letter byte = if is_ascii_alphabetic byte then to_ascii_lowercase byte ∷ [] el
 abbrev pub letters : List ℕ → List ℕ
 letters word = flat_map letter word
 
--- those of words, one behind the other
+-- those of words, one after the other
 abbrev pub letters_of : List (List ℕ) → List ℕ
 letters_of words = flat_map letters words
 

@@ -31,7 +31,7 @@ is_loop_line text line = is_line_of LoopStart text line || is_line_of LoopEnd te
 abbrev pub NoneBetween : (ℕ → Bool) → ℕ → ℕ → Type 0
 NoneBetween test from to = (k : ℕ) → from ≤ k → k < to → test k ≡ false
 
--- the number of the line behind one, if there is one; else of the first
+-- the number of the line after one, if there is one; else of the first
 abbrev pub behind : Option ℕ → ℕ
 behind None = 1
 behind (Some line) = line + 1
@@ -63,7 +63,7 @@ pub record IsUnended (text : List ℕ) (line : ℕ) (word : Word) : Type 0 where
   pub begins : is_sign LoopStart word.text.now ≡ true
   pub endless : NoneBetween (is_line_of LoopEnd text) (line + 1) (length (lines_of text) + 1)
 
--- what is told of a loop is true
+-- what is said about a loop is true
 abbrev pub IsToldOfLoop : List ℕ → ℕ → LoopCause → Type 0
 IsToldOfLoop text line (Nested word open_line) = IsNested text line word open_line
 IsToldOfLoop text line (Unbegun word ended) = IsUnbegun text line word ended

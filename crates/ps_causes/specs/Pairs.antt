@@ -14,8 +14,8 @@ use Rattle.ps_causes.specs.declared.causes.Shared.{Shared}
 use Rattle.ps_causes.specs.declared.causes.Shared.TheVariants.{Object, Property, Layer}
 use Rattle.ps_causes.specs.Meant.{names_in, meant, is_property_at, has_object, lies_on}
 
--- with words before a name of a rule, and others between it and a further one, the two stand in one cell, and neither
--- behind `no`
+-- with words before a name of a rule, and others between it and a further one: the two stand in one cell, and neither
+-- after `no`
 abbrev pub are_in_one_cell : List (List ℕ) → List (List ℕ) → Bool
 are_in_one_cell before between =
     is_inside before && (not (are_parted between) && (not (is_barred before) && not (is_barred between)))
@@ -45,7 +45,7 @@ IsShared text first second (Layer line) = IsSharedLayer text first second line
 abbrev pub DoShare : List ℕ → List ℕ → List ℕ → Shared → Type 0
 DoShare text first second shared = IsShared text (meant (names_in text) first) (meant (names_in text) second) shared
 
--- a word of the list stands in one cell with another one behind it, and the two share that
+-- a word of the list stands in one cell with another one after it, and the two share that
 pub record IsPairIn (text : List ℕ) (words : List Word) (other word : Word) (shared : Shared) : Type 0 where
   pub place : ℕ
   pub within : place < length words

@@ -24,13 +24,13 @@ is_of_several_moves word =
 abbrev pub is_open : Names → List ℕ → Bool
 is_open names word = is_of_several_moves word || is_property (meant names word)
 
--- one more behind a word in a cell that is like that one, unless `no` stands right before it
+-- one more after a word in a cell that is like that one, unless `no` stands right before it
 abbrev pub counted : Names → List ℕ → ℕ → Bool → Bool → List ℕ → ℕ
 counted names word count inside barred other =
     if are_alike names word other && (inside && not barred) then count + 1 else count
 
--- how often words up to the arrow have one in a cell that is like that one and not behind `no`, where so many have been
--- before them, brackets are open or aren't, and `no` stands right before them or doesn't
+-- how often words up to the arrow have one in a cell that is like that one and not after `no`. `count` have been before
+-- them, brackets are open or aren't, and `no` stands right before them or doesn't
 abbrev pub alike_from : Names → List ℕ → ℕ → Bool → Bool → List (List ℕ) → ℕ
 alike_from names word count inside barred [] = count
 alike_from names word count inside barred (other ∷ others) =
@@ -41,7 +41,7 @@ alike_from names word count inside barred (other ∷ others) =
 abbrev pub alike_on_left : Names → List ℕ → List (List ℕ) → ℕ
 alike_on_left names word words = alike_from names word 0 false false words
 
--- a word of the left of a line's rule, in brackets and not behind `no`, in the cell of that number
+-- a word of the left of a line's rule, in brackets and not after `no`, in the cell of that number
 pub record IsSpot (text : List ℕ) (line : ℕ) (spot : Spot) : Type 0 where
   pub stands : IsWordOf text line spot.word
   pub before : List (List ℕ)
@@ -64,8 +64,8 @@ CouldBe text line word (Either first second) = IsAlikeSpot text line word first 
 CouldBe text line word (Other spot) =
     IsSpot text line spot × (is_property (meant (names_in text) spot.word.text.now) ≡ true)
 
--- a word of a line that stands behind the arrow and leaves something open, so many like it before the arrow, and what
--- of these could be meant
+-- a word of a line that stands after the arrow and leaves something open; `times` like it stand before the arrow, and
+-- some of these could be meant
 pub record IsUnbound (text : List ℕ) (line : ℕ) (word : Word) (times : ℕ) (could : Could) : Type 0 where
   pub stands : IsWordOf text line word
   pub before : List (List ℕ)

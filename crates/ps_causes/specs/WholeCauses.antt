@@ -27,7 +27,7 @@ pub record IsOnTwoLayers (text : List ℕ) (line : ℕ) (word : Word) (layer : �
   pub has_other : IsInLayer text other.text.now other_layer
   pub two : nat_eq layer other_layer ≡ false
 
--- what is told of such a name is true
+-- what is said about such a name is true
 abbrev pub IsToldOfWhole : List ℕ → ℕ → WholeCause → Type 0
 IsToldOfWhole text line (AllAtOnce word first) = IsAllAtOnce text line word first
 IsToldOfWhole text line (OnTwoLayers word layer other other_layer) =

@@ -23,7 +23,7 @@ pub struct Found<'a> {
     pub spot: Spot<'a>,
 }
 
-/// One more behind a word that is like another, in a cell and not behind `no`.
+/// One more after a word that is like another, in a cell and not after `no`.
 fn counted(
     alloc: Global,
     names: &Names,
@@ -43,8 +43,7 @@ fn counted(
     Ok(count)
 }
 
-/// How often the left of a rule has a word like that one, in a cell and not behind `no`, where these words begin its
-/// line.
+/// How often the left of a rule has a word like that one, in a cell and not after `no`. These words begin its line.
 pub fn alike_on_left(
     alloc: Global,
     names: &Names,
@@ -68,7 +67,7 @@ pub fn alike_on_left(
     Ok(count)
 }
 
-/// The word at a place of a line, if it stands in a cell of the left and not behind `no`.
+/// The word at a place of a line, if it stands in a cell of the left and not after `no`.
 fn spot_at<'a>(words: &[Word<'a>], at: usize) -> Option<Spot<'a>>
     requires { at < length words.now }
     ensures { (text : List ℕ) (line : ℕ) → All (IsWordOf text line) words.now →

@@ -15,7 +15,7 @@ use ps_names::Names;
 use ps_text::{Source, Word};
 use std::alloc::Global;
 
-/// The word at a place, if it stands behind `no` and for several objects at once.
+/// The word at a place, if it stands after `no` and for several objects at once.
 fn barred_at<'a>(
     alloc: Global,
     names: &Names,
@@ -37,7 +37,7 @@ fn barred_at<'a>(
     Ok(Cause::InRule(RuleCause::Several { word, declared }))
 }
 
-/// The first word behind a `no` that stands for several objects at once.
+/// The first word after a `no` that stands for several objects at once.
 fn first_barred<'a>(alloc: Global, names: &Names, words: &[Word<'a>]) -> Result<Cause<'a>, Memory>
     ensures { (text : List ℕ) (line : ℕ) → names.now ≡ names_in text → All (IsWordOf text line) words.now →
         map text_of words.now ≡ texts_of text line → IfOk result (IsToldAt text line) }
@@ -51,7 +51,7 @@ fn first_barred<'a>(alloc: Global, names: &Names, words: &[Word<'a>]) -> Result<
     Ok(Cause::Untold)
 }
 
-/// The name behind a `no` of a rule that stands for several objects at once, and the line that says so.
+/// The name after a `no` of a rule that stands for several objects at once, and the line that says so.
 pub fn barred_cause<'a>(alloc: Global, source: &'a Source, line: u32) -> Result<Cause<'a>, Memory>
     requires { HasLine source.now line }
     ensures { IfOk result (IsToldAt source.now line) }

@@ -4,7 +4,7 @@ use ps_facts::{Named, Slip};
 use ps_model::Section;
 use ps_text::Word;
 
-/// What is told of a word that isn't a name here.
+/// What is said about a word that isn't a name here.
 #[derive(Clone, Copy)]
 pub enum Hint<'a> {
     /// Nothing.
@@ -43,7 +43,7 @@ pub enum Cause<'a> {
         character: char,
         column: usize,
     },
-    /// A row has characters on both sides of a blank, which stands right behind its first word.
+    /// A row has characters on both sides of a blank, which stands right after its first word.
     BrokenRow {
         row: Word<'a>,
         blank: Blank,
@@ -117,7 +117,7 @@ pub enum RuleCause<'a> {
         other: Word<'a>,
         shared: Shared<'a>,
     },
-    /// The word stands behind `no`, and for several objects at once, which the line of LEGEND declares.
+    /// The word stands after `no`, and for several objects at once, which the line of LEGEND declares.
     Several {
         word: Word<'a>,
         declared: u32,
@@ -183,7 +183,7 @@ pub struct Spot<'a> {
 pub enum LoopCause<'a> {
     /// The loop that begins at that line has no end above.
     Nested { word: Word<'a>, open_line: u32 },
-    /// No loop begins above, or none behind the end of the last one, at that line.
+    /// No loop begins above, or none after the end of the last one, at that line.
     Unbegun { word: Word<'a>, ended: Option<u32> },
     /// No loop ends below.
     Unended { word: Word<'a> },
@@ -234,7 +234,7 @@ pub enum ObjectCause<'a> {
         name: Word<'a>,
         below: Option<u32>,
     },
-    /// Below the colours stand so many rows of a sprite, and then a line that is none, if there is one.
+    /// Below the colours stand this many rows of a sprite, and then a line that is none, if there is one.
     ShortSprite {
         name: Word<'a>,
         rows: usize,

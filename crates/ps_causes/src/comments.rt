@@ -9,7 +9,7 @@ ghost use Rattle.ps_causes.specs.Clues.{IsOpenAt, never_closes, is_untaken};
 use ps_model::Section;
 use ps_text::Source;
 
-/// How many comments are open behind a byte, where so many are before it.
+/// How many comments are open after a byte, where `depth` are before it.
 fn depth_behind(depth: usize, byte: u8) -> usize
     requires { depth < 2 ^ 63 }
     ensures depth { result ≡ depth_behind depth byte }

@@ -1,6 +1,6 @@
 //! How many rows and cells the two sides of a rule have.
 
-ghost use Rattle.std.specs.Prelude.{◌≡◌, ◌<◌, List, ℕ, All, IfOk, IfSome, length, map};
+ghost use Rattle.std.specs.Prelude.{◌≡◌, ◌<◌, List, ℕ, All, IfOk, IfSome, false, length, map, nat_eq, slice_index_or};
 ghost use Rattle.ps_model.specs.text.LineNumbers.{HasLine};
 ghost use Rattle.ps_text.specs.WordViews.{text_of};
 ghost use Rattle.ps_causes.specs.Causes.{IsToldAt};
@@ -18,6 +18,8 @@ use std::alloc::Global;
 fn first_other(left: &[usize], right: &[usize]) -> Option<usize>
     ensures left { IfSome result (λ at. at < length left.now) }
     ensures right { IfSome result (λ at. at < length right.now) }
+    ensures differ { IfSome result (λ at.
+        nat_eq (slice_index_or left.now at 0) (slice_index_or right.now at 0) ≡ false) }
 {
     for at in 0..left.len().min(right.len()) {
         if left[at] != right[at] {

@@ -66,7 +66,7 @@ fn blank_of(byte: u8) -> Option<Blank>
     }
 }
 
-/// The blank behind the first of the words, if another word stands behind it.
+/// The blank after the first of the words, if another word stands after it.
 fn broken_cause<'a>(text: &[u8], words: &[Word<'a>]) -> Cause<'a>
     ensures { (line : ℕ) → All (IsWordOf text.now line) words.now → IsToldAt text.now line result }
 {

@@ -1,6 +1,6 @@
 //! Rules that go on in the next line.
 
-ghost use Rattle.std.specs.Prelude.{◌≡◌, true, IfOk, IfSome, map};
+ghost use Rattle.std.specs.Prelude.{◌≡◌, ◌+◌, true, IfOk, IfSome, map};
 ghost use Rattle.ps_model.specs.declared.texts.Section.TheVariants.{Rules};
 ghost use Rattle.ps_model.specs.text.LineNumbers.{HasLine, line_at};
 ghost use Rattle.ps_text.specs.WordViews.{text_of};
@@ -37,6 +37,7 @@ fn part_of(words: &[Word<'_>]) -> Option<Part>
 /// The next line, if it is one of RULES.
 fn rule_line_below(source: &Source, line: u32) -> Option<u32>
     requires { HasLine source.now line }
+    ensures next { IfSome result (λ below. below ≡ line + 1) }
     ensures there { IfSome result (HasLine source.now) }
     ensures own { IfSome result (λ below. is_own Rules (line_at source.now below) ≡ true) }
 {
@@ -53,7 +54,7 @@ fn rule_line_below(source: &Source, line: u32) -> Option<u32>
 /// The next line, if it is one of RULES and no whole rule.
 fn further_line(alloc: Global, source: &Source, line: u32) -> Result<Option<Further>, Memory>
     requires { HasLine source.now line }
-    ensures { IfOk result (λ found. IfSome found (IsFurther source.now)) }
+    ensures { IfOk result (λ found. IfSome found (IsFurther source.now line)) }
 {
     let Some(below) = rule_line_below(source, line) else {
         return Ok(None);

@@ -4,7 +4,7 @@ ghost use Rattle.std.specs.Prelude.{◌≡◌, ◌++◌, true, false, ℕ, IfOk,
 ghost use Rattle.ps_model.specs.text.LineNumbers.{HasLine, line_at};
 ghost use Rattle.ps_model.specs.text.Lines.{lines_of};
 ghost use Rattle.ps_model.specs.text.Sections.{rank, header_lines, has_section};
-ghost use Rattle.ps_causes.specs.Causes.{IsToldAt, IsLaterHeader, begins};
+ghost use Rattle.ps_causes.specs.Causes.{IsToldAt, IsLaterHeader, begins, is_needed};
 ghost use Rattle.ps_causes.specs.Clues.{IsClue};
 ghost use Rattle.ps_causes.specs.LikeHeaders.{AreLike, IsLikeHeaderOf, header_word, letter, letters, letters_of};
 ghost use Rattle.ps_text.specs.WordViews.{text_of};
@@ -73,7 +73,8 @@ fn has_section(source: &Source, section: Section) -> bool
 
 /// The first of the sections that must be there and isn't.
 fn missing_section(source: &Source) -> Option<Section>
-    ensures { IfSome result (λ section. has_section (header_lines (lines_of source.now)) section ≡ false) }
+    ensures missing { IfSome result (λ section. has_section (header_lines (lines_of source.now)) section ≡ false) }
+    ensures needed { IfSome result (λ section. is_needed section ≡ true) }
 {
     if !has_section(source, Section::Objects) {
         return Some(Section::Objects);
@@ -126,7 +127,7 @@ fn push_letters(made: &mut String, word: &[u8]) -> Result<(), Memory>
     Ok(())
 }
 
-/// The ASCII letters of words, one behind the other, in lower case.
+/// The ASCII letters of words, one after the other, in lower case.
 fn letters_of(alloc: Global, words: &[Word<'_>]) -> Result<String, Memory>
     ensures { IfOk result (λ made. string_bytes made ≡ letters_of (map text_of words.now)) }
 {
@@ -137,7 +138,7 @@ fn letters_of(alloc: Global, words: &[Word<'_>]) -> Result<String, Memory>
     Ok(made)
 }
 
-/// Whether words are written much like a header: its word with others behind it, or words whose letters one edit makes
+/// Whether words are written much like a header: its word with others after it, or words whose letters one edit makes
 /// the header's.
 fn are_like(alloc: Global, words: &[Word<'_>], header: &str) -> Result<bool, Memory>
     ensures { IfOk result (λ are. are ≡ true → AreLike (map text_of words.now) header.now) }

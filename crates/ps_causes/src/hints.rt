@@ -1,4 +1,4 @@
-//! What is told of a word that isn't a name here.
+//! What is said about a word that isn't a name here.
 
 ghost use Rattle.std.specs.Prelude.{◌≡◌, List, ℕ, IfOk};
 ghost use Rattle.ps_causes.specs.Causes.{IsHint, joins_names};
@@ -18,7 +18,7 @@ fn joins_names(word: &str) -> bool
     same_name(word, "and") || same_name(word, "or")
 }
 
-/// What is told of a word by its letters alone, where names are these.
+/// What is said about a word by its letters alone, where names are these.
 fn hint_by_letters<'a>(names: &[Named<'a>], word: &str) -> Hint<'a>
     ensures { (text : List ℕ) → names_shown names.now ≡ declared text → IsHint text word.now result }
 {
@@ -31,7 +31,7 @@ fn hint_by_letters<'a>(names: &[Named<'a>], word: &str) -> Hint<'a>
     Hint::Nothing
 }
 
-/// What is told of a word, where names are these: a character that looks like another, or else a name that is written
+/// What is said about a word among these names: a character that looks like another, or else a name that is written
 /// much like it.
 pub fn hint_of<'a>(alloc: Global, names: &[Named<'a>], word: &str) -> Result<Hint<'a>, Memory>
     ensures { (text : List ℕ) → names_shown names.now ≡ declared text →

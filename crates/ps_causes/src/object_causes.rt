@@ -10,15 +10,16 @@ ghost use Rattle.ps_facts.specs.Declarations.{declared};
 ghost use Rattle.ps_facts.specs.LineWords.{IsWordOf};
 ghost use Rattle.ps_facts.specs.NamesShown.{names_shown};
 ghost use Rattle.ps_facts.specs.SpriteLines.{IsOtherLine};
-ghost use Rattle.ps_causes.specs.ObjectCauses.{IsNoRow, IsWhyNoRow};
+ghost use Rattle.ps_causes.specs.LineEnds.{IsFirstWordOf};
+ghost use Rattle.ps_causes.specs.ObjectCauses.{IsNoRow, IsObjectName, IsWhyNoRow};
 
 use crate::causes::{Cause, NoRow, ObjectCause, WhyNoRow};
 use crate::slip_causes::slip_cause;
 use ps_facts::{
-    FormSlip, Named, SPRITE_ROWS, Slip, characters_in, declared_names, object_line_below,
+    FormSlip, Named, SPRITE_ROWS, Slip, characters_in, declared_names, is_own, object_line_below,
     rows_below, words_of,
 };
-use ps_model::Memory;
+use ps_model::{Memory, Section};
 use ps_text::{Source, Word};
 use std::alloc::Global;
 
@@ -80,7 +81,7 @@ fn why_no_word<'a>(word: Word<'a>, characters: &[char]) -> WhyNoRow<'a>
 /// The first word of a line.
 fn first_word<'a>(alloc: Global, source: &'a Source, line: u32) -> Result<Option<Word<'a>>, Memory>
     requires { HasLine source.now line }
-    ensures { IfOk result (λ word. IfSome word (IsWordOf source.now line)) }
+    ensures { IfOk result (λ word. IfSome word (IsFirstWordOf source.now line)) }
 {
     let words = words_of(alloc, source, line)?;
     if words.is_empty() {
@@ -123,7 +124,7 @@ fn no_row<'a>(
 /// That the next line of OBJECTS is blank, or isn't there.
 fn colourless<'a>(source: &Source, line: u32, name: Word<'a>) -> Cause<'a>
     requires line { HasLine source.now line }
-    requires name { IsWordOf source.now line name }
+    requires name { IsObjectName source.now line name }
     ensures { IsToldAt source.now line result }
 {
     let below = object_line_below(source, line);
@@ -143,14 +144,14 @@ fn short_sprite<'a>(
     name: Word<'a>,
 ) -> Result<Cause<'a>, Memory>
     requires line { HasLine source.now line }
-    requires name { IsWordOf source.now line name }
+    requires name { IsObjectName source.now line name }
     ensures { IfOk result (IsToldAt source.now line) }
 {
     let Some(colours) = object_line_below(source, line) else {
         return Ok(Cause::Untold);
     };
     let rows = rows_below(alloc, source, colours)?;
-    if rows.count == 0 || rows.count == SPRITE_ROWS as usize {
+    if rows.count == 0 || rows.count >= SPRITE_ROWS as usize {
         return Ok(Cause::Untold);
     }
     let below = no_row(alloc, source, rows.below)?;
@@ -166,6 +167,9 @@ fn lines_cause<'a>(alloc: Global, source: &'a Source, line: u32) -> Result<Cause
     requires { HasLine source.now line }
     ensures { IfOk result (IsToldAt source.now line) }
 {
+    if !is_own(source, line, Section::Objects) {
+        return Ok(Cause::Untold);
+    }
     let Some(name) = first_word(alloc, source, line)? else {
         return Ok(Cause::Untold);
     };

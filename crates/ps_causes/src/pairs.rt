@@ -29,7 +29,7 @@ struct Pair<'a> {
     shared: Shared<'a>,
 }
 
-/// Whether two names stand in one cell, and neither behind `no`, with words before the first and others between them.
+/// Whether two names stand in one cell, and neither after `no`, with words before the first and others between them.
 fn are_in_one_cell(before: &[Word<'_>], between: &[Word<'_>]) -> bool
     ensures { result ≡ are_in_one_cell (map text_of before.now) (map text_of between.now) }
 {
@@ -55,8 +55,8 @@ fn shared_of<'a>(
     Ok(shared_by(source, names, known, sought, first, second))
 }
 
-/// The words at a place and at another one behind it, counted from the next, if they stand in one cell and share what
-/// is sought.
+/// The words at a place and at another one after it, counted from the next. They stand in one cell, and share what is
+/// sought; else nothing.
 fn pair_at<'a>(
     alloc: Global,
     source: &Source,
@@ -99,7 +99,7 @@ fn pair_at<'a>(
     }))
 }
 
-/// The word at a place, and the first behind it in its cell that shares with it what is sought.
+/// The word at a place, and the first after it in its cell that shares with it what is sought.
 fn pair_from<'a>(
     alloc: Global,
     source: &Source,

@@ -71,7 +71,7 @@ fn are_one_name(alloc: Global, names: &Names, word: &str, other: &str) -> Result
 }
 
 /// Whether the word at a place of the right means what it means at one of the left: there the word is like it, and so
-/// is the name behind a word of several moves.
+/// is the name after a word of several moves.
 fn is_same_at(
     alloc: Global,
     names: &Names,
@@ -97,7 +97,7 @@ fn is_same_at(
     )
 }
 
-/// Whether the word at a place behind the arrow's stands in the same cell on the left.
+/// Whether the word at a place after the arrow's stands in the same cell on the left.
 fn is_in_left_cell(
     alloc: Global,
     names: &Names,
@@ -117,7 +117,7 @@ fn is_in_left_cell(
     Ok(false)
 }
 
-/// Whether nothing of the left decides a word of the right, at a place behind the arrow's.
+/// Whether nothing of the left decides a word of the right, at a place after the arrow's.
 fn is_unbound(
     alloc: Global,
     names: &Names,
@@ -136,7 +136,7 @@ fn is_unbound(
     Ok(!is_decided)
 }
 
-/// The same of any place: one that isn't behind the arrow's, or is the last, or leaves nothing open, has no such word.
+/// The same of any place: one that isn't after the arrow's, or is the last, or leaves nothing open, has no such word.
 fn is_unbound_there(
     alloc: Global,
     names: &Names,
@@ -207,7 +207,7 @@ fn cell_of(words: &[Word<'_>], at: usize) -> usize {
     cells_begun(&words[arrow..at])
 }
 
-/// What of the left the word at a place could mean, where the left has so many like it.
+/// What of the left the word at a place could mean, where the left has `times` like it.
 fn could_be<'a>(
     alloc: Global,
     names: &Names,
@@ -225,7 +225,7 @@ fn could_be<'a>(
     another(alloc, names, words, word, cell_of(words, at))
 }
 
-/// That so many like a word stand on the left, if it stands on the right and leaves something open.
+/// What a word of the right leaves open, with how many like it stand on the left. Nothing, if it leaves nothing open.
 fn unbound_at<'a>(
     alloc: Global,
     names: &Names,

@@ -15,7 +15,7 @@ use ps_text::{Source, Word};
 use std::alloc::Global;
 
 /// Whether the word at a place of a line of that section, counted from 0, is a name that it speaks of: every second one
-/// behind the `=` of a line of LEGEND, every second one of a line of WINCONDITIONS, and each elsewhere.
+/// after the `=` of a line of LEGEND, every second one of a line of WINCONDITIONS, and each elsewhere.
 fn is_name_at(section: Section, at: usize) -> bool {
     match section {
         Section::Legend => at >= 2 && at % 2 == 0,

@@ -84,12 +84,12 @@ fn apart_cause<'a>(
     }))
 }
 
-/// Whether the word at a place of a line of LEGEND is a name behind its `=`.
+/// Whether the word at a place of a line of LEGEND is a name after its `=`.
 fn is_mention(at: usize) -> bool {
     at >= 2 && at % 2 == 0
 }
 
-/// The first name behind the `=` of a line that lies on another layer than the first of them.
+/// The first name after the `=` of a line that lies on another layer than the first of them.
 fn layers_cause<'a>(
     alloc: Global,
     source: &Source,

@@ -3,8 +3,8 @@ use Rattle.std.specs.Prelude.{◌<◌, ◌≤◌, ◌+◌, ℕ, List, length, ta
 use Rattle.ps_model.specs.game.Tellings.{WriterState}
 use Rattle.ps_devices.specs.Devices.{Grows}
 
--- the writer has taken a front of the line and not all of it, by calls of which each took a byte or more, but for the
--- one that failed
+-- the writer has taken a front of the line and not all of it. Each call took a byte or more, but for the one that
+-- failed
 pub record IsCutOffLine (before now : WriterState) (line : List ℕ) : Type 0 where
   pub count : ℕ
   pub short : count < length line

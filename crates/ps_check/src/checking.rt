@@ -45,7 +45,7 @@ pub fn check<W: ByteWriter>(alloc: Global, text: &[u8], writer: &mut W) -> Resul
     }
 }
 
-/// Writes the line of a check behind the name of the text and `: `, as of one of several texts, and answers whether
+/// Writes the line of a check after the name of the text and `: `, as of one of several texts, and answers whether
 /// the text is a game.
 ///
 /// # Errors
@@ -80,7 +80,7 @@ pub fn check_named<W: ByteWriter>(
     }
 }
 
-/// A line behind a name and `: `.
+/// A line after a name and `: `.
 fn behind_name(alloc: Global, name: &str, line: &String) -> Result<String, Memory>
     ensures { IfOk result (λ whole. string_bytes whole ≡ name.now ++ (codes ": " ++ string_bytes line.now)) }
 {

@@ -31,7 +31,7 @@ pub outside-made : (names : Names) (part : Part) (lines : List RuleLine) →
     map Group (compact_groups names part lines) ≡ compact_outside names part lines
 outside-made names part lines = groups-made (compiled_group names) (groups_in part lines)
 
--- the lines behind the start of a loop, cut at the ends of loops
+-- the lines after the start of a loop, cut at the ends of loops
 pub behind-made : (names : Names) (part : Part) (lines inside : List RuleLine) (others : List (List RuleLine)) →
     slice_split is_end lines ≡ inside ∷ others →
     compact_behind names part lines ≡ Loop (compact_groups names part inside) ∷ flat_map (compact_outside names part)
@@ -51,7 +51,7 @@ program-made names part lines before others e =
     ∙ ap (λ rest. compact_outside names part before ++ rest)
     (map-flat_map (section_by (compiled_group names)) (behind_start part) others)
 
--- behind the loop that these begin with, the others are still to come
+-- after the loop that these begin with, the others are still to come
 pub behind-begun : {A : Type 0} (show : A → CompiledSection) (names : Names) (part : Part)
     (lines inside : List RuleLine) (others : List (List RuleLine)) (before begun : List A) (section : A) →
     begun ≡ before ++ section ∷ [] → show section ≡ Loop (compact_groups names part inside) →

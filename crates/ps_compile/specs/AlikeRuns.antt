@@ -11,8 +11,8 @@ use Rattle.ps_model.specs.board.RulePrograms.{program_of}
 use Rattle.ps_model.specs.meaning.Compiled.{CompiledSection, meaning_of_program}
 use Rattle.ps_laws.specs.EqualMeanings.{EqualStates}
 
--- from each grid of the game, a run of the sections comes to what the source lines come to by rewriting, if these are
--- lines of the game
+-- if the source lines are lines of the game: from each grid of the game, a run of the sections comes to what they come
+-- to by rewriting
 abbrev pub RunsAlike : Names → Part → List RuleLine → List CompiledSection → Type 0
 RunsAlike names part lines sections =
     All (IsLineOf names) lines → (state : State) → IsGridOf names state.grid →

@@ -20,6 +20,6 @@ compact_groups names part lines = map (compiled_group names) (groups_in part lin
 abbrev pub compact_outside : Names → Part → List RuleLine → List CompiledSection
 compact_outside names part lines = compiled_sections names (outside_loops part lines)
 
--- those of the lines behind the start of a loop
+-- those of the lines after the start of a loop
 abbrev pub compact_behind : Names → Part → List RuleLine → List CompiledSection
 compact_behind names part lines = compiled_sections names (behind_start part lines)

@@ -8,8 +8,8 @@ use Rattle.ps_model.specs.meaning.Compiled.{CompiledSection}
 use Rattle.ps_board.specs.Rooms.{HaveRoom, layer_numbers}
 use Rattle.ps_board.specs.Runnable.{IsRunnable}
 
--- a board on which each object of the game has room on its own layer can run the sections as they are, if the source
--- lines are lines of the game
+-- if the source lines are lines of the game: a board on which each object of the game has room on its own layer can run
+-- the sections as they are
 abbrev pub RunsOnBoards : Names → List RuleLine → List CompiledSection → Type 0
 RunsOnBoards names lines sections =
     All (IsLineOf names) lines → (table : Option (List ℕ)) (layers : List LayerId) →

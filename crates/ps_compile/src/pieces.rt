@@ -31,7 +31,7 @@ fn is_end(line: &RuleLine) -> bool
     }
 }
 
-/// The lines cut at the starts of loops: those before the first, and those behind each.
+/// The lines cut at the starts of loops: those before the first, and those after each.
 pub fn cut_at_starts<'r>(
     alloc: Global,
     lines: &'r [RuleLine],

@@ -27,7 +27,7 @@ pub struct CompiledPrograms<'r> {
     pub late: Program<'r>,
 }
 
-/// Written out, so that who owns the programs calls this on each way out, instead of dropping their parts there.
+/// Written out: an owner of the programs calls this on each return path, and doesn't drop their parts there.
 impl<'r> Drop for CompiledPrograms<'r> {
     fn drop(self) {
         let CompiledPrograms {
@@ -100,7 +100,7 @@ fn push_outside<'r>(
     push_groups(sections, groups)
 }
 
-/// Puts the sections of the lines behind the start of a loop last: a loop, and what follows its end.
+/// Puts the sections of the lines after the start of a loop last: a loop, and what follows its end.
 fn push_behind<'r>(
     alloc: Global,
     sections: &mut Vec<CompiledSection<'r>>,
@@ -124,7 +124,7 @@ fn push_behind<'r>(
     Ok(())
 }
 
-/// The compiled program of one part of a turn: the lines before the first start of a loop, and those behind each.
+/// The compiled program of one part of a turn: the lines before the first start of a loop, and those after each.
 fn program_of<'r>(
     alloc: Global,
     names: &Names,

@@ -1,12 +1,12 @@
 -- What a front end needs to know of a game, as JSON: its title, how many levels it has, which keys it ignores, what each
--- glyph stands for, and which glyphs show a Player.
-use Rattle.std.specs.Prelude.{◌≡◌, ℕ, nat_eq, Bool, false, Option, Some, None, List, [], ◌∷◌, ◌++◌, if◌then◌else◌, length}
-use Rattle.std.specs.Prelude.{map, filter, find, codes, encode_utf8}
-use Rattle.std.specs.List.{list_any, flat_map}
+-- glyph stands for, which glyphs show a Player, and which objects no glyph shows.
+use Rattle.std.specs.Prelude.{◌≡◌, ℕ, Bool, false, Option, Some, None, List, [], ◌∷◌, ◌++◌, if◌then◌else◌, length}
+use Rattle.std.specs.Prelude.{map, filter, find, codes, encode_utf8, not, ◌&&◌}
+use Rattle.std.specs.List.{list_all, list_any, flat_map, range_with_len}
 use Rattle.ps_model.specs.declared.options.Options.{Options}
 use Rattle.ps_model.specs.declared.pieces.ObjectId.{ObjectId}
 use Rattle.ps_model.specs.names.Names.{Meaning, One, AllOf, AnyOf, Glyph, Names, is_among, meaning_of, members, players}
-use Rattle.ps_model.specs.names.Names.{same_object}
+use Rattle.ps_model.specs.names.Names.{object_count, same_object}
 use Rattle.ps_model.specs.session.Sessions.{is_level}
 use Rattle.ps_model.specs.game.Games.{Game, game}
 use Rattle.ps_facts.specs.Declarations.{Declared, declared}
@@ -59,6 +59,30 @@ glyph_told names names_declared glyph =
     (member (codes "objects") (array (items_of (map (name_told names names_declared) (members glyph.meaning))))
     no_members))
 
+-- objects without a glyph ---------------------------------------------------------------------------------------------
+
+-- an object is that one
+abbrev pub is_that : ObjectId → ObjectId → Bool
+is_that wanted other = same_object other wanted
+
+-- a glyph shows that object and no other
+abbrev pub shows_alone : ObjectId → Glyph → Bool
+shows_alone wanted glyph = list_all (is_that wanted) (members glyph.meaning) && is_among (members glyph.meaning) wanted
+
+-- no glyph does
+abbrev pub lacks_glyph : Names → ObjectId → Bool
+lacks_glyph names wanted = not (list_any (shows_alone wanted) names.glyphs)
+
+-- the object of that number
+abbrev pub object_of : ℕ → ObjectId
+object_of place = record { 0 = place }
+
+-- the objects that no glyph shows alone, by their numbers
+abbrev pub objects_without_glyph : Names → List ObjectId
+objects_without_glyph names = filter (lacks_glyph names) (map object_of (range_with_len 0 (object_count names)))
+
+-- words ---------------------------------------------------------------------------------------------------------------
+
 -- a word, if it is to be told
 abbrev pub word_if : Bool → List ℕ → List (List ℕ)
 word_if told word = if told then word ∷ [] else []
@@ -74,19 +98,21 @@ abbrev pub level_count : Game → ℕ
 level_count read = length (filter is_level read.entries)
 
 -- an object with these parts. The members of an object are in the order of their names
-abbrev pub object_with : List Data → List Data → ℕ → List ℕ → List ℕ → Data
-object_with glyphs ignored levels player_glyphs title =
+abbrev pub object_with : List Data → List Data → ℕ → List ℕ → List ℕ → List Data → Data
+object_with glyphs ignored levels player_glyphs title without_glyph =
     object (member (codes "glyphs") (array (items_of glyphs))
     (member (codes "ignored_keys") (array (items_of ignored))
     (member (codes "levels") (number (unsigned levels))
     (member (codes "player_glyphs") (string player_glyphs)
-    (member (codes "title") (string title) no_members)))))
+    (member (codes "title") (string title)
+    (member (codes "without_glyph") (array (items_of without_glyph)) no_members))))))
 
 -- all of it
 unfoldable pub description : Game → List Declared → Data
 description read names_declared =
     object_with (map (glyph_told read.names names_declared) read.names.glyphs) (map string (ignored_keys read.options))
     (level_count read) (flat_map encode_utf8 (player_characters read.names)) read.title
+    (map (name_told read.names names_declared) (objects_without_glyph read.names))
 
 -- the line on a text that is a game
 abbrev pub description_line : List ℕ → Game → List ℕ

@@ -15,6 +15,7 @@ ghost use Rattle.serde_json.specs.View.{view};
 
 use crate::glyphs::glyphs_told;
 use crate::players::player_characters;
+use crate::without_glyph::names_without_glyph;
 use ps_facts::{Named, declared_names};
 use ps_game::{Game, read_game};
 use ps_levels::Entry;
@@ -87,20 +88,22 @@ struct Parts {
     levels: usize,
     player_glyphs: String,
     title: String,
+    without_glyph: Vec<Value>,
 }
 
 /// The object that has these parts.
 fn object_with(alloc: Global, parts: Parts) -> Result<Value, AllocError>
     ensures { IfOk result (λ told. view told ≡ object_with (map view parts.glyphs.items)
         (map view parts.ignored_keys.items) parts.levels (string_bytes parts.player_glyphs)
-        (string_bytes parts.title)) }
+        (string_bytes parts.title) (map view parts.without_glyph.items)) }
 {
     json!(in alloc; {
         "glyphs": Value::Array(parts.glyphs),
         "ignored_keys": Value::Array(parts.ignored_keys),
         "levels": parts.levels,
         "player_glyphs": parts.player_glyphs,
-        "title": parts.title
+        "title": parts.title,
+        "without_glyph": Value::Array(parts.without_glyph)
     })
 }
 
@@ -113,12 +116,14 @@ fn description(alloc: Global, game: &Game, declared: &[Named<'_>]) -> Result<Val
     let ignored_keys = ignored_keys(alloc, game.options)?;
     let player_glyphs = players_told(alloc, &game.names)?;
     let title = String::from_str(alloc, game.title.as_str())?;
+    let without_glyph = names_without_glyph(alloc, &game.names, declared)?;
     let parts = Parts {
         glyphs,
         ignored_keys,
         levels: levels_among(&game.entries),
         player_glyphs,
         title,
+        without_glyph,
     };
     let told = object_with(alloc, parts)?;
     Ok(told)
@@ -138,7 +143,8 @@ fn line_of(alloc: Global, source: &Source, game: &Game) -> Result<String, Memory
 
 /// What a text is that is a game, as a line of JSON: an object with `title`; `levels`, how many there are;
 /// `ignored_keys`, of `act`, `undo` and `restart`; `glyphs`, each with its character as `glyph` and the names of the
-/// `objects` that it shows; and `player_glyphs`, the characters of those that show an object of Player.
+/// `objects` that it shows; `player_glyphs`, the characters of those that show an object of Player; and `without_glyph`,
+/// the names of the objects that no glyph shows alone.
 ///
 /// # Errors
 ///

@@ -23,7 +23,11 @@ fn text_of_character(alloc: Global, character: char) -> Result<String, Memory>
 }
 
 /// The names of objects.
-fn names_told(
+///
+/// # Errors
+///
+/// `Memory`.
+pub fn names_told(
     alloc: Global,
     names: &Names,
     declared: &[Named<'_>],

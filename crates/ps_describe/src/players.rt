@@ -10,7 +10,7 @@ use ps_names::{Glyph, Names};
 use std::alloc::Global;
 
 /// Whether an object is among others.
-fn is_among(objects: &[ObjectId], object: ObjectId) -> bool
+pub fn is_among(objects: &[ObjectId], object: ObjectId) -> bool
     ensures { result ≡ is_among objects.now object }
 {
     for other in objects {

@@ -13,7 +13,7 @@ pub loses_twice : (a b c : Option (List ℕ)) (x y : List ℕ) → Loses a b x �
 loses_twice a b None x y h k = rw (h, k) refl
 loses_twice a b (Some c) x y h k = rw (h, k) (ap Some (sym (append_assoc x y c)))
 
--- what is left behind a piece
+-- what is left after a piece
 pub left_more : (bytes buffer : List ℕ) (place count : ℕ) → take count buffer ≡ take count (drop place bytes) →
     drop place bytes ≡ take count buffer ++ drop (place + count) bytes
 left_more bytes buffer place count e = rw (e, ← drop-drop count place bytes)

@@ -46,8 +46,8 @@ impl<T: Read + Drop> ByteReader for FromStd<T> {
       odd_sized_calls = device.stream.odd_sized_calls;
     } };
 
-    /// One read of the stream, of as many bytes as `buffer` has room for and `CALL_LIMIT` allows: what it gives goes
-    /// into `buffer`, and nothing of it is lost. std doesn't say that a read leaves the rest of its buffer alone, so
+    /// One read of the stream, of as many bytes as `buffer` has room for and `CALL_LIMIT` allows. What it gives goes
+    /// into `buffer`, and nothing of it is lost. std doesn't say that a read leaves the rest of its buffer alone. So
     /// the stream reads into a piece of its own.
     fn read_some(&mut self, buffer: &mut [u8]) -> Result<usize, Failed>
         requires well { self.old.stream.failed ≡ false }

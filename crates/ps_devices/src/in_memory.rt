@@ -87,8 +87,8 @@ impl<'a> ByteReader for MemoryReader<'a> {
       odd_sized_calls = device.odd_sized_calls;
     } };
 
-    /// Gives as many bytes as are left up to where it stops, but no more than a piece and than `buffer` has room for;
-    /// it fails where it stops and was told to, and behind the `u64::MAX`th call.
+    /// Gives as many bytes as are left up to where it stops: at most a piece, and at most what `buffer` has room for.
+    /// It fails where it stops and was told to, and after the `u64::MAX`th call.
     fn read_some(&mut self, buffer: &mut [u8]) -> Result<usize, Failed>
         ensures count { IfOk result (λ count. count ≤ length buffer.old) }
         ensures given { IfOk result (λ count. Loses (Some (drop self.old.place self.old.bytes.now))
@@ -218,7 +218,7 @@ impl ByteWriter for MemoryWriter {
     } };
 
     /// Takes as much as there is room for, but no more than a piece; it fails where it has no room left for some bytes,
-    /// and behind the `u64::MAX`th call.
+    /// and after the `u64::MAX`th call.
     fn write_some(&mut self, bytes: &[u8]) -> Result<usize, Failed>
         ensures count { IfOk result (λ count. count ≤ length bytes.now) }
         ensures taken { IfOk result (λ count.

@@ -1,6 +1,6 @@
-//! Where the keys come from and where the frames go: the two traits that a run is generic over, the
-//! system's own streams behind them, and devices in memory which tell all that they gave and took; and the trait of
-//! what plays games on such devices.
+//! Where the keys come from and where the frames go: the two traits that a run is generic over, and the system's own
+//! streams as such devices. Devices in memory tell all that they gave and took. Last comes the trait of what plays
+//! games on such devices.
 #![tactic(auto)]
 
 mod from_std;

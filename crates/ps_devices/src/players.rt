@@ -40,7 +40,7 @@ impl From<Memory> for RunFault {
 /// Why a run that begins at a level didn't come to its end.
 #[derive(Clone, Copy, PartialEq, Eq, Debug, Error)]
 pub enum LevelFault {
-    /// The game has no such level, but so many others, and nothing was read or written.
+    /// The game has no such level, but this many others, and nothing was read or written.
     #[error("the game has no such level")]
     NoSuchLevel { levels: usize },
     /// The run came to a fault.
@@ -48,7 +48,7 @@ pub enum LevelFault {
     Run(RunFault),
 }
 
-/// What plays games, each as its text means it. Who says which game is played where, as a command line does, asks for
+/// What plays games, each as its text means it. Code that says which game is played where, as a command line, asks for
 /// no more than this, and so needs nothing of what plays.
 pub trait Player {
     /// Plays the game whose text is `text`: reads keys from `reader` and writes frames to `writer`, until the game has

@@ -1,4 +1,4 @@
-//! A stream of std's behind a counter of its calls.
+//! A stream of std's after a counter of its calls.
 //!
 //! This module alone calls a stream, by two steps that are each one call. Whoever holds a `Stream` has no other way to
 //! the stream, so the count is the number of calls that the system saw.
@@ -12,10 +12,10 @@ use super::traits::Failed;
 use ps_model::CALL_LIMIT;
 use std::io::{Read, Write};
 
-/// A stream, whether a call of it failed, how many calls it has had, what the last one was given room for or handed,
-/// and what it moved; how many calls gave nothing without failing or were handed nothing, how many writes took fewer
-/// bytes than they were handed, and for how many reads the caller had room for another number of bytes than
-/// `CALL_LIMIT`.
+/// A stream, and what is counted of it. It has whether a call failed, how many calls there were, what the last one was
+/// given room for or handed, and what it moved. It has how many calls gave nothing without failing, or were handed
+/// nothing. It has how many writes took fewer bytes than they were handed. And it has for how many reads the caller had
+/// room for another number of bytes than `CALL_LIMIT`.
 #[derive(Drop)]
 pub(super) struct Stream<T> {
     stream: T,
@@ -55,7 +55,7 @@ impl<T: Drop> Stream<T> {
         }
     }
 
-    /// Counts one more call, of so many bytes. It fails where the count can't grow.
+    /// Counts one more call, of `asked` bytes. It fails where the count can't grow.
     fn count_call(&mut self, asked: usize) -> Result<(), Failed>
         ensures stream { self.new.stream ≡ self.old.stream }
         ensures asked { self.new.asked ≡ asked }

@@ -96,7 +96,7 @@ pub trait ByteWriter: Drop {
 }
 
 /// Writes all of `bytes`, in order and nothing else, by as many calls as it takes: each is handed all that is left, and
-/// takes a byte or more where it doesn't fail; none comes behind a failure or behind the last byte. So there is one
+/// takes a byte or more where it doesn't fail; none comes after a failure or after the last byte. So there is one
 /// call, and one more for each that took less than it was handed.
 ///
 /// # Errors

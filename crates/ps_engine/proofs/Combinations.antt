@@ -14,14 +14,14 @@ use Rattle.ps_model.specs.meaning.RuleMeanings.{CellMeaning}
 use Rattle.ps_program.specs.declared.rows.Axis.{Axis}
 use Rattle.ps_program.specs.declared.rows.CompiledRow.{CompiledRow}
 use Rattle.ps_program.specs.Axes.{LiesAlong, direction_of}
-use Rattle.ps_places.specs.Room.{Room}
+use Rattle.ps_places.specs.Scratch.{Scratch}
 use Rattle.ps_places.specs.RowPlaces.{all_places, place_at, place_fits, places_behind, row_meaning}
 use Rattle.ps_places.specs.Starts.{HasLinesOf, HaveSameStarts}
 use Rattle.ps_places.specs.Ways.{from_first}
 use Rattle.ps_engine.specs.Choices.{Choice, behind, choices_of, chosen, spread}
 use Rattle.ps_engine.specs.Choosing.{IsChosenOf, IsPlaced, OfEach, row_places, rows_meaning}
 use Rattle.ps_engine.proofs.Choosing.{cells_in-meant, chosen_fits, same_places}
-use Rattle.ps_engine.proofs.RoomsChanged.{get_other, get_same}
+use Rattle.ps_engine.proofs.ScratchChanged.{get_other, get_same}
 use Rattle.ps_engine.proofs.Sought.{first_is, found_or, from_first-append, from_first-yes}
 
 -- of elements that are all of a kind the first is of the kind ---------------------------------------------------------
@@ -78,32 +78,32 @@ module _ (g : Grid) (table : Option (List ℕ)) where
       (stretches g direction (map length (row_meaning table row))) (search_order g direction)
 
   -- a row's places are found, and the first is chosen
-  pub record HasFirst (row : CompiledRow) (room : Room) : Type 0 where
-    pub places : places g (direction_of row.axis) (row_meaning table row) ≡ all_places g.height row room
-    pub first : all_places g.height row room ≡ place_at g.height row room ∷ places_behind g.height row room
-    pub fits : place_fits g table row.parts (place_at g.height row room) ≡ true
-    pub lines : HasLinesOf g row room
-    pub place : IsPlaced g row room
+  pub record HasFirst (row : CompiledRow) (row_scratch : Scratch) : Type 0 where
+    pub places : places g (direction_of row.axis) (row_meaning table row) ≡ all_places g.height row row_scratch
+    pub first : all_places g.height row row_scratch ≡ place_at g.height row row_scratch ∷ places_behind g.height row row_scratch
+    pub fits : place_fits g table row.parts (place_at g.height row row_scratch) ≡ true
+    pub lines : HasLinesOf g row row_scratch
+    pub place : IsPlaced g row row_scratch
 
   -- the combination of the first places, and those behind it
-  pub all_combinations : (axis : Axis) (rows : List CompiledRow) (rooms : List Room) → All (LiesAlong axis) rows →
-      length rows ≤ length rooms → OfEach (λ k. 0 ≤ k) rows rooms HasFirst →
+  pub all_combinations : (axis : Axis) (rows : List CompiledRow) (scratch : List Scratch) → All (LiesAlong axis) rows →
+      length rows ≤ length scratch → OfEach (λ k. 0 ≤ k) rows scratch HasFirst →
       combinations (map (places g (direction_of axis)) (rows_meaning table rows)) ≡ chosen
-      (choices_of g.height rows rooms) ∷ behind (choices_of g.height rows rooms)
-  all_combinations axis [] rooms along long each = refl
+      (choices_of g.height rows scratch) ∷ behind (choices_of g.height rows scratch)
+  all_combinations axis [] scratch along long each = refl
   all_combinations axis (row ∷ rows) [] along long each = absurd (omega arith)
-  all_combinations axis (row ∷ rows) (room ∷ rooms) along long each =
-      let here = each 0 row room (omega arith) refl refl in
-      let others : List Choice = choices_of g.height rows rooms in
+  all_combinations axis (row ∷ rows) (row_scratch ∷ scratch) along long each =
+      let here = each 0 row row_scratch (omega arith) refl refl in
+      let others : List Choice = choices_of g.height rows scratch in
       let lies : row.axis ≡ axis = along 0 row (omega arith) in
-      let own : places g (direction_of axis) (row_meaning table row) ≡ place_at g.height row room ∷ places_behind
-      g.height row room =
+      let own : places g (direction_of axis) (row_meaning table row) ≡ place_at g.height row row_scratch ∷ places_behind
+      g.height row row_scratch =
       ap (λ (a : Axis). places g (direction_of a) (row_meaning table row)) (sym lies) ∙ here.places ∙ here.first in
-      ap₂ spread own (all_combinations axis rows rooms (λ k d low.
+      ap₂ spread own (all_combinations axis rows scratch (λ k d low.
       along (suc k) d (omega (arith, low))) (omega arith) (λ k r o low is there.
       each (suc k) r o (omega arith) is there))
       ∙ ap (λ (ps : List (List ℕ)). map (λ place.
-      place ∷ chosen others) (place_at g.height row room ∷ places_behind g.height row room) ++ spread ps
+      place ∷ chosen others) (place_at g.height row row_scratch ∷ places_behind g.height row row_scratch) ++ spread ps
       (behind others)) (sym here.first)
 
   -- a row without a place
@@ -120,22 +120,22 @@ module _ (g : Grid) (table : Option (List ℕ)) where
       ∙ ap (λ (a : Axis). places g (direction_of a) (row_meaning table row)) (sym lies) ∙ none)
 
   -- the first place is chosen among those that were found
-  module _ (row : CompiledRow) (found : Room) (places_are : places g (direction_of row.axis) (row_meaning table row) ≡
+  module _ (row : CompiledRow) (found : Scratch) (places_are : places g (direction_of row.axis) (row_meaning table row) ≡
       all_places g.height row found) where
     sought : from_first (place_fits g table row.parts) (all_places g.height row found) ≡ places g
         (direction_of row.axis) (row_meaning table row)
     sought = ap (from_first (place_fits g table row.parts)) (sym places_are) ∙ all_fit_there (direction_of row.axis) row
 
-    pub is_first : (room : Room) → HasLinesOf g row found → HaveSameStarts found room →
-        IsChosenOf g table row (all_places g.height row found) room → HasFirst row room
-    is_first room lines starts chosen =
-        let alike : all_places g.height row room ≡ all_places g.height row found =
-        same_places g table row found room starts in
+    pub is_first : (row_scratch : Scratch) → HasLinesOf g row found → HaveSameStarts found row_scratch →
+        IsChosenOf g table row (all_places g.height row found) row_scratch → HasFirst row row_scratch
+    is_first row_scratch lines starts chosen =
+        let alike : all_places g.height row row_scratch ≡ all_places g.height row found =
+        same_places g table row found row_scratch starts in
         record {
           places = places_are ∙ sym alike;
           first = alike ∙ sym places_are ∙ sym sought ∙ chosen.found;
-          fits = first_is (place_fits g table row.parts) (all_places g.height row found) (place_at g.height row room)
-              (places_behind g.height row room) chosen.found;
+          fits = first_is (place_fits g table row.parts) (all_places g.height row found) (place_at g.height row row_scratch)
+              (places_behind g.height row row_scratch) chosen.found;
           lines = record { at = λ line there. lines.at line (rw (← starts.lines) there) };
           place = chosen.place;
         }
@@ -146,22 +146,22 @@ module _ (g : Grid) (table : Option (List ℕ)) where
         combinations (map (places g (direction_of axis)) (rows_meaning table rows)) ≡ []
     none_first axis rows n along low is none = none_of_row row axis rows n along low is (sym sought ∙ none)
 
-  pub first_more : (rows : List CompiledRow) (rooms : List Room) (n m : ℕ) (row : CompiledRow) (room : Room) →
-      m ≡ suc n → slice_get rows n ≡ Some row → n < length rooms →
-      HasFirst row room → OfEach (λ k. k < n) rows rooms HasFirst →
-      OfEach (λ k. k < m) rows (slice_set rooms n room) HasFirst
-  first_more rows rooms n m row room next is low here all k r o less own there = elim (cases_eq k n) [
+  pub first_more : (rows : List CompiledRow) (scratch : List Scratch) (n m : ℕ) (row : CompiledRow) (row_scratch : Scratch) →
+      m ≡ suc n → slice_get rows n ≡ Some row → n < length scratch →
+      HasFirst row row_scratch → OfEach (λ k. k < n) rows scratch HasFirst →
+      OfEach (λ k. k < m) rows (slice_set scratch n row_scratch) HasFirst
+  first_more rows scratch n m row row_scratch next is low here all k r o less own there = elim (cases_eq k n) [
     | inl e ↦
         let d : r ≡ row = same_Some _ _ (sym own ∙ ap (slice_get rows) e ∙ is) in
-        let f : o ≡ room = same_Some _ _ (sym there ∙ ap (slice_get (slice_set rooms n room)) e
-        ∙ get_same rooms n (get_or rooms n room) room (slice_get-get_or rooms n room low)) in
+        let f : o ≡ row_scratch = same_Some _ _ (sym there ∙ ap (slice_get (slice_set scratch n row_scratch)) e
+        ∙ get_same scratch n (get_or scratch n row_scratch) row_scratch (slice_get-get_or scratch n row_scratch low)) in
         rw (d, f) here
-    | inr other ↦ all k r o (omega (arith, less, next, other)) own (sym (get_other rooms n k room other) ∙ there)
+    | inr other ↦ all k r o (omega (arith, less, next, other)) own (sym (get_other scratch n k row_scratch other) ∙ there)
   ]
 
   -- all rows fit at their first places
-  pub first_fits : (rows : List CompiledRow) (rooms : List Room) → length rows ≤ length rooms →
-      OfEach (λ k. 0 ≤ k) rows rooms HasFirst →
-      all_fit g (rows_meaning table rows) (chosen (choices_of g.height rows rooms)) ≡ true
-  first_fits rows rooms long each = chosen_fits g table rows rooms long (λ k r o low is there.
+  pub first_fits : (rows : List CompiledRow) (scratch : List Scratch) → length rows ≤ length scratch →
+      OfEach (λ k. 0 ≤ k) rows scratch HasFirst →
+      all_fit g (rows_meaning table rows) (chosen (choices_of g.height rows scratch)) ≡ true
+  first_fits rows scratch long each = chosen_fits g table rows scratch long (λ k r o low is there.
       (each k r o low is there).fits)

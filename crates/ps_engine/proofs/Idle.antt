@@ -12,7 +12,7 @@ use Rattle.ps_program.specs.declared.rules.CompiledRule.{CompiledRule}
 use Rattle.ps_program.specs.declared.program.CompiledSection.{CompiledSection}
 use Rattle.ps_engine.specs.RulesInRoom.{rule_meaning, rules_meaning, section_meaning}
 use Rattle.ps_engine.specs.Lacking.{AreIdleBetween}
-use Rattle.ps_engine.specs.Watched.{AreIdleOn, IsIdleOn}
+use Rattle.ps_engine.specs.QuietGroups.{AreIdleOn, IsIdleOn}
 use Rattle.ps_laws.proofs.alike.AlikeRounds.{change_grouped}
 use Rattle.ps_engine.proofs.Sequences.{group_is, settled_off}
 

@@ -1,7 +1,7 @@
 pub mod Sought
 pub mod Choosing
 pub mod Rewriting
-pub mod RoomsChanged
+pub mod ScratchChanged
 pub mod Attempting
 pub mod Combinations
 pub mod AskedRows
@@ -15,11 +15,11 @@ pub mod WriterPlaces
 pub mod WriterAttempts
 pub mod Absent
 pub mod AskedFor
-pub mod RoomsFor
+pub mod EnoughScratch
 pub mod Sleeping
 pub mod RowsAsleep
 pub mod Forgetting
-pub mod RoomsForgetting
+pub mod ScratchForgetting
 pub mod ComingBack
 pub mod Unchanged
 pub mod Idle

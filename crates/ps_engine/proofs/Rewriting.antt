@@ -10,7 +10,7 @@ use Rattle.ps_model.specs.board.Grid.{Grid}
 use Rattle.ps_model.specs.board.Attempts.{Rewritten, all_fit, applied, rewritten_along, rewritten_rows}
 use Rattle.ps_model.specs.meaning.RuleMeanings.{CellMeaning}
 use Rattle.ps_program.specs.declared.rows.CompiledRow.{CompiledRow}
-use Rattle.ps_places.specs.Room.{Room}
+use Rattle.ps_places.specs.Scratch.{Scratch}
 use Rattle.ps_places.specs.RowPlaces.{cells_meaning, place_at}
 use Rattle.ps_places.specs.Ways.{from_first}
 use Rattle.ps_engine.specs.Choices.{behind, choices_of, chosen}
@@ -19,36 +19,36 @@ use Rattle.ps_engine.proofs.Choosing.{cells_in-meant}
 use Rattle.ps_engine.proofs.Sought.{no_more, passed_over}
 
 -- what is left of rows rewritten, from one on
-abbrev pub rewritten_from : Option (List ℕ) → ℕ → List CompiledRow → List Room → ℕ → Rewritten → Rewritten
-rewritten_from table height rows rooms n r =
-    rewritten_rows r (rows_meaning table (drop n rows)) (chosen (choices_of height (drop n rows) (drop n rooms)))
+abbrev pub rewritten_from : Option (List ℕ) → ℕ → List CompiledRow → List Scratch → ℕ → Rewritten → Rewritten
+rewritten_from table height rows scratch n r =
+    rewritten_rows r (rows_meaning table (drop n rows)) (chosen (choices_of height (drop n rows) (drop n scratch)))
 
-pub rewritten_more : (table : Option (List ℕ)) (height n m : ℕ) (rows : List CompiledRow) (rooms : List Room)
-    (row : CompiledRow) (room : Room) (r : Rewritten) →
-    slice_get rows n ≡ Some row → slice_get rooms n ≡ Some room → m ≡ suc n →
-    rewritten_from table height rows rooms n r ≡ rewritten_from table height rows rooms m
-    (rewritten_along r (cells_meaning table row.parts) (place_at height row room))
-rewritten_more table height n m [] rooms row room r is there next = absurd (none-some row is)
-rewritten_more table height n m (x ∷ rows) [] row room r is there next = absurd (none-some room there)
-rewritten_more table height zero m (x ∷ rows) (y ∷ rooms) row room r is there next =
+pub rewritten_more : (table : Option (List ℕ)) (height n m : ℕ) (rows : List CompiledRow) (scratch : List Scratch)
+    (row : CompiledRow) (row_scratch : Scratch) (r : Rewritten) →
+    slice_get rows n ≡ Some row → slice_get scratch n ≡ Some row_scratch → m ≡ suc n →
+    rewritten_from table height rows scratch n r ≡ rewritten_from table height rows scratch m
+    (rewritten_along r (cells_meaning table row.parts) (place_at height row row_scratch))
+rewritten_more table height n m [] scratch row row_scratch r is there next = absurd (none-some row is)
+rewritten_more table height n m (x ∷ rows) [] row row_scratch r is there next = absurd (none-some row_scratch there)
+rewritten_more table height zero m (x ∷ rows) (y ∷ scratch) row row_scratch r is there next =
     let e : x ≡ row = same_Some x row is in
-    let d : y ≡ room = same_Some y room there in
-    ap (λ (ms : List CellMeaning). rewritten_from table height rows rooms 0
+    let d : y ≡ row_scratch = same_Some y row_scratch there in
+    ap (λ (ms : List CellMeaning). rewritten_from table height rows scratch 0
     (rewritten_along r ms (place_at height x y))) (cells_in-meant table x.parts)
-    ∙ ap₂ (λ (a : CompiledRow) (b : Room). rewritten_from table height rows rooms 0
+    ∙ ap₂ (λ (a : CompiledRow) (b : Scratch). rewritten_from table height rows scratch 0
     (rewritten_along r (cells_meaning table a.parts) (place_at height a b))) e d
-    ∙ ap (λ (k : ℕ). rewritten_from table height (x ∷ rows) (y ∷ rooms) k
-    (rewritten_along r (cells_meaning table row.parts) (place_at height row room))) (sym next)
-rewritten_more table height (suc n) m (x ∷ rows) (y ∷ rooms) row room r is there next =
-    rewritten_more table height n (suc n) rows rooms row room r is there refl
-    ∙ ap (λ (k : ℕ). rewritten_from table height (x ∷ rows) (y ∷ rooms) k
-    (rewritten_along r (cells_meaning table row.parts) (place_at height row room))) (sym next)
+    ∙ ap (λ (k : ℕ). rewritten_from table height (x ∷ rows) (y ∷ scratch) k
+    (rewritten_along r (cells_meaning table row.parts) (place_at height row row_scratch))) (sym next)
+rewritten_more table height (suc n) m (x ∷ rows) (y ∷ scratch) row row_scratch r is there next =
+    rewritten_more table height n (suc n) rows scratch row row_scratch r is there refl
+    ∙ ap (λ (k : ℕ). rewritten_from table height (x ∷ rows) (y ∷ scratch) k
+    (rewritten_along r (cells_meaning table row.parts) (place_at height row row_scratch))) (sym next)
 
-pub rewritten_end : (table : Option (List ℕ)) (height n : ℕ) (rows : List CompiledRow) (rooms : List Room)
-    (r : Rewritten) → length rows ≤ n → rewritten_from table height rows rooms n r ≡ r
-rewritten_end table height n rows rooms r h =
+pub rewritten_end : (table : Option (List ℕ)) (height n : ℕ) (rows : List CompiledRow) (scratch : List Scratch)
+    (r : Rewritten) → length rows ≤ n → rewritten_from table height rows scratch n r ≡ r
+rewritten_end table height n rows scratch r h =
     ap (λ (rs : List CompiledRow). rewritten_rows r (rows_meaning table rs)
-    (chosen (choices_of height rs (drop n rooms)))) (drop_all n rows h)
+    (chosen (choices_of height rs (drop n scratch)))) (drop_all n rows h)
 
 -- a list that is empty or isn't, by the test of its length
 pub none_there : {X : Type 0} (xs : List X) → (length xs == 0) ≡ true → length xs ≤ 0
@@ -86,18 +86,18 @@ module _ (meant : List (List (List CellMeaning))) where
       ∙ sym (passed_over (all_fit after.grid meant) (applied meant) after behind (does_nothing after))
       ∙ ap (λ (r : Rewritten). fold (applied meant) r behind) (made ∙ sym (is_applied before places fit))
 
-module _ (rows : List CompiledRow) (rooms : List Room) (table other : Option (List ℕ)) (height high : ℕ) where
+module _ (rows : List CompiledRow) (scratch : List Scratch) (table other : Option (List ℕ)) (height high : ℕ) where
   pub turn : (before after : Rewritten) (end : List (List (List ℕ))) → other ≡ table → high ≡ height →
-      all_fit before.grid (rows_meaning table rows) (chosen (choices_of height rows rooms)) ≡ true →
-      after ≡ rewritten_rows before (rows_meaning table rows) (chosen (choices_of height rows rooms)) →
-      from_first (all_fit after.grid (rows_meaning other rows)) (behind (choices_of high rows rooms)) ≡ end →
+      all_fit before.grid (rows_meaning table rows) (chosen (choices_of height rows scratch)) ≡ true →
+      after ≡ rewritten_rows before (rows_meaning table rows) (chosen (choices_of height rows scratch)) →
+      from_first (all_fit after.grid (rows_meaning other rows)) (behind (choices_of high rows scratch)) ≡ end →
       fold (applied (rows_meaning table rows)) after end ≡ fold (applied (rows_meaning table rows)) before
-      (chosen (choices_of height rows rooms) ∷ behind (choices_of height rows rooms))
+      (chosen (choices_of height rows scratch) ∷ behind (choices_of height rows scratch))
   turn before after end e d fit made sought =
-      one_turn (rows_meaning table rows) before after (chosen (choices_of height rows rooms))
-      (behind (choices_of height rows rooms)) end fit made
+      one_turn (rows_meaning table rows) before after (chosen (choices_of height rows scratch))
+      (behind (choices_of height rows scratch)) end fit made
       (ap₂ (λ (t : Option (List ℕ)) (h : ℕ). from_first (all_fit after.grid (rows_meaning t rows))
-      (behind (choices_of h rows rooms))) (sym e) (sym d) ∙ sought)
+      (behind (choices_of h rows scratch))) (sym e) (sym d) ∙ sought)
 
 -- fewer are left behind the next one
 pub fewer : {X : Type 0} (kind : X → Bool) (xs : List X) (y : X) (ys : List X) → from_first kind xs ≡ y ∷ ys →

@@ -34,7 +34,7 @@ use Rattle.ps_match.proofs.TopicSets.{motion_low, object_low}
 use Rattle.ps_places.specs.Lines.{cell_meaning}
 use Rattle.ps_places.specs.RowPlaces.{row_meaning}
 use Rattle.ps_engine.specs.TopicsAsked.{HasGroup, HasMask, HasMotion, HasObject, HasPart, HasParts, HasRows, HasRules}
-use Rattle.ps_engine.specs.Watched.{AreIdleOn, IsIdleOn}
+use Rattle.ps_engine.specs.QuietGroups.{AreIdleOn, IsIdleOn}
 use Rattle.ps_engine.proofs.Absent.{all_cells, cells_meaning-all}
 use Rattle.ps_engine.proofs.Choosing.{cells_in-meant}
 

@@ -13,7 +13,7 @@ use Rattle.ps_program.specs.declared.program.CompiledSection.{CompiledSection}
 use Rattle.ps_program.specs.declared.program.CompiledSection.TheVariants.{Group, Loop}
 use Rattle.ps_match.specs.Topics.{HasTopicsOf, motion_topic, object_topic}
 use Rattle.ps_engine.specs.TopicsAsked.{HasMask, HasMotion, HasObject, HasPart, HasParts, HasRows}
-use Rattle.ps_engine.proofs.RoomsFor.{AllBefore}
+use Rattle.ps_engine.proofs.EnoughScratch.{AllBefore}
 use Rattle.ps_match.proofs.TopicSets.{motion_low, object_low}
 use Rattle.ps_engine.proofs.Stirred.{each_of}
 

@@ -16,8 +16,8 @@ use Rattle.ps_match.specs.Topics.{DifferOnlyAbout}
 use Rattle.ps_program.specs.declared.program.CompiledSection.{CompiledSection}
 use Rattle.ps_engine.specs.TopicsAsked.{HasGroup}
 use Rattle.ps_engine.specs.Waking.{AreForgotten, AreUnknown, AreWoken, IsSameBut, IsUnknown}
-use Rattle.ps_engine.specs.Watched.{AreKnown, IsIdleOn, IsKnown}
-use Rattle.ps_engine.specs.declared.watched.SectionWatch.{SectionWatch}
+use Rattle.ps_engine.specs.QuietGroups.{AreKnown, IsIdleOn, IsKnown}
+use Rattle.ps_engine.specs.declared.quiet_groups.KnownSection.{KnownSection}
 use Rattle.ps_engine.proofs.Stirred.{differ_back, section_idle}
 
 -- the element of a place behind one more, and behind a change of one
@@ -34,30 +34,30 @@ get_last xs x y n at e =
     ∙ get_or_from_slice_get (xs ++ x ∷ []) n y y at
 
 -- a section more
-pub unknown_more : (sections : List CompiledSection) (watches : List SectionWatch) (n : ℕ) (section : CompiledSection)
-    (watch : SectionWatch) (all : List SectionWatch) → all ≡ watches ++ watch ∷ [] → length watches ≡ n →
-    n < length sections → section ≡ get_or sections n section → IsUnknown section watch →
-    AreUnknown sections watches → AreUnknown sections all
-unknown_more sections watches n section watch all is long low here told before k other found at there =
-    let there' : slice_get (watches ++ watch ∷ []) k ≡ Some found =
-    ap (λ (ws : List SectionWatch). slice_get ws k) (sym is)
+pub unknown_more : (sections : List CompiledSection) (known : List KnownSection) (n : ℕ) (section : CompiledSection)
+    (known_section : KnownSection) (all : List KnownSection) → all ≡ known ++ known_section ∷ [] → length known ≡ n →
+    n < length sections → section ≡ get_or sections n section → IsUnknown section known_section →
+    AreUnknown sections known → AreUnknown sections all
+unknown_more sections known n section known_section all is long low here told before k other found at there =
+    let there' : slice_get (known ++ known_section ∷ []) k ≡ Some found =
+    ap (λ (ws : List KnownSection). slice_get ws k) (sym is)
     ∙ there in
     elim (cases_eq k n) [
       | inl e ↦
-          let same : watch ≡ found = get_last watches watch found k there' (e ∙ sym long) in
+          let same : known_section ≡ found = get_last known known_section found k there' (e ∙ sym long) in
           let own : section ≡ other = here ∙ get_or_default sections n section other low
           ∙ ap (λ (j : ℕ). get_or sections j other) (sym e) ∙ get_or_from_slice_get sections k other other at in
-          subst (λ (w : SectionWatch). IsUnknown other w) same
-          (subst (λ (s : CompiledSection). IsUnknown s watch) own told)
+          subst (λ (w : KnownSection). IsUnknown other w) same
+          (subst (λ (s : CompiledSection). IsUnknown s known_section) own told)
       | inr apart ↦
           let inside : k < length all = slice_get_within all k found there in
-          let low' : k < length watches = omega (arith, inside, apart, long, long_more watches watch all is) in
-          before k other found at (get_appended watches watch found k there' low')
+          let low' : k < length known = omega (arith, inside, apart, long, long_more known known_section all is) in
+          before k other found at (get_appended known known_section found k there' low')
     ]
   where
-    long_more : (watches : List SectionWatch) (watch : SectionWatch) (all : List SectionWatch) →
-        all ≡ watches ++ watch ∷ [] → length all ≡ length watches + 1
-    long_more watches watch all is = ap length is ∙ length-append watches (watch ∷ [])
+    long_more : (known : List KnownSection) (known_section : KnownSection) (all : List KnownSection) →
+        all ≡ known ++ known_section ∷ [] → length all ≡ length known + 1
+    long_more known known_section all is = ap length is ∙ length-append known (known_section ∷ [])
 
 -- one more is woken, or forgotten
 pub one_more : {W : Type 0} (P : W → W → Type 0) (ws now : List W) (n : ℕ) (next : List W) (made : W) →
@@ -105,22 +105,22 @@ others_left ws now n next made left is k far = ap (λ (xs : List _). slice_get x
 
 -- where nothing is kept, or what is known stems from what was unknown, nothing is claimed
 pub known_unknown : (kept : Option (Grid × Option (List ℕ))) (sections : List CompiledSection)
-    (watches : List SectionWatch) → AreUnknown sections watches → AreKnown kept sections watches
-known_unknown kept sections watches unknown n section watch at there =
-    let told : IsUnknown section watch = unknown n section watch at there in
+    (known : List KnownSection) → AreUnknown sections known → AreKnown kept sections known
+known_unknown kept sections known unknown n section known_section at there =
+    let told : IsUnknown section known_section = unknown n section known_section at there in
     record {
       asks = told.asks;
       idle = λ g table is quiet. absurd (false≢true (sym told.loud ∙ quiet));
     }
 
 pub known_forgotten : (kept again : Option (Grid × Option (List ℕ))) (sections : List CompiledSection)
-    (watches after : List SectionWatch) → AreKnown kept sections watches → AreForgotten watches after →
+    (known after : List KnownSection) → AreKnown kept sections known → AreForgotten known after →
     AreKnown again sections after
-known_forgotten kept again sections watches after known forgotten n section watch at there =
-    let was = forgotten n watch there in
+known_forgotten kept again sections known after told forgotten n section known_section at there =
+    let was = forgotten n known_section there in
     record {
       asks = λ rules is. subst (λ (topics : List Bool). HasGroup topics section) (sym was.2.0)
-          (known n section was.0 at was.1).asks rules is;
+          (told n section was.0 at was.1).asks rules is;
       idle = λ g table is quiet. absurd (false≢true (sym was.2.1 ∙ quiet));
     }
 
@@ -129,14 +129,14 @@ area g h wide high = rw (wide, high) refl
 
 -- another board of the same sides is kept in place of the one before
 pub known_woken : (g h : Grid) (table kept_table : Option (List ℕ)) (stirred : List Bool)
-    (sections : List CompiledSection) (watches after : List SectionWatch) → IsGrid g → IsGrid h →
+    (sections : List CompiledSection) (known after : List KnownSection) → IsGrid g → IsGrid h →
     g.width ≡ h.width → g.height ≡ h.height → kept_table ≡ table → DifferOnlyAbout stirred h g →
-    AreKnown (Some (g, kept_table)) sections watches → AreWoken stirred watches after →
+    AreKnown (Some (g, kept_table)) sections known → AreWoken stirred known after →
     AreKnown (Some (h, table)) sections after
-known_woken g h table kept_table stirred sections watches after shape shape' wide high same differ known woken n section
-    watch at there =
-    let was = woken n watch there in
-    let before : IsKnown (Some (g, kept_table)) section was.0 = known n section was.0 at was.1 in
+known_woken g h table kept_table stirred sections known after shape shape' wide high same differ told woken n section
+    known_section at there =
+    let was = woken n known_section there in
+    let before : IsKnown (Some (g, kept_table)) section was.0 = told n section was.0 at was.1 in
     let long : length g.cells ≡ length h.cells = shape.cells ∙ area g h wide high ∙ sym shape'.cells in
     record {
       asks = λ rules is. subst (λ (topics : List Bool). HasGroup topics section) (sym was.2.topics)
@@ -158,78 +158,78 @@ two_same g h table other grids tables = ap₂ (λ (k : Grid) (t : Option (List �
 
 -- a board that differs from what is kept in nothing that a section asks about
 module _ {X : Type 0} (view : X → Grid × Option (List ℕ)) (sections : List CompiledSection)
-    (watches : List SectionWatch) (n : ℕ) (section : CompiledSection) (watch : SectionWatch) (stirred : List Bool)
+    (known : List KnownSection) (n : ℕ) (section : CompiledSection) (known_section : KnownSection) (stirred : List Bool)
     (g : Grid) (table : Option (List ℕ)) (shape : IsGrid g) (at : slice_get sections n ≡ Some section)
-    (there : slice_get watches n ≡ Some watch) (apart : set_columns (both_columns watch.topics stirred) ≡ []) where
+    (there : slice_get known n ≡ Some known_section) (apart : set_columns (both_columns known_section.topics stirred) ≡ []) where
   -- it is idle on both or on neither
   carried : (kept : Grid) (kept_table : Option (List ℕ)) → IsSameBut stirred g table kept kept_table →
-      HasGroup watch.topics section → IsIdleOn kept kept_table section → IsIdleOn g table section
+      HasGroup known_section.topics section → IsIdleOn kept kept_table section → IsIdleOn g table section
   carried kept kept_table same asks idle =
       let wide : kept.width ≡ g.width = ap (λ (s : ℕ × ℕ × ℕ). s.0) same.sides in
       let high : kept.height ≡ g.height = ap (λ (s : ℕ × ℕ × ℕ). s.1) same.sides in
       let long : length kept.cells ≡ length g.cells = (same.shape).cells ∙ area kept g wide high ∙ sym shape.cells in
       subst (λ (t : Option (List ℕ)). IsIdleOn g t section) same.same_table
-      (section_idle kept g watch.topics stirred (differ_back stirred g kept same.differ) apart wide high long kept_table
+      (section_idle kept g known_section.topics stirred (differ_back stirred g kept same.differ) apart wide high long kept_table
       section asks idle)
 
   back : (kept : Grid) (kept_table : Option (List ℕ)) → IsSameBut stirred g table kept kept_table →
-      HasGroup watch.topics section → IsIdleOn g table section → IsIdleOn kept kept_table section
+      HasGroup known_section.topics section → IsIdleOn g table section → IsIdleOn kept kept_table section
   back kept kept_table same asks idle =
       let wide : g.width ≡ kept.width = sym (ap (λ (s : ℕ × ℕ × ℕ). s.0) same.sides) in
       let high : g.height ≡ kept.height = sym (ap (λ (s : ℕ × ℕ × ℕ). s.1) same.sides) in
       let long : length g.cells ≡ length kept.cells = shape.cells ∙ area g kept wide high ∙ sym (same.shape).cells in
       subst (λ (t : Option (List ℕ)). IsIdleOn kept t section) (sym same.same_table)
-      (section_idle g kept watch.topics stirred same.differ apart wide high long table section asks idle)
+      (section_idle g kept known_section.topics stirred same.differ apart wide high long table section asks idle)
 
   pub known_idle : (board : Option X) → is_some board ≡ true →
-      AreKnown (option_map view board) sections watches →
+      AreKnown (option_map view board) sections known →
       ((k : Grid) (t : Option (List ℕ)) → option_map view board ≡ Some (k, t) → IsSameBut stirred g table k t) →
-      watch.quiet ≡ true → IsIdleOn g table section
-  known_idle None some known same quiet = absurd (false≢true some)
-  known_idle (Some board) some known same quiet =
-      let told = known n section watch at there in
+      known_section.quiet ≡ true → IsIdleOn g table section
+  known_idle None some each_known same quiet = absurd (false≢true some)
+  known_idle (Some board) some each_known same quiet =
+      let told = each_known n section known_section at there in
       let k : Grid = (view board).0 in
       let t : Option (List ℕ) = (view board).1 in
       carried k t (same k t refl) told.asks (told.idle k t refl quiet)
 
-  pub known_noted : (board : Option X) (quiet : Bool) (after : List SectionWatch) →
-      AreKnown (option_map view board) sections watches →
+  pub known_noted : (board : Option X) (quiet : Bool) (after : List KnownSection) →
+      AreKnown (option_map view board) sections known →
       ((k : Grid) (t : Option (List ℕ)) → option_map view board ≡ Some (k, t) → IsSameBut stirred g table k t) →
       (quiet ≡ true → IsIdleOn g table section) →
-      after ≡ slice_set watches n (record { topics = watch.topics; quiet = quiet }) →
+      after ≡ slice_set known n (record { topics = known_section.topics; quiet = quiet }) →
       AreKnown (option_map view board) sections after
-  known_noted board quiet after known same idle is k other found here stands =
-      let made : SectionWatch = record { topics = watch.topics; quiet = quiet } in
-      let asks : HasGroup watch.topics section = (known n section watch at there).asks in
+  known_noted board quiet after each_known same idle is k other found here stands =
+      let made : KnownSection = record { topics = known_section.topics; quiet = quiet } in
+      let asks : HasGroup known_section.topics section = (each_known n section known_section at there).asks in
       let noted : IsKnown (option_map view board) section made = record {
         asks = asks;
         idle = λ kept kept_table shown yes. back kept kept_table (same kept kept_table shown) asks (idle yes);
       } in
       elim (cases_eq k n) [
         | inl e ↦
-            let low : n < length watches = slice_get_within watches n watch there in
+            let low : n < length known = slice_get_within known n known_section there in
             let own : section ≡ other = same_Some section other (sym at ∙ ap (slice_get sections) (sym e) ∙ here) in
-            let one : get_or after n found ≡ made = ap (λ (ws : List SectionWatch). get_or ws n found) is
-            ∙ get_or-set_same watches n made found low in
+            let one : get_or after n found ≡ made = ap (λ (ws : List KnownSection). get_or ws n found) is
+            ∙ get_or-set_same known n made found low in
             let same_watch : made ≡ found = sym one ∙ ap (λ (j : ℕ). get_or after j found) (sym e)
             ∙ get_or_from_slice_get after k found found stands in
-            subst (λ (w : SectionWatch). IsKnown (option_map view board) other w) same_watch
+            subst (λ (w : KnownSection). IsKnown (option_map view board) other w) same_watch
             (subst (λ (s : CompiledSection). IsKnown (option_map view board) s made) own noted)
-        | inr far ↦ known k other found here (sym (get_set_other watches n k made far)
-            ∙ ap (λ (ws : List SectionWatch). slice_get ws k) (sym is) ∙ stands)
+        | inr far ↦ each_known k other found here (sym (get_set_other known n k made far)
+            ∙ ap (λ (ws : List KnownSection). slice_get ws k) (sym is) ∙ stands)
       ]
 
 -- what stands at a place
-pub watch_there : (sections : List CompiledSection) (watches : List SectionWatch) (n : ℕ) (section : CompiledSection)
-    (watch : SectionWatch) → slice_get sections n ≡ Some section → length watches ≡ length sections →
-    watch ≡ get_or watches n watch → slice_get watches n ≡ Some watch
-watch_there sections watches n section watch at long is =
-    slice_get-get_or watches n watch (omega (arith, slice_get_within sections n section at, long))
+pub watch_there : (sections : List CompiledSection) (known : List KnownSection) (n : ℕ) (section : CompiledSection)
+    (known_section : KnownSection) → slice_get sections n ≡ Some section → length known ≡ length sections →
+    known_section ≡ get_or known n known_section → slice_get known n ≡ Some known_section
+watch_there sections known n section known_section at long is =
+    slice_get-get_or known n known_section (omega (arith, slice_get_within sections n section at, long))
     ∙ ap Some (sym is)
 
-pub watch_same : (watches : List SectionWatch) (n : ℕ) (one watch : SectionWatch) → one ≡ get_or watches n one →
-    slice_get watches n ≡ Some watch → one ≡ watch
-watch_same watches n one watch is there = is ∙ get_or_from_slice_get watches n watch one there
+pub watch_same : (known : List KnownSection) (n : ℕ) (one known_section : KnownSection) → one ≡ get_or known n one →
+    slice_get known n ≡ Some known_section → one ≡ known_section
+watch_same known n one known_section is there = is ∙ get_or_from_slice_get known n known_section one there
 
 pub section_there : (sections others : List CompiledSection) (n : ℕ) (section : CompiledSection) → sections ≡ others →
     n < length others → section ≡ get_or sections n section → slice_get sections n ≡ Some section

@@ -11,24 +11,24 @@ use Rattle.ps_engine.specs.OnePart.{one_part, rows_parts}
 use Rattle.ps_engine.proofs.Waking.{found_at}
 
 -- a row's room, where there are enough for all rows
-pub room_there : (n rows rooms now : ℕ) → n < rows → rows ≤ rooms → now ≡ rooms → n < now
-room_there n rows rooms now low enough same = omega arith
+pub room_there : (n rows scratch now : ℕ) → n < rows → rows ≤ scratch → now ≡ scratch → n < now
+room_there n rows scratch now low enough same = omega arith
 
 -- a list has a place whose element is that of another one
 pub left_there : {X : Type 0} (xs ys : List X) (n : ℕ) → n < length xs → slice_get ys n ≡ slice_get xs n → n < length ys
 left_there xs ys n low same = let at = found_at xs n low in slice_get_within ys n at.0 (same ∙ at.1)
 
 -- rows of one part, and rows that have a writer, are some
-pub part_room : (rows : List CompiledRow) (part : List CompiledCell) (rooms : ℕ) → rows_parts rows ≡ one_part part →
-    length rows ≤ rooms → 0 < rooms
-part_room [] part rooms only enough = absurd (cc)
-part_room (row ∷ rows) part rooms only enough = omega (arith, enough)
+pub part_room : (rows : List CompiledRow) (part : List CompiledCell) (scratch : ℕ) → rows_parts rows ≡ one_part part →
+    length rows ≤ scratch → 0 < scratch
+part_room [] part scratch only enough = absurd (cc)
+part_room (row ∷ rows) part scratch only enough = omega (arith, enough)
 
-pub writer_room : (rows : List CompiledRow) (known : Option Writer) (writer : Writer) (rooms : ℕ) →
-    rows_writer rows known ≡ true → known ≡ Some writer → length rows ≤ rooms → 0 < rooms
-writer_room [] (Some other) writer rooms alone is enough = absurd (true≢false (sym alone))
-writer_room [] None writer rooms alone is enough = absurd (none-some writer is)
-writer_room (row ∷ rows) known writer rooms alone is enough = omega (arith, enough)
+pub writer_room : (rows : List CompiledRow) (known : Option Writer) (writer : Writer) (scratch : ℕ) →
+    rows_writer rows known ≡ true → known ≡ Some writer → length rows ≤ scratch → 0 < scratch
+writer_room [] (Some other) writer scratch alone is enough = absurd (true≢false (sym alone))
+writer_room [] None writer scratch alone is enough = absurd (none-some writer is)
+writer_room (row ∷ rows) known writer scratch alone is enough = omega (arith, enough)
 
 -- one element, and some
 pub only_of : {X : Type 0} (xs : List X) (x : X) → length xs ≡ 1 → x ≡ get_or xs 0 x → xs ≡ x ∷ []

@@ -2,7 +2,7 @@
 use Rattle.std.specs.Prelude.{ℕ, zero, suc, List, [], ◌∷◌, ◌++◌, map}
 use Rattle.std.specs.List.{flat_map}
 use Rattle.ps_program.specs.declared.rows.CompiledRow.{CompiledRow}
-use Rattle.ps_places.specs.Room.{Room}
+use Rattle.ps_places.specs.Scratch.{Scratch}
 use Rattle.ps_places.specs.RowPlaces.{all_places, place_at, places_behind}
 
 -- a row's places, the one of them that is chosen, and those behind it
@@ -12,14 +12,14 @@ pub record Choice : Type 0 where
   pub later : List (List ℕ)
 
 -- what is chosen for rows, on a board so high
-abbrev pub choice_of : ℕ → CompiledRow → Room → Choice
-choice_of height row room =
-    record { all = all_places height row room; at = place_at height row room; later = places_behind height row room }
+abbrev pub choice_of : ℕ → CompiledRow → Scratch → Choice
+choice_of height row row_scratch =
+    record { all = all_places height row row_scratch; at = place_at height row row_scratch; later = places_behind height row row_scratch }
 
-abbrev pub choices_of : ℕ → List CompiledRow → List Room → List Choice
-choices_of height [] rooms = []
+abbrev pub choices_of : ℕ → List CompiledRow → List Scratch → List Choice
+choices_of height [] scratch = []
 choices_of height (row ∷ rows) [] = []
-choices_of height (row ∷ rows) (room ∷ rooms) = choice_of height row room ∷ choices_of height rows rooms
+choices_of height (row ∷ rows) (row_scratch ∷ scratch) = choice_of height row row_scratch ∷ choices_of height rows scratch
 
 -- the combination that is chosen
 abbrev pub chosen : List Choice → List (List ℕ)

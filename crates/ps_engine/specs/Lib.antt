@@ -2,10 +2,10 @@ pub mod Choices
 pub mod Choosing
 pub mod RulesInRoom
 pub mod OnePart
-pub mod Rooms
+pub mod Scratch
 pub mod Writing
-pub mod Watching
+pub mod CycleSteps
 pub mod TopicsAsked
-pub mod Watched
+pub mod QuietGroups
 pub mod Waking
 pub mod Lacking

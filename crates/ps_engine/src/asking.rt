@@ -7,42 +7,42 @@ ghost use Rattle.ps_engine.specs.RulesInRoom.{rule_meaning};
 
 use crate::lent_queue::LentQueue;
 use ps_match::{Scan, recall_shape};
-use ps_places::{RoomFor, find_starts};
+use ps_places::{ScratchFor, find_starts};
 use ps_program::{CompiledRow, CompiledRule};
 
-/// Whether a row has a place on the board as it is. What its room keeps is anything afterwards.
-fn row_has_place<B: Scan>(board: &B, row: &CompiledRow, room: &mut RoomFor<B>) -> bool
+/// Whether a row has a place on the board as it is. Its scratch memory may hold anything afterwards.
+fn row_has_place<B: Scan>(board: &B, row: &CompiledRow, row_scratch: &mut ScratchFor<B>) -> bool
     ensures some { result ≡ true → row_places (B.grid board.now) (B.table board.now) row.now ≢ [] }
     ensures none { result ≡ false → row_places (B.grid board.now) (B.table board.now) row.now ≡ [] }
 {
     recall_shape(board);
     let parts = row.parts.as_slice();
     if parts.len() == 1 {
-        return !room
+        return !row_scratch
             .find_part(board, row.axis, parts[0].as_slice())
             .is_empty();
     }
-    find_starts(board, row, room);
-    room.first_place(board, row)
+    find_starts(board, row, row_scratch);
+    row_scratch.first_place(board, row)
 }
 
 /// Whether each row of a rule has a place on the board as it is: whether the rule has a combination.
 pub fn rows_have_places<'r, B: Scan>(
     board: &B,
     rule: &CompiledRule<'r>,
-    rooms: &mut [RoomFor<B>],
+    scratch: &mut [ScratchFor<B>],
 ) -> bool
-    requires { length rule.now.rows ≤ length rooms.old }
+    requires { length rule.now.rows ≤ length scratch.old }
     ensures some { result ≡ true →
         combinations_on (B.grid board.now) (rule_meaning (B.table board.now) rule.now) ≢ [] }
     ensures none { result ≡ false →
         combinations_on (B.grid board.now) (rule_meaning (B.table board.now) rule.now) ≡ [] }
-    ensures long { length rooms.new ≡ length rooms.old }
+    ensures long { length scratch.new ≡ length scratch.old }
 {
     recall_shape(board);
     let rows = rule.rows.as_slice();
     for number in 0..rows.len() {
-        if !row_has_place(board, &rows[number], &mut rooms[number]) {
+        if !row_has_place(board, &rows[number], &mut scratch[number]) {
             return false;
         }
     }
@@ -55,18 +55,18 @@ pub fn attempt_commands<'r, B: Scan>(
     rule: &CompiledRule<'r>,
     board: &B,
     queue: &mut LentQueue<'r>,
-    rooms: &mut [RoomFor<B>],
+    scratch: &mut [ScratchFor<B>],
 )
-    requires long { length rule.now.rows ≤ length rooms.old }
+    requires long { length rule.now.rows ≤ length scratch.old }
     requires commands { rule.now.rewrites ≡ false }
     ensures attempt { let before : State = record { grid = B.grid board.now; queue = queue.old } in
         let after : State = record { grid = B.grid board.now; queue = queue.new } in
         let all : Meant = record { state = after; changed = false } in
         all ≡ attempt (rule_meaning (B.table board.now) rule.now) before }
-    ensures rooms { length rooms.new ≡ length rooms.old }
+    ensures scratch { length scratch.new ≡ length scratch.old }
 {
     recall_shape(board);
-    if rows_have_places(board, rule, rooms) {
+    if rows_have_places(board, rule, scratch) {
         queue.enter(rule.commands);
     }
 }

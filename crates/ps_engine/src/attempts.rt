@@ -2,7 +2,7 @@
 
 ghost use Rattle.std.specs.Prelude.{◌≡◌, ◌≤◌, ◌∷◌, [], false, length, true};
 ghost use Rattle.ps_model.specs.board.Attempts.{Result as Meant, State, all_fit, attempt, combinations_on};
-ghost use Rattle.ps_match.specs.InRoom.{sides_of};
+ghost use Rattle.ps_match.specs.FixedParts.{fixed_part};
 ghost use Rattle.ps_engine.specs.Choices.{behind, choices_of, chosen};
 ghost use Rattle.ps_engine.specs.Choosing.{ArePlaced, HaveLinesOf, rows_meaning};
 ghost use Rattle.ps_engine.specs.RulesInRoom.{rule_meaning};
@@ -13,7 +13,7 @@ use crate::one_part::{attempt_part, is_idle_part, only_part};
 use crate::walking::walk;
 use crate::writing::attempt_writer;
 use ps_match::Scan;
-use ps_places::{RoomFor, find_starts};
+use ps_places::{ScratchFor, find_starts};
 use ps_program::CompiledRule;
 
 /// Whether the board knows that an object which a rule needs is nowhere; then the rule has no combination. No memory is
@@ -46,26 +46,30 @@ fn lacks_last<B: Scan>(board: &B, rule: &CompiledRule) -> bool
 
 /// Finds where each row of a rule fits on the board as it is, and chooses the first place of each. Answers whether
 /// each row has one: whether the rule has a combination.
-fn choose_first<'r, B: Scan>(board: &B, rule: &CompiledRule<'r>, rooms: &mut [RoomFor<B>]) -> bool
-    requires { length rule.now.rows ≤ length rooms.old }
-    ensures found { let choices = choices_of (B.grid board.now).height rule.now.rows rooms.new in
+fn choose_first<'r, B: Scan>(
+    board: &B,
+    rule: &CompiledRule<'r>,
+    scratch: &mut [ScratchFor<B>],
+) -> bool
+    requires { length rule.now.rows ≤ length scratch.old }
+    ensures found { let choices = choices_of (B.grid board.now).height rule.now.rows scratch.new in
         result ≡ true →
         combinations_on (B.grid board.now) (rule_meaning (B.table board.now) rule.now)
         ≡ chosen choices ∷ behind choices }
     ensures none { result ≡ false →
         combinations_on (B.grid board.now) (rule_meaning (B.table board.now) rule.now) ≡ [] }
-    ensures fit { let places = chosen (choices_of (B.grid board.now).height rule.now.rows rooms.new) in
+    ensures fit { let places = chosen (choices_of (B.grid board.now).height rule.now.rows scratch.new) in
         result ≡ true → all_fit (B.grid board.now) (rows_meaning (B.table board.now) rule.now.rows) places ≡ true }
-    ensures lines { result ≡ true → HaveLinesOf (B.grid board.now) rule.now.rows rooms.new }
-    ensures places { result ≡ true → ArePlaced (B.grid board.now) rule.now.rows rooms.new }
-    ensures long { length rooms.new ≡ length rooms.old }
+    ensures lines { result ≡ true → HaveLinesOf (B.grid board.now) rule.now.rows scratch.new }
+    ensures places { result ≡ true → ArePlaced (B.grid board.now) rule.now.rows scratch.new }
+    ensures long { length scratch.new ≡ length scratch.old }
 {
     let rows = rule.rows.as_slice();
     for number in 0..rows.len() {
         let row = &rows[number];
-        let room = &mut rooms[number];
-        find_starts(board, row, room);
-        if !room.first_place(board, row) {
+        let row_scratch = &mut scratch[number];
+        find_starts(board, row, row_scratch);
+        if !row_scratch.first_place(board, row) {
             return false;
         }
     }
@@ -73,15 +77,19 @@ fn choose_first<'r, B: Scan>(board: &B, rule: &CompiledRule<'r>, rooms: &mut [Ro
 }
 
 /// Whether a rule is known to have no combination. No memory is taken.
-pub fn is_idle<'r, B: Scan>(board: &B, rule: &CompiledRule<'r>, rooms: &mut [RoomFor<B>]) -> bool
-    requires { length rule.now.rows ≤ length rooms.old }
+pub fn is_idle<'r, B: Scan>(
+    board: &B,
+    rule: &CompiledRule<'r>,
+    scratch: &mut [ScratchFor<B>],
+) -> bool
+    requires { length rule.now.rows ≤ length scratch.old }
     ensures idle { result ≡ true → combinations_on (B.grid board.now) (rule_meaning (B.table board.now) rule.now) ≡ [] }
-    ensures long { length rooms.new ≡ length rooms.old }
+    ensures long { length scratch.new ≡ length scratch.old }
 {
     if let Some(part) = only_part(rule.rows.as_slice()) {
-        return is_idle_part(board, rule, part, rooms);
+        return is_idle_part(board, rule, part, scratch);
     }
-    lacks_object(board, rule) || !rows_have_places(board, rule, rooms)
+    lacks_object(board, rule) || !rows_have_places(board, rule, scratch)
 }
 
 /// An attempt of a rule that rewrites cells, its combinations walked one after the other: each is applied if every row
@@ -91,25 +99,23 @@ pub fn attempt_rows<'r, B: Scan>(
     rule: &CompiledRule<'r>,
     board: &mut B,
     queue: &mut LentQueue<'r>,
-    rooms: &mut [RoomFor<B>],
+    scratch: &mut [ScratchFor<B>],
 ) -> bool
-    requires long { length rule.now.rows ≤ length rooms.old }
+    requires long { length rule.now.rows ≤ length scratch.old }
     requires rewrites { rule.now.rewrites ≡ true }
     ensures attempt { let before : State = record { grid = B.grid board.old; queue = queue.old } in
         let after : State = record { grid = B.grid board.new; queue = queue.new } in
         let all : Meant = record { state = after; changed = result } in
         all ≡ attempt (rule_meaning (B.table board.old) rule.now) before }
-    ensures table { B.table board.new ≡ B.table board.old }
-    ensures origin { B.origin board.new ≡ B.origin board.old }
-    ensures sides { sides_of (B.grid board.new) ≡ sides_of (B.grid board.old) }
-    ensures rooms { length rooms.new ≡ length rooms.old }
+    ensures fixed { fixed_part B.Board board.new ≡ fixed_part B.Board board.old }
+    ensures scratch { length scratch.new ≡ length scratch.old }
 {
     let rows = rule.rows.as_slice();
-    if !choose_first(board, rule, rooms) {
+    if !choose_first(board, rule, scratch) {
         return false;
     }
     queue.enter(rule.commands);
-    walk(board, rows, rooms, rule.sleeps)
+    walk(board, rows, scratch, rule.sleeps)
 }
 
 /// An attempt of a rule by its kind: of commands alone, with a writer, or of any rows. A rule of commands alone tells
@@ -119,29 +125,27 @@ fn attempt_by_kind<'r, B: Scan>(
     rule: &CompiledRule<'r>,
     board: &mut B,
     queue: &mut LentQueue<'r>,
-    rooms: &mut [RoomFor<B>],
+    scratch: &mut [ScratchFor<B>],
 ) -> bool
-    requires { length rule.now.rows ≤ length rooms.old }
+    requires { length rule.now.rows ≤ length scratch.old }
     ensures attempt { let before : State = record { grid = B.grid board.old; queue = queue.old } in
         let after : State = record { grid = B.grid board.new; queue = queue.new } in
         let all : Meant = record { state = after; changed = result } in
         all ≡ attempt (rule_meaning (B.table board.old) rule.now) before }
-    ensures table { B.table board.new ≡ B.table board.old }
-    ensures origin { B.origin board.new ≡ B.origin board.old }
-    ensures sides { sides_of (B.grid board.new) ≡ sides_of (B.grid board.old) }
-    ensures rooms { length rooms.new ≡ length rooms.old }
+    ensures fixed { fixed_part B.Board board.new ≡ fixed_part B.Board board.old }
+    ensures scratch { length scratch.new ≡ length scratch.old }
 {
     if !rule.rewrites {
-        attempt_commands(rule, board, queue, rooms);
+        attempt_commands(rule, board, queue, scratch);
         return false;
     }
     if lacks_object(board, rule) {
         return false;
     }
     if let Some(writer) = rule.writer {
-        return attempt_writer(rule, writer, board, queue, &mut rooms[0]);
+        return attempt_writer(rule, writer, board, queue, &mut scratch[0]);
     }
-    attempt_rows(rule, board, queue, rooms)
+    attempt_rows(rule, board, queue, scratch)
 }
 
 /// An attempt of a rule: all combinations of its places are applied in order, each if every row still fits, and its
@@ -153,25 +157,23 @@ pub fn attempt<'r, B: Scan>(
     rule: &CompiledRule<'r>,
     board: &mut B,
     queue: &mut LentQueue<'r>,
-    rooms: &mut [RoomFor<B>],
+    scratch: &mut [ScratchFor<B>],
 ) -> bool
-    requires { length rule.now.rows ≤ length rooms.old }
+    requires { length rule.now.rows ≤ length scratch.old }
     ensures attempt { let before : State = record { grid = B.grid board.old; queue = queue.old } in
         let after : State = record { grid = B.grid board.new; queue = queue.new } in
         let all : Meant = record { state = after; changed = result } in
         all ≡ attempt (rule_meaning (B.table board.old) rule.now) before }
-    ensures table { B.table board.new ≡ B.table board.old }
-    ensures origin { B.origin board.new ≡ B.origin board.old }
-    ensures sides { sides_of (B.grid board.new) ≡ sides_of (B.grid board.old) }
-    ensures rooms { length rooms.new ≡ length rooms.old }
+    ensures fixed { fixed_part B.Board board.new ≡ fixed_part B.Board board.old }
+    ensures scratch { length scratch.new ≡ length scratch.old }
 {
     if lacks_last(board, rule) {
         return false;
     }
     if rule.rewrites {
         if let Some(part) = only_part(rule.rows.as_slice()) {
-            return attempt_part(rule, part, board, queue, rooms);
+            return attempt_part(rule, part, board, queue, scratch);
         }
     }
-    attempt_by_kind(rule, board, queue, rooms)
+    attempt_by_kind(rule, board, queue, scratch)
 }

@@ -3,24 +3,24 @@
 
 mod asking;
 mod attempts;
+mod cycle_finder;
+mod cycle_steps;
 mod kept_board;
 mod lacking;
 mod lent_queue;
 mod one_part;
 mod programs;
-mod rooms;
+mod quiet_groups;
 mod rounds;
+mod scratch;
 mod topics_asked;
 mod walking;
-mod watch;
-mod watched;
-mod watching;
 mod writing;
 
+pub use cycle_finder::KeptBoards;
 pub use lent_queue::LentQueue;
 pub use programs::run_program;
 pub use ps_match::{ListBoard, Scan};
-pub use ps_places::RoomFor;
-pub use rooms::rooms_for;
-pub use watch::KeptBoards;
-pub use watched::WatchedProgram;
+pub use ps_places::ScratchFor;
+pub use quiet_groups::QuietGroups;
+pub use scratch::scratch_for;

@@ -7,7 +7,7 @@ ghost use Rattle.ps_model.specs.board.Attempts.{Result as Meant, State, attempt,
 ghost use Rattle.ps_model.specs.board.Places.{places};
 ghost use Rattle.ps_program.specs.Axes.{direction_of};
 ghost use Rattle.ps_places.specs.Lines.{part_meaning};
-ghost use Rattle.ps_match.specs.InRoom.{sides_of};
+ghost use Rattle.ps_match.specs.FixedParts.{fixed_part};
 ghost use Rattle.ps_laws.specs.WholeRows.{HasCells};
 ghost use Rattle.ps_engine.specs.OnePart.{FirstKeeps, one_part, rows_parts};
 ghost use Rattle.ps_engine.specs.RulesInRoom.{rule_meaning};
@@ -15,7 +15,7 @@ ghost use Rattle.ps_engine.specs.RulesInRoom.{rule_meaning};
 use crate::attempts::attempt_rows;
 use crate::lent_queue::LentQueue;
 use ps_match::{Columns, Scan};
-use ps_places::{RoomFor, begins_nowhere};
+use ps_places::{ScratchFor, begins_nowhere};
 use ps_program::{Axis, CompiledCell, CompiledRow, CompiledRule};
 
 /// The part of rows that are one row of one part; nothing, where there is more or less.
@@ -38,22 +38,22 @@ pub fn is_idle_part<'r, B: Scan>(
     board: &B,
     rule: &CompiledRule<'r>,
     part: &[CompiledCell],
-    rooms: &mut [RoomFor<B>],
+    scratch: &mut [ScratchFor<B>],
 ) -> bool
     requires only { rows_parts rule.now.rows ≡ one_part part.now }
     requires whole { HasCells part.now }
-    requires rooms { length rule.now.rows ≤ length rooms.old }
+    requires scratch { length rule.now.rows ≤ length scratch.old }
     ensures idle { result ≡ true → combinations_on (B.grid board.now) (rule_meaning (B.table board.now) rule.now) ≡ [] }
-    ensures long { length rooms.new ≡ length rooms.old }
+    ensures long { length scratch.new ≡ length scratch.old }
 {
     if begins_nowhere(board, rule.axis, part) {
         return true;
     }
-    rooms[0].find_part(board, rule.axis, part).is_empty()
+    scratch[0].find_part(board, rule.axis, part).is_empty()
 }
 
 /// The rest of an attempt of a rule whose only part this is, and begins on these rows of the board in the columns that
-/// the first room keeps. Where it goes right and a place of it asks for what another one's cells may change, its
+/// the first scratch memory keeps. Where it goes right and a place of it asks for what another one's cells may change, its
 /// combinations are walked one after the other. Answers whether a cell changed. No memory is taken.
 #[inline(never)]
 fn rewrite_found<'r, B: Scan>(
@@ -62,35 +62,33 @@ fn rewrite_found<'r, B: Scan>(
     starts: Columns<B::Words>,
     board: &mut B,
     queue: &mut LentQueue<'r>,
-    rooms: &mut [RoomFor<B>],
+    scratch: &mut [ScratchFor<B>],
 ) -> bool
     requires only { rows_parts rule.now.rows ≡ one_part part.now }
     requires whole { HasCells part.now }
     requires rewrites { rule.now.rewrites ≡ true }
-    requires rooms { length rule.now.rows ≤ length rooms.old }
+    requires scratch { length rule.now.rows ≤ length scratch.old }
     requires some { let meant = part_meaning (B.table board.old) part.now in
         places (B.grid board.old) (direction_of rule.now.axis) (meant ∷ []) ≢ [] }
-    requires kept { FirstKeeps (B.grid board.old) (B.table board.old) rule.now.axis part.now starts rooms.old }
+    requires kept { FirstKeeps (B.grid board.old) (B.table board.old) rule.now.axis part.now starts scratch.old }
     ensures attempt { let before : State = record { grid = B.grid board.old; queue = queue.old } in
         let after : State = record { grid = B.grid board.new; queue = queue.new } in
         let all : Meant = record { state = after; changed = result } in
         all ≡ attempt (rule_meaning (B.table board.old) rule.now) before }
-    ensures table { B.table board.new ≡ B.table board.old }
-    ensures origin { B.origin board.new ≡ B.origin board.old }
-    ensures sides { sides_of (B.grid board.new) ≡ sides_of (B.grid board.old) }
-    ensures rooms { length rooms.new ≡ length rooms.old }
+    ensures fixed { fixed_part B.Board board.new ≡ fixed_part B.Board board.old }
+    ensures scratch { length scratch.new ≡ length scratch.old }
 {
-    let room = &rooms[0];
-    if room.lie_alone(rule.axis, part, starts) {
+    let row_scratch = &scratch[0];
+    if row_scratch.are_independent(rule.axis, part, starts) {
         queue.enter(rule.commands);
-        return room.rewrite_places(board, rule.axis, part, starts);
+        return row_scratch.rewrite_places(board, rule.axis, part, starts);
     }
     match rule.axis {
         Axis::Down => {
             queue.enter(rule.commands);
-            room.rewrite_in_turn(board, part, starts)
+            row_scratch.rewrite_in_turn(board, part, starts)
         }
-        Axis::Right => attempt_rows(rule, board, queue, rooms),
+        Axis::Right => attempt_rows(rule, board, queue, scratch),
     }
 }
 
@@ -102,24 +100,22 @@ pub fn attempt_part<'r, B: Scan>(
     part: &[CompiledCell],
     board: &mut B,
     queue: &mut LentQueue<'r>,
-    rooms: &mut [RoomFor<B>],
+    scratch: &mut [ScratchFor<B>],
 ) -> bool
     requires only { rows_parts rule.now.rows ≡ one_part part.now }
     requires whole { HasCells part.now }
     requires rewrites { rule.now.rewrites ≡ true }
-    requires rooms { length rule.now.rows ≤ length rooms.old }
+    requires scratch { length rule.now.rows ≤ length scratch.old }
     ensures attempt { let before : State = record { grid = B.grid board.old; queue = queue.old } in
         let after : State = record { grid = B.grid board.new; queue = queue.new } in
         let all : Meant = record { state = after; changed = result } in
         all ≡ attempt (rule_meaning (B.table board.old) rule.now) before }
-    ensures table { B.table board.new ≡ B.table board.old }
-    ensures origin { B.origin board.new ≡ B.origin board.old }
-    ensures sides { sides_of (B.grid board.new) ≡ sides_of (B.grid board.old) }
-    ensures rooms { length rooms.new ≡ length rooms.old }
+    ensures fixed { fixed_part B.Board board.new ≡ fixed_part B.Board board.old }
+    ensures scratch { length scratch.new ≡ length scratch.old }
 {
-    let starts = rooms[0].find_part(board, rule.axis, part);
+    let starts = scratch[0].find_part(board, rule.axis, part);
     if starts.is_empty() {
         return false;
     }
-    rewrite_found(rule, part, starts, board, queue, rooms)
+    rewrite_found(rule, part, starts, board, queue, scratch)
 }

@@ -6,21 +6,22 @@ ghost use Rattle.ps_model.specs.board.Programs.{Progress, looped, program_run, s
 ghost use Rattle.ps_model.specs.meaning.Compiled.{meaning_of_program};
 ghost use Rattle.ps_program.specs.ProgramShown.{sections_shown};
 ghost use Rattle.ps_engine.specs.RulesInRoom.{groups_meaning, section_meaning, sections_meaning};
-ghost use Rattle.ps_engine.specs.Rooms.{GroupsHaveRooms, SectionHasRooms, SectionsHaveRooms};
+ghost use Rattle.ps_engine.specs.Scratch.{GroupsHaveScratch, SectionHasScratch, SectionsHaveScratch};
 ghost use Rattle.ps_board.specs.Runnable.{IsRunnable};
+ghost use Rattle.ps_match.specs.FixedParts.{fixed_part};
 ghost use Rattle.ps_match.specs.InRoom.{sides_of};
 ghost use Rattle.ps_match.specs.Nowhere.{HasMotionsIn};
 ghost use Rattle.ps_model.specs.board.Grid.{Grid};
 ghost use Rattle.ps_engine.specs.Waking.{IsSameBut};
 ghost use Rattle.ps_program.specs.declared.program.CompiledSection.{CompiledSection};
 
+use crate::cycle_finder::{CycleFinder, KeptBoards};
 use crate::lent_queue::LentQueue;
+use crate::quiet_groups::QuietGroups;
 use crate::rounds::{pass, play_group};
-use crate::watch::{KeptBoards, Watch};
-use crate::watched::WatchedProgram;
 use ps_match::{Columns, Scan, Topics, recall_shape};
 use ps_model::{Memory, REPEAT_LIMIT};
-use ps_places::RoomFor;
+use ps_places::ScratchFor;
 use ps_program::{CompiledRule, CompiledSection, MotionSet};
 use ps_text::List;
 
@@ -45,27 +46,25 @@ fn play_loop<'r, B: Scan>(
     repeats: u32,
     board: &mut B,
     queue: &mut LentQueue<'r>,
-    rooms: &mut [RoomFor<B>],
+    scratch: &mut [ScratchFor<B>],
     motions: &mut MotionSet,
     kept: &mut KeptBoards<B>,
 ) -> Result<Left, Memory>
-    requires rooms { GroupsHaveRooms (length rooms.old) groups.now }
+    requires scratch { GroupsHaveScratch (length scratch.old) groups.now }
     requires motions { HasMotionsIn (B.grid board.old) motions.old }
     ensures looped { let before : State = record { grid = B.grid board.old; queue = queue.old } in
         let after : State = record { grid = B.grid board.new; queue = queue.new } in
         let all = looped (groups_meaning (B.table board.old) groups.now) repeats before in
         IfOk result (λ left. record { state = after; repeats = left.repeats; stopped = left.stopped } ≡ all) }
     ensures changed { IfOk result (λ left. left.changed ≡ true) }
-    ensures table { B.table board.new ≡ B.table board.old }
-    ensures origin { B.origin board.new ≡ B.origin board.old }
-    ensures sides { sides_of (B.grid board.new) ≡ sides_of (B.grid board.old) }
-    ensures rooms { length rooms.new ≡ length rooms.old }
+    ensures fixed { fixed_part B.Board board.new ≡ fixed_part B.Board board.old }
+    ensures scratch { length scratch.new ≡ length scratch.old }
     ensures motions { HasMotionsIn (B.grid board.new) motions.new }
 {
-    let mut watch = Watch::new();
+    let mut finder = CycleFinder::new();
     let mut left = repeats;
     loop {
-        let again = pass(groups, board, queue, rooms, motions, &mut kept.of_rounds)?;
+        let again = pass(groups, board, queue, scratch, motions, &mut kept.of_rounds)?;
         if !again {
             return Ok(Left {
                 repeats: left,
@@ -80,7 +79,7 @@ fn play_loop<'r, B: Scan>(
                 changed: true,
             });
         }
-        left = watch.step(left - 1, board, queue, &mut kept.of_passes)?;
+        left = finder.step(left - 1, board, queue, &mut kept.of_passes)?;
     }
 }
 
@@ -96,21 +95,19 @@ fn play_section<'r, B: Scan>(
     repeats: u32,
     board: &mut B,
     queue: &mut LentQueue<'r>,
-    rooms: &mut [RoomFor<B>],
+    scratch: &mut [ScratchFor<B>],
     motions: &mut MotionSet,
     kept: &mut KeptBoards<B>,
 ) -> Result<Left, Memory>
-    requires rooms { SectionHasRooms (length rooms.old) section.now }
+    requires scratch { SectionHasScratch (length scratch.old) section.now }
     requires motions { HasMotionsIn (B.grid board.old) motions.old }
     ensures section { let before : State = record { grid = B.grid board.old; queue = queue.old } in
         let after : State = record { grid = B.grid board.new; queue = queue.new } in
         let all = section_run (section_meaning (B.table board.old) section.now) repeats before in
         IfOk result (λ left. record { state = after; repeats = left.repeats; stopped = left.stopped } ≡ all) }
     ensures unchanged { IfOk result (λ left. left.changed ≡ false → B.grid board.new ≡ B.grid board.old) }
-    ensures table { B.table board.new ≡ B.table board.old }
-    ensures origin { B.origin board.new ≡ B.origin board.old }
-    ensures sides { sides_of (B.grid board.new) ≡ sides_of (B.grid board.old) }
-    ensures rooms { length rooms.new ≡ length rooms.old }
+    ensures fixed { fixed_part B.Board board.new ≡ fixed_part B.Board board.old }
+    ensures scratch { length scratch.new ≡ length scratch.old }
     ensures motions { HasMotionsIn (B.grid board.new) motions.new }
 {
     match section {
@@ -119,7 +116,7 @@ fn play_section<'r, B: Scan>(
                 rules.as_slice(),
                 board,
                 queue,
-                rooms,
+                scratch,
                 motions,
                 &mut kept.of_rounds,
             )?;
@@ -135,7 +132,7 @@ fn play_section<'r, B: Scan>(
                 repeats,
                 board,
                 queue,
-                rooms,
+                scratch,
                 motions,
                 kept,
             )
@@ -153,19 +150,17 @@ fn play_sections<'r, B: Scan>(
     sections: &[CompiledSection<'r>],
     board: &mut B,
     queue: &mut LentQueue<'r>,
-    rooms: &mut [RoomFor<B>],
+    scratch: &mut [ScratchFor<B>],
     motions: &mut MotionSet,
     kept: &mut KeptBoards<B>,
 ) -> Result<(), Memory>
-    requires rooms { SectionsHaveRooms (length rooms.old) sections.now }
+    requires scratch { SectionsHaveScratch (length scratch.old) sections.now }
     requires motions { HasMotionsIn (B.grid board.old) motions.old }
     ensures run { let before : State = record { grid = B.grid board.old; queue = queue.old } in
         let after : State = record { grid = B.grid board.new; queue = queue.new } in
         OnOk result (after ≡ program_run (sections_meaning (B.table board.old) sections.now) before) }
-    ensures table { B.table board.new ≡ B.table board.old }
-    ensures origin { B.origin board.new ≡ B.origin board.old }
-    ensures sides { sides_of (B.grid board.new) ≡ sides_of (B.grid board.old) }
-    ensures rooms { length rooms.new ≡ length rooms.old }
+    ensures fixed { fixed_part B.Board board.new ≡ fixed_part B.Board board.old }
+    ensures scratch { length scratch.new ≡ length scratch.old }
     ensures motions { HasMotionsIn (B.grid board.new) motions.new }
 {
     let mut repeats = REPEAT_LIMIT;
@@ -176,7 +171,7 @@ fn play_sections<'r, B: Scan>(
                     rules.as_slice(),
                     board,
                     queue,
-                    rooms,
+                    scratch,
                     motions,
                     &mut kept.of_rounds,
                 )?;
@@ -187,7 +182,7 @@ fn play_sections<'r, B: Scan>(
                     repeats,
                     board,
                     queue,
-                    rooms,
+                    scratch,
                     motions,
                     kept,
                 )?;
@@ -208,18 +203,18 @@ fn play_sections<'r, B: Scan>(
 ///
 /// `Memory`, as for a section.
 fn play_next<'r, 's: 'r, B: Scan>(
-    program: &mut WatchedProgram<'_, 's, B>,
+    program: &mut QuietGroups<'_, 's, B>,
     number: usize,
     stirred: Topics,
     repeats: u32,
     board: &mut B,
     queue: &mut LentQueue<'r>,
-    rooms: &mut [RoomFor<B>],
+    scratch: &mut [ScratchFor<B>],
     motions: &mut MotionSet,
     kept: &mut KeptBoards<B>,
 ) -> Result<Left, Memory>
     requires number { number < length program.old.sections }
-    requires rooms { SectionsHaveRooms (length rooms.old) program.old.sections }
+    requires scratch { SectionsHaveScratch (length scratch.old) program.old.sections }
     requires motions { HasMotionsIn (B.grid board.old) motions.old }
     requires same { (g : Grid) (table : Option (List ℕ)) → program.old.kept ≡ Some (g, table) →
         IsSameBut stirred (B.grid board.old) (B.table board.old) g table }
@@ -229,14 +224,12 @@ fn play_next<'r, 's: 'r, B: Scan>(
         let all = section_run (section_meaning (B.table board.old) section) repeats before in
         IfOk result (λ left. record { state = after; repeats = left.repeats; stopped = left.stopped } ≡ all) }
     ensures unchanged { IfOk result (λ left. left.changed ≡ false → B.grid board.new ≡ B.grid board.old) }
-    ensures table { B.table board.new ≡ B.table board.old }
-    ensures origin { B.origin board.new ≡ B.origin board.old }
-    ensures sides { sides_of (B.grid board.new) ≡ sides_of (B.grid board.old) }
-    ensures rooms { length rooms.new ≡ length rooms.old }
+    ensures fixed { fixed_part B.Board board.new ≡ fixed_part B.Board board.old }
+    ensures scratch { length scratch.new ≡ length scratch.old }
     ensures motions { HasMotionsIn (B.grid board.new) motions.new }
     ensures program { program.new ≡ program.old }
 {
-    if program.passes(number, stirred, *motions, board, rooms) {
+    if program.passes(number, stirred, *motions, board, scratch) {
         return Ok(Left {
             repeats,
             stopped: false,
@@ -249,7 +242,7 @@ fn play_next<'r, 's: 'r, B: Scan>(
         repeats,
         board,
         queue,
-        rooms,
+        scratch,
         motions,
         kept,
     )
@@ -261,25 +254,23 @@ fn play_next<'r, 's: 'r, B: Scan>(
 /// # Errors
 ///
 /// `Memory`, as for a section; those before it have been played.
-fn play_watched<'r, 's: 'r, B: Scan>(
-    program: &mut WatchedProgram<'_, 's, B>,
+fn play_unless_quiet<'r, 's: 'r, B: Scan>(
+    program: &mut QuietGroups<'_, 's, B>,
     board: &mut B,
     queue: &mut LentQueue<'r>,
-    rooms: &mut [RoomFor<B>],
+    scratch: &mut [ScratchFor<B>],
     motions: &mut MotionSet,
     kept: &mut KeptBoards<B>,
 ) -> Result<(), Memory>
-    requires rooms { SectionsHaveRooms (length rooms.old) program.old.sections }
+    requires scratch { SectionsHaveScratch (length scratch.old) program.old.sections }
     requires motions { HasMotionsIn (B.grid board.old) motions.old }
     requires kept { program.old.kept ≡ Some (B.grid board.old, B.table board.old) }
     ensures run { let before : State = record { grid = B.grid board.old; queue = queue.old } in
         let after : State = record { grid = B.grid board.new; queue = queue.new } in
         let sections = program.old.sections in
         OnOk result (after ≡ program_run (sections_meaning (B.table board.old) sections) before) }
-    ensures table { B.table board.new ≡ B.table board.old }
-    ensures origin { B.origin board.new ≡ B.origin board.old }
-    ensures sides { sides_of (B.grid board.new) ≡ sides_of (B.grid board.old) }
-    ensures rooms { length rooms.new ≡ length rooms.old }
+    ensures fixed { fixed_part B.Board board.new ≡ fixed_part B.Board board.old }
+    ensures scratch { length scratch.new ≡ length scratch.old }
     ensures motions { HasMotionsIn (B.grid board.new) motions.new }
     ensures program { program.new ≡ program.old }
 {
@@ -288,7 +279,7 @@ fn play_watched<'r, 's: 'r, B: Scan>(
     let mut stirred: Topics = Columns::none();
     for number in 0..program.sections().len() {
         let left = play_next(
-            program, number, stirred, repeats, board, queue, rooms, motions, kept,
+            program, number, stirred, repeats, board, queue, scratch, motions, kept,
         )?;
         if left.stopped {
             return Ok(());
@@ -301,56 +292,54 @@ fn play_watched<'r, 's: 'r, B: Scan>(
     Ok(())
 }
 
-/// The sections of a program in order, under a watch where that pays.
+/// The sections of a program in order, leaving out quiet groups where that pays.
 ///
 /// # Errors
 ///
-/// `Memory`, as for a section, or where the program begins to be watched.
+/// `Memory`, as for a section, or where the program begins to keep quiet groups.
 fn play_program<'r, 's: 'r, B: Scan>(
-    program: &mut WatchedProgram<'_, 's, B>,
+    program: &mut QuietGroups<'_, 's, B>,
     board: &mut B,
     queue: &mut LentQueue<'r>,
-    rooms: &mut [RoomFor<B>],
+    scratch: &mut [ScratchFor<B>],
     kept: &mut KeptBoards<B>,
 ) -> Result<(), Memory>
-    requires { SectionsHaveRooms (length rooms.old) program.old.sections }
+    requires { SectionsHaveScratch (length scratch.old) program.old.sections }
     ensures run { let before : State = record { grid = B.grid board.old; queue = queue.old } in
         let after : State = record { grid = B.grid board.new; queue = queue.new } in
         let sections = program.old.sections in
         OnOk result (after ≡ program_run (sections_meaning (B.table board.old) sections) before) }
-    ensures table { B.table board.new ≡ B.table board.old }
-    ensures origin { B.origin board.new ≡ B.origin board.old }
-    ensures sides { sides_of (B.grid board.new) ≡ sides_of (B.grid board.old) }
-    ensures rooms { length rooms.new ≡ length rooms.old }
+    ensures fixed { fixed_part B.Board board.new ≡ fixed_part B.Board board.old }
+    ensures scratch { length scratch.new ≡ length scratch.old }
     ensures sections { program.new.sections ≡ program.old.sections }
 {
-    let watches = program.begin(board)?;
+    let seeks_quiet = program.begin(board)?;
     let mut motions = board.motions_there();
-    if watches {
-        return play_watched(program, board, queue, rooms, &mut motions, kept);
+    if seeks_quiet {
+        return play_unless_quiet(program, board, queue, scratch, &mut motions, kept);
     }
     let sections: &[CompiledSection<'r>] = program.sections();
-    play_sections(sections, board, queue, rooms, &mut motions, kept)
+    play_sections(sections, board, queue, scratch, &mut motions, kept)
 }
 
 /// A run of a program: its sections in order, until a loop would need one more repeat than are allowed for all loops
-/// together. There is a room for each row of a rule.
+/// together. There is scratch memory for each row of a rule.
 ///
-/// The board shows and the queue has what `program_run` says of the program, if all that it puts has room on the board
-/// (`exact`); of any other program what it says without what has no room (`run`).
+/// The board shows and the queue has what `program_run` says of the program, if all that it puts may stand on the board
+/// (`exact`); of any other program what it says without what may not stand there (`run`).
 ///
 /// # Errors
 ///
 /// `Memory`, where a group makes many rounds, or a loop many passes, and no board alike has been kept before, or where
-/// the program begins to be watched. A part of the program may have been run.
+/// the program begins to keep quiet groups. A part of the program may have been run.
 pub fn run_program<'r, 's: 'r, B: Scan>(
-    program: &mut WatchedProgram<'_, 's, B>,
+    program: &mut QuietGroups<'_, 's, B>,
     board: &mut B,
     queue: &mut LentQueue<'r>,
-    rooms: &mut [RoomFor<B>],
+    scratch: &mut [ScratchFor<B>],
     kept: &mut KeptBoards<B>,
 ) -> Result<(), Memory>
-    requires { SectionsHaveRooms (length rooms.old) program.old.sections }
+    requires { SectionsHaveScratch (length scratch.old) program.old.sections }
     ensures run { let before : State = record { grid = B.grid board.old; queue = queue.old } in
         let after : State = record { grid = B.grid board.new; queue = queue.new } in
         let sections = program.old.sections in
@@ -363,8 +352,8 @@ pub fn run_program<'r, 's: 'r, B: Scan>(
     ensures table { B.table board.new ≡ B.table board.old }
     ensures origin { B.origin board.new ≡ B.origin board.old }
     ensures sides { sides_of (B.grid board.new) ≡ sides_of (B.grid board.old) }
-    ensures rooms { length rooms.new ≡ length rooms.old }
+    ensures scratch { length scratch.new ≡ length scratch.old }
     ensures sections { program.new.sections ≡ program.old.sections }
 {
-    play_program(program, board, queue, rooms, kept)
+    play_program(program, board, queue, scratch, kept)
 }

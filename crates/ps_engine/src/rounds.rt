@@ -5,18 +5,18 @@ ghost use Rattle.ps_model.specs.declared.limits.TheConstants.{ROUND_LIMIT};
 ghost use Rattle.ps_model.specs.board.Attempts.{Result as Meant, State, attempt};
 ghost use Rattle.ps_model.specs.board.Programs.{group, pass, round, settled};
 ghost use Rattle.ps_engine.specs.RulesInRoom.{groups_meaning, rule_meaning, rules_meaning};
-ghost use Rattle.ps_engine.specs.Rooms.{GroupsHaveRooms, HaveRooms};
-ghost use Rattle.ps_match.specs.InRoom.{sides_of};
+ghost use Rattle.ps_engine.specs.Scratch.{GroupsHaveScratch, HaveScratch};
+ghost use Rattle.ps_match.specs.FixedParts.{fixed_part};
 ghost use Rattle.ps_match.specs.Nowhere.{HasMotionsIn};
 
 use crate::attempts::attempt;
+use crate::cycle_finder::CycleFinder;
 use crate::kept_board::KeptBoard;
 use crate::lacking::{asks_for_others, behind_lacking};
 use crate::lent_queue::LentQueue;
-use crate::watch::Watch;
 use ps_match::Scan;
 use ps_model::{Memory, ROUND_LIMIT};
-use ps_places::RoomFor;
+use ps_places::ScratchFor;
 use ps_program::{CompiledRule, MotionSet};
 use ps_text::List;
 
@@ -27,19 +27,17 @@ fn round<'r, B: Scan>(
     rules: &[CompiledRule<'r>],
     board: &mut B,
     queue: &mut LentQueue<'r>,
-    rooms: &mut [RoomFor<B>],
+    scratch: &mut [ScratchFor<B>],
     motions: &mut MotionSet,
 ) -> bool
-    requires rooms { HaveRooms (length rooms.old) rules.now }
+    requires scratch { HaveScratch (length scratch.old) rules.now }
     requires motions { HasMotionsIn (B.grid board.old) motions.old }
     ensures round { let before : State = record { grid = B.grid board.old; queue = queue.old } in
         let after : State = record { grid = B.grid board.new; queue = queue.new } in
         record { state = after; changed = result }
         ≡ round (rules_meaning (B.table board.old) rules.now) before }
-    ensures table { B.table board.new ≡ B.table board.old }
-    ensures origin { B.origin board.new ≡ B.origin board.old }
-    ensures sides { sides_of (B.grid board.new) ≡ sides_of (B.grid board.old) }
-    ensures rooms { length rooms.new ≡ length rooms.old }
+    ensures fixed { fixed_part B.Board board.new ≡ fixed_part B.Board board.old }
+    ensures scratch { length scratch.new ≡ length scratch.old }
     ensures motions { HasMotionsIn (B.grid board.new) motions.new }
 {
     let mut changed = false;
@@ -49,7 +47,7 @@ fn round<'r, B: Scan>(
         if next == rules.len() {
             return changed;
         }
-        if attempt(&rules[next], board, queue, rooms) {
+        if attempt(&rules[next], board, queue, scratch) {
             changed = true;
             *motions = board.motions_there();
         }
@@ -70,29 +68,27 @@ fn play_rounds<'r, B: Scan>(
     most: u32,
     board: &mut B,
     queue: &mut LentQueue<'r>,
-    rooms: &mut [RoomFor<B>],
+    scratch: &mut [ScratchFor<B>],
     motions: &mut MotionSet,
     kept: &mut KeptBoard<B>,
 ) -> Result<(), Memory>
-    requires rooms { HaveRooms (length rooms.old) rules.now }
+    requires scratch { HaveScratch (length scratch.old) rules.now }
     requires motions { HasMotionsIn (B.grid board.old) motions.old }
     ensures settled { let before : State = record { grid = B.grid board.old; queue = queue.old } in
         let after : State = record { grid = B.grid board.new; queue = queue.new } in
         let all : Meant = record { state = after; changed = true } in
         OnOk result (all ≡ settled (rules_meaning (B.table board.old) rules.now) most true before) }
-    ensures table { B.table board.new ≡ B.table board.old }
-    ensures origin { B.origin board.new ≡ B.origin board.old }
-    ensures sides { sides_of (B.grid board.new) ≡ sides_of (B.grid board.old) }
-    ensures rooms { length rooms.new ≡ length rooms.old }
+    ensures fixed { fixed_part B.Board board.new ≡ fixed_part B.Board board.old }
+    ensures scratch { length scratch.new ≡ length scratch.old }
     ensures motions { HasMotionsIn (B.grid board.new) motions.new }
 {
-    let mut watch = Watch::new();
-    let mut left = watch.step(most, board, queue, kept)?;
+    let mut finder = CycleFinder::new();
+    let mut left = finder.step(most, board, queue, kept)?;
     while 0 < left {
-        if !round(rules, board, queue, rooms, motions) {
+        if !round(rules, board, queue, scratch, motions) {
             return Ok(());
         }
-        left = watch.step(left - 1, board, queue, kept)?;
+        left = finder.step(left - 1, board, queue, kept)?;
     }
     Ok(())
 }
@@ -105,23 +101,21 @@ fn attempt_asked<'r, B: Scan>(
     motions: MotionSet,
     board: &mut B,
     queue: &mut LentQueue<'r>,
-    rooms: &mut [RoomFor<B>],
+    scratch: &mut [ScratchFor<B>],
 ) -> bool
-    requires rooms { length rule.now.rows ≤ length rooms.old }
+    requires scratch { length rule.now.rows ≤ length scratch.old }
     requires motions { HasMotionsIn (B.grid board.old) motions }
     ensures attempt { let before : State = record { grid = B.grid board.old; queue = queue.old } in
         let after : State = record { grid = B.grid board.new; queue = queue.new } in
         let all : Meant = record { state = after; changed = result } in
         all ≡ attempt (rule_meaning (B.table board.old) rule.now) before }
-    ensures table { B.table board.new ≡ B.table board.old }
-    ensures origin { B.origin board.new ≡ B.origin board.old }
-    ensures sides { sides_of (B.grid board.new) ≡ sides_of (B.grid board.old) }
-    ensures rooms { length rooms.new ≡ length rooms.old }
+    ensures fixed { fixed_part B.Board board.new ≡ fixed_part B.Board board.old }
+    ensures scratch { length scratch.new ≡ length scratch.old }
 {
     if asks_for_others(board, motions, rule) {
         return false;
     }
-    attempt(rule, board, queue, rooms)
+    attempt(rule, board, queue, scratch)
 }
 
 /// The rest of a group behind the first rule that has changed something: the rest of the first round, from the rule of
@@ -137,11 +131,11 @@ fn play_on<'r, B: Scan>(
     first: usize,
     board: &mut B,
     queue: &mut LentQueue<'r>,
-    rooms: &mut [RoomFor<B>],
+    scratch: &mut [ScratchFor<B>],
     motions: &mut MotionSet,
     kept: &mut KeptBoard<B>,
 ) -> Result<(), Memory>
-    requires rooms { HaveRooms (length rooms.old) rules.now }
+    requires scratch { HaveScratch (length scratch.old) rules.now }
     requires first { first ≤ length rules.now }
     ensures settled { let before : State = record { grid = B.grid board.old; queue = queue.old } in
         let after : State = record { grid = B.grid board.new; queue = queue.new } in
@@ -149,16 +143,14 @@ fn play_on<'r, B: Scan>(
         let meant = rules_meaning (B.table board.old) rules.now in
         let rest = round (rules_meaning (B.table board.old) (drop first rules.now)) before in
         OnOk result (all ≡ settled meant (ROUND_LIMIT - 1) true rest.state) }
-    ensures table { B.table board.new ≡ B.table board.old }
-    ensures origin { B.origin board.new ≡ B.origin board.old }
-    ensures sides { sides_of (B.grid board.new) ≡ sides_of (B.grid board.old) }
-    ensures rooms { length rooms.new ≡ length rooms.old }
+    ensures fixed { fixed_part B.Board board.new ≡ fixed_part B.Board board.old }
+    ensures scratch { length scratch.new ≡ length scratch.old }
     ensures motions { HasMotionsIn (B.grid board.new) motions.new }
 {
     *motions = board.motions_there();
     let (_front, rest) = rules.split_at(first);
-    round(rest, board, queue, rooms, motions);
-    play_rounds(rules, ROUND_LIMIT - 1, board, queue, rooms, motions, kept)
+    round(rest, board, queue, scratch, motions);
+    play_rounds(rules, ROUND_LIMIT - 1, board, queue, scratch, motions, kept)
 }
 
 /// A group: rounds until one changes nothing, as many as are allowed, without whole periods where they come back.
@@ -173,27 +165,25 @@ pub fn play_group<'r, B: Scan>(
     rules: &[CompiledRule<'r>],
     board: &mut B,
     queue: &mut LentQueue<'r>,
-    rooms: &mut [RoomFor<B>],
+    scratch: &mut [ScratchFor<B>],
     motions: &mut MotionSet,
     kept: &mut KeptBoard<B>,
 ) -> Result<bool, Memory>
-    requires rooms { HaveRooms (length rooms.old) rules.now }
+    requires scratch { HaveScratch (length scratch.old) rules.now }
     requires motions { HasMotionsIn (B.grid board.old) motions.old }
     ensures group { let before : State = record { grid = B.grid board.old; queue = queue.old } in
         let after : State = record { grid = B.grid board.new; queue = queue.new } in
         IfOk result (λ changed. record { state = after; changed = changed }
         ≡ group (rules_meaning (B.table board.old) rules.now) before) }
-    ensures table { B.table board.new ≡ B.table board.old }
-    ensures origin { B.origin board.new ≡ B.origin board.old }
-    ensures sides { sides_of (B.grid board.new) ≡ sides_of (B.grid board.old) }
-    ensures rooms { length rooms.new ≡ length rooms.old }
+    ensures fixed { fixed_part B.Board board.new ≡ fixed_part B.Board board.old }
+    ensures scratch { length scratch.new ≡ length scratch.old }
     ensures motions { HasMotionsIn (B.grid board.new) motions.new }
 {
     for number in 0..rules.len() {
-        if attempt_asked(&rules[number], *motions, board, queue, rooms) {
+        if attempt_asked(&rules[number], *motions, board, queue, scratch) {
             // A copy is lent, so that the set needn't lie in memory as long as nothing has changed.
             let mut moved = *motions;
-            let played = play_on(rules, number + 1, board, queue, rooms, &mut moved, kept);
+            let played = play_on(rules, number + 1, board, queue, scratch, &mut moved, kept);
             *motions = moved;
             played?;
             return Ok(true);
@@ -211,25 +201,23 @@ pub fn pass<'r, B: Scan>(
     groups: &[List<CompiledRule<'r>>],
     board: &mut B,
     queue: &mut LentQueue<'r>,
-    rooms: &mut [RoomFor<B>],
+    scratch: &mut [ScratchFor<B>],
     motions: &mut MotionSet,
     kept: &mut KeptBoard<B>,
 ) -> Result<bool, Memory>
-    requires rooms { GroupsHaveRooms (length rooms.old) groups.now }
+    requires scratch { GroupsHaveScratch (length scratch.old) groups.now }
     requires motions { HasMotionsIn (B.grid board.old) motions.old }
     ensures pass { let before : State = record { grid = B.grid board.old; queue = queue.old } in
         let after : State = record { grid = B.grid board.new; queue = queue.new } in
         IfOk result (λ changed. record { state = after; changed = changed }
         ≡ pass (groups_meaning (B.table board.old) groups.now) before) }
-    ensures table { B.table board.new ≡ B.table board.old }
-    ensures origin { B.origin board.new ≡ B.origin board.old }
-    ensures sides { sides_of (B.grid board.new) ≡ sides_of (B.grid board.old) }
-    ensures rooms { length rooms.new ≡ length rooms.old }
+    ensures fixed { fixed_part B.Board board.new ≡ fixed_part B.Board board.old }
+    ensures scratch { length scratch.new ≡ length scratch.old }
     ensures motions { HasMotionsIn (B.grid board.new) motions.new }
 {
     let mut changed = false;
     for rules in groups {
-        let more = play_group(rules.as_slice(), board, queue, rooms, motions, kept)?;
+        let more = play_group(rules.as_slice(), board, queue, scratch, motions, kept)?;
         changed |= more;
     }
     Ok(changed)

@@ -3,7 +3,7 @@
 
 ghost use Rattle.std.specs.Prelude.{◌≡◌, ◌+◌, ◌<◌, ◌≤◌, ◌∷◌, [], IfSome, None, false, fold, length, true};
 ghost use Rattle.ps_model.specs.board.Attempts.{Rewritten, all_fit, applied, rewritten_rows};
-ghost use Rattle.ps_match.specs.InRoom.{sides_of};
+ghost use Rattle.ps_match.specs.FixedParts.{fixed_part};
 ghost use Rattle.ps_program.specs.Sleeping.{rows_sleep};
 ghost use Rattle.ps_places.specs.Ways.{from_first};
 ghost use Rattle.ps_engine.specs.Choices.{behind, behind_from, choices_of, chosen};
@@ -11,7 +11,7 @@ ghost use Rattle.ps_engine.specs.Choosing.{AreAmong, AreForgotten, AreLeft, AreP
 ghost use Rattle.ps_engine.specs.Choosing.{FitFrom, HaveLinesOf, HaveStartsOf, LacksPlace, rows_meaning};
 
 use ps_match::{ColumnWords, Columns, Scan};
-use ps_places::{RoomFor, RowRoom};
+use ps_places::{RowScratch, ScratchFor};
 use ps_program::CompiledRow;
 
 /// Rewrites every row at its place that is chosen, one after the other, and answers whether a cell changed, or
@@ -21,44 +21,42 @@ use ps_program::CompiledRow;
 fn rewrite_rows<B: Scan>(
     board: &mut B,
     rows: &[CompiledRow],
-    rooms: &[RoomFor<B>],
+    scratch: &[ScratchFor<B>],
     changed: bool,
 ) -> bool
-    requires long { length rows.now ≤ length rooms.now }
-    requires places { ArePlaced (B.grid board.old) rows.now rooms.now }
-    requires fit { let places = chosen (choices_of (B.grid board.old).height rows.now rooms.now) in
+    requires long { length rows.now ≤ length scratch.now }
+    requires places { ArePlaced (B.grid board.old) rows.now scratch.now }
+    requires fit { let places = chosen (choices_of (B.grid board.old).height rows.now scratch.now) in
         all_fit (B.grid board.old) (rows_meaning (B.table board.old) rows.now) places ≡ true }
     ensures rewritten { let before : Rewritten = record { grid = B.grid board.old; changed = changed } in
-        let places = chosen (choices_of (B.grid board.old).height rows.now rooms.now) in
+        let places = chosen (choices_of (B.grid board.old).height rows.now scratch.now) in
         record { grid = B.grid board.new; changed = result }
         ≡ rewritten_rows before (rows_meaning (B.table board.old) rows.now) places }
-    ensures table { B.table board.new ≡ B.table board.old }
-    ensures origin { B.origin board.new ≡ B.origin board.old }
-    ensures sides { sides_of (B.grid board.new) ≡ sides_of (B.grid board.old) }
+    ensures fixed { fixed_part B.Board board.new ≡ fixed_part B.Board board.old }
 {
     if rows.is_empty() {
         return changed;
     }
-    let mut any = rooms[0].rewrite_fitting(board, &rows[0], changed);
+    let mut any = scratch[0].rewrite_fitting(board, &rows[0], changed);
     for number in 1..rows.len() {
-        any = rooms[number].rewrite(board, &rows[number], any);
+        any = scratch[number].rewrite(board, &rows[number], any);
     }
     any
 }
 
 /// The slowest row that doesn't fit any more at its place that is chosen: no combination behind that keeps the place
 /// can be applied. The first row, where each fits; so it needn't be asked itself.
-fn slowest_unfit<B: Scan>(board: &B, rows: &[CompiledRow], rooms: &[RoomFor<B>]) -> usize
-    requires { length rows.now ≤ length rooms.now }
+fn slowest_unfit<B: Scan>(board: &B, rows: &[CompiledRow], scratch: &[ScratchFor<B>]) -> usize
+    requires { length rows.now ≤ length scratch.now }
     ensures passed { let fits = all_fit (B.grid board.now) (rows_meaning (B.table board.now) rows.now) in
-        let choices = choices_of (B.grid board.now).height rows.now rooms.now in
+        let choices = choices_of (B.grid board.now).height rows.now scratch.now in
         from_first fits (behind choices) ≡ from_first fits (behind_from result choices) }
-    ensures slower { FitFrom (B.grid board.now) (B.table board.now) rows.now rooms.now (result + 1) }
+    ensures slower { FitFrom (B.grid board.now) (B.table board.now) rows.now scratch.now (result + 1) }
 {
     let mut number = rows.len();
     while 1 < number {
         number -= 1;
-        if !rooms[number].fits(board, &rows[number]) {
+        if !scratch[number].fits(board, &rows[number]) {
             return number;
         }
     }
@@ -69,19 +67,19 @@ fn slowest_unfit<B: Scan>(board: &B, rows: &[CompiledRow], rooms: &[RoomFor<B>])
 fn start_again<B: Scan>(
     board: &B,
     rows: &[CompiledRow],
-    rooms: &mut [RoomFor<B>],
+    scratch: &mut [ScratchFor<B>],
     count: usize,
 ) -> bool
-    requires long { length rows.now ≤ length rooms.old }
+    requires long { length rows.now ≤ length scratch.old }
     requires count { count ≤ length rows.now }
-    requires lines { HaveLinesOf (B.grid board.now) rows.now rooms.old }
-    ensures started { result ≡ true → AreStarted (B.grid board.now) (B.table board.now) rows.now rooms.new count }
-    ensures none { result ≡ false → LacksPlace (B.grid board.now) (B.table board.now) rows.now rooms.old count }
-    ensures same { HaveStartsOf rooms.old rooms.new }
-    ensures left { AreLeft rooms.old rooms.new count }
+    requires lines { HaveLinesOf (B.grid board.now) rows.now scratch.old }
+    ensures started { result ≡ true → AreStarted (B.grid board.now) (B.table board.now) rows.now scratch.new count }
+    ensures none { result ≡ false → LacksPlace (B.grid board.now) (B.table board.now) rows.now scratch.old count }
+    ensures same { HaveStartsOf scratch.old scratch.new }
+    ensures left { AreLeft scratch.old scratch.new count }
 {
     for number in 0..count {
-        if !rooms[number].first_place(board, &rows[number]) {
+        if !scratch[number].first_place(board, &rows[number]) {
             return false;
         }
     }
@@ -94,30 +92,30 @@ fn start_again<B: Scan>(
 fn advance<B: Scan>(
     board: &B,
     rows: &[CompiledRow],
-    rooms: &mut [RoomFor<B>],
+    scratch: &mut [ScratchFor<B>],
     first: usize,
 ) -> Option<usize>
-    requires long { length rows.now ≤ length rooms.old }
-    requires lines { HaveLinesOf (B.grid board.now) rows.now rooms.old }
-    requires places { ArePlaced (B.grid board.now) rows.now rooms.old }
-    requires slower { FitFrom (B.grid board.now) (B.table board.now) rows.now rooms.old (first + 1) }
+    requires long { length rows.now ≤ length scratch.old }
+    requires lines { HaveLinesOf (B.grid board.now) rows.now scratch.old }
+    requires places { ArePlaced (B.grid board.now) rows.now scratch.old }
+    requires slower { FitFrom (B.grid board.now) (B.table board.now) rows.now scratch.old (first + 1) }
     ensures found { let fits = all_fit (B.grid board.now) (rows_meaning (B.table board.now) rows.now) in
         let height = (B.grid board.now).height in
-        let next = choices_of height rows.now rooms.new in
+        let next = choices_of height rows.now scratch.new in
         IfSome result (λ count.
-        from_first fits (behind_from first (choices_of height rows.now rooms.old)) ≡ chosen next ∷ behind next) }
+        from_first fits (behind_from first (choices_of height rows.now scratch.old)) ≡ chosen next ∷ behind next) }
     ensures none { let fits = all_fit (B.grid board.now) (rows_meaning (B.table board.now) rows.now) in
         let height = (B.grid board.now).height in
-        result ≡ None → from_first fits (behind_from first (choices_of height rows.now rooms.old)) ≡ [] }
-    ensures places { IfSome result (λ count. ArePlaced (B.grid board.now) rows.now rooms.new) }
-    ensures same { HaveStartsOf rooms.old rooms.new }
+        result ≡ None → from_first fits (behind_from first (choices_of height rows.now scratch.old)) ≡ [] }
+    ensures places { IfSome result (λ count. ArePlaced (B.grid board.now) rows.now scratch.new) }
+    ensures same { HaveStartsOf scratch.old scratch.new }
     ensures count { IfSome result (λ count. count ≤ length rows.now) }
     ensures started { IfSome result (λ count.
-        AreStarted (B.grid board.now) (B.table board.now) rows.now rooms.new count) }
+        AreStarted (B.grid board.now) (B.table board.now) rows.now scratch.new count) }
 {
     for number in first..rows.len() {
-        if rooms[number].next_place(board, &rows[number]) {
-            if start_again(board, rows, rooms, number) {
+        if scratch[number].next_place(board, &rows[number]) {
+            if start_again(board, rows, scratch, number) {
                 return Some(number);
             }
             return None;
@@ -129,17 +127,17 @@ fn advance<B: Scan>(
 /// Forgets places of the first `count` rows: some before those that are chosen.
 fn forget_rows<W: ColumnWords>(
     rows: &[CompiledRow],
-    rooms: &mut [RowRoom<Columns<W>>],
+    scratch: &mut [RowScratch<Columns<W>>],
     count: usize,
 )
-    requires long { length rows.now ≤ length rooms.old }
+    requires long { length rows.now ≤ length scratch.old }
     requires count { count ≤ length rows.now }
-    requires among { AreAmong rows.now rooms.old count }
-    ensures forgotten { AreForgotten rows.now rooms.old rooms.new }
-    ensures left { AreLeft rooms.old rooms.new count }
+    requires among { AreAmong rows.now scratch.old count }
+    ensures forgotten { AreForgotten rows.now scratch.old scratch.new }
+    ensures left { AreLeft scratch.old scratch.new count }
 {
     for number in 0..count {
-        rooms[number].forget(&rows[number]);
+        scratch[number].forget(&rows[number]);
     }
 }
 
@@ -149,42 +147,42 @@ fn forget_rows<W: ColumnWords>(
 fn go_on<B: Scan>(
     board: &B,
     rows: &[CompiledRow],
-    rooms: &mut [RoomFor<B>],
+    scratch: &mut [ScratchFor<B>],
     first: usize,
     sleeps: bool,
 ) -> bool
-    requires long { length rows.now ≤ length rooms.old }
-    requires lines { HaveLinesOf (B.grid board.now) rows.now rooms.old }
-    requires places { ArePlaced (B.grid board.now) rows.now rooms.old }
-    requires slower { FitFrom (B.grid board.now) (B.table board.now) rows.now rooms.old (first + 1) }
+    requires long { length rows.now ≤ length scratch.old }
+    requires lines { HaveLinesOf (B.grid board.now) rows.now scratch.old }
+    requires places { ArePlaced (B.grid board.now) rows.now scratch.old }
+    requires slower { FitFrom (B.grid board.now) (B.table board.now) rows.now scratch.old (first + 1) }
     requires asleep { sleeps ≡ true → rows_sleep rows.now ≡ true }
     ensures same { let meant = rows_meaning (B.table board.now) rows.now in
         let height = (B.grid board.now).height in
-        let next = choices_of height rows.now rooms.new in
-        let later = behind_from first (choices_of height rows.now rooms.old) in
+        let next = choices_of height rows.now scratch.new in
+        let later = behind_from first (choices_of height rows.now scratch.old) in
         let left = from_first (all_fit (B.grid board.now) meant) later in
         result ≡ true → ComeToSame (B.grid board.now) meant (chosen next ∷ behind next) left }
     ensures fit { let meant = rows_meaning (B.table board.now) rows.now in
-        let next = choices_of (B.grid board.now).height rows.now rooms.new in
+        let next = choices_of (B.grid board.now).height rows.now scratch.new in
         result ≡ true → all_fit (B.grid board.now) meant (chosen next) ≡ true }
     ensures fewer { let meant = rows_meaning (B.table board.now) rows.now in
         let height = (B.grid board.now).height in
-        let next = choices_of height rows.now rooms.new in
-        let later = behind_from first (choices_of height rows.now rooms.old) in
+        let next = choices_of height rows.now scratch.new in
+        let later = behind_from first (choices_of height rows.now scratch.old) in
         let left = from_first (all_fit (B.grid board.now) meant) later in
         result ≡ true → length (behind next) < length left }
     ensures none { let fits = all_fit (B.grid board.now) (rows_meaning (B.table board.now) rows.now) in
         let height = (B.grid board.now).height in
-        result ≡ false → from_first fits (behind_from first (choices_of height rows.now rooms.old)) ≡ [] }
-    ensures places { result ≡ true → ArePlaced (B.grid board.now) rows.now rooms.new }
-    ensures lines { HaveLinesOf (B.grid board.now) rows.now rooms.new }
-    ensures long { length rooms.new ≡ length rooms.old }
+        result ≡ false → from_first fits (behind_from first (choices_of height rows.now scratch.old)) ≡ [] }
+    ensures places { result ≡ true → ArePlaced (B.grid board.now) rows.now scratch.new }
+    ensures lines { HaveLinesOf (B.grid board.now) rows.now scratch.new }
+    ensures long { length scratch.new ≡ length scratch.old }
 {
-    let Some(count) = advance(board, rows, rooms, first) else {
+    let Some(count) = advance(board, rows, scratch, first) else {
         return false;
     };
     if sleeps {
-        forget_rows(rows, rooms, count);
+        forget_rows(rows, scratch, count);
     }
     true
 }
@@ -195,29 +193,27 @@ fn go_on<B: Scan>(
 pub fn walk<B: Scan>(
     board: &mut B,
     rows: &[CompiledRow],
-    rooms: &mut [RoomFor<B>],
+    scratch: &mut [ScratchFor<B>],
     sleeps: bool,
 ) -> bool
     requires asleep { sleeps ≡ true → rows_sleep rows.now ≡ true }
-    requires long { length rows.now ≤ length rooms.old }
-    requires lines { HaveLinesOf (B.grid board.old) rows.now rooms.old }
-    requires places { ArePlaced (B.grid board.old) rows.now rooms.old }
-    requires fit { let places = chosen (choices_of (B.grid board.old).height rows.now rooms.old) in
+    requires long { length rows.now ≤ length scratch.old }
+    requires lines { HaveLinesOf (B.grid board.old) rows.now scratch.old }
+    requires places { ArePlaced (B.grid board.old) rows.now scratch.old }
+    requires fit { let places = chosen (choices_of (B.grid board.old).height rows.now scratch.old) in
         all_fit (B.grid board.old) (rows_meaning (B.table board.old) rows.now) places ≡ true }
     ensures rewritten { let before : Rewritten = record { grid = B.grid board.old; changed = false } in
-        let choices = choices_of (B.grid board.old).height rows.now rooms.old in
+        let choices = choices_of (B.grid board.old).height rows.now scratch.old in
         record { grid = B.grid board.new; changed = result }
         ≡ fold (applied (rows_meaning (B.table board.old) rows.now)) before (chosen choices ∷ behind choices) }
-    ensures table { B.table board.new ≡ B.table board.old }
-    ensures origin { B.origin board.new ≡ B.origin board.old }
-    ensures sides { sides_of (B.grid board.new) ≡ sides_of (B.grid board.old) }
-    ensures long { length rooms.new ≡ length rooms.old }
+    ensures fixed { fixed_part B.Board board.new ≡ fixed_part B.Board board.old }
+    ensures long { length scratch.new ≡ length scratch.old }
 {
     let mut changed = false;
     loop {
-        changed = rewrite_rows(board, rows, rooms, changed);
-        let first = slowest_unfit(board, rows, rooms);
-        if !go_on(board, rows, rooms, first, sleeps) {
+        changed = rewrite_rows(board, rows, scratch, changed);
+        let first = slowest_unfit(board, rows, scratch);
+        if !go_on(board, rows, scratch, first, sleeps) {
             return changed;
         }
     }

@@ -7,7 +7,8 @@ ghost use Rattle.ps_model.specs.board.Attempts.{Result as Meant, State, attempt}
 ghost use Rattle.ps_model.specs.meaning.Compiled.{cell_written};
 ghost use Rattle.ps_program.specs.CellsShown.{write_shown};
 ghost use Rattle.ps_program.specs.Writers.{parts_writer};
-ghost use Rattle.ps_match.specs.InRoom.{sides_of, write_in_room};
+ghost use Rattle.ps_match.specs.FixedParts.{fixed_part};
+ghost use Rattle.ps_match.specs.InRoom.{write_in_room};
 ghost use Rattle.ps_match.specs.Together.{rewritten_where};
 ghost use Rattle.ps_places.specs.FoundStarts.{part_of};
 ghost use Rattle.ps_places.specs.PartTargets.{own_part};
@@ -16,7 +17,7 @@ ghost use Rattle.ps_engine.specs.Writing.{AreWithin, is_behind, is_written, row_
 
 use crate::lent_queue::LentQueue;
 use ps_match::{Columns, Scan, recall_shape, rewrite_ahead};
-use ps_places::RoomFor;
+use ps_places::ScratchFor;
 use ps_program::{Axis, CellWrite, CompiledCell, CompiledRow, CompiledRule, Writer};
 
 /// The cell of a row's two parts that is its writer.
@@ -49,9 +50,7 @@ fn write_behind<B: Scan>(
         let becomes = cell_written (write_in_room (B.table board.old) (write_shown write.now)) in
         record { grid = B.grid board.new; changed = result }
         ≡ rewritten_where before becomes (is_behind axis before.height steps row columns) }
-    ensures table { B.table board.new ≡ B.table board.old }
-    ensures origin { B.origin board.new ≡ B.origin board.old }
-    ensures sides { sides_of (B.grid board.new) ≡ sides_of (B.grid board.old) }
+    ensures fixed { fixed_part B.Board board.new ≡ fixed_part B.Board board.old }
 {
     recall_shape(board);
     match axis {
@@ -60,7 +59,7 @@ fn write_behind<B: Scan>(
     }
 }
 
-/// Writes the cells that lie so many steps along an axis from the columns that a room keeps of these rows of the
+/// Writes the cells that lie so many steps along an axis from the columns that scratch memory keeps of these rows of the
 /// board, and answers whether one of them changed.
 fn write_targets<B: Scan>(
     board: &mut B,
@@ -68,22 +67,20 @@ fn write_targets<B: Scan>(
     axis: Axis,
     steps: u32,
     rows: Columns<B::Words>,
-    room: &RoomFor<B>,
+    row_scratch: &ScratchFor<B>,
 ) -> bool
     requires { AreWithin axis (B.grid board.old).height steps rows }
     ensures rewritten { let before = B.grid board.old in
         let becomes = cell_written (write_in_room (B.table board.old) (write_shown write.now)) in
         record { grid = B.grid board.new; changed = result }
-        ≡ rewritten_where before becomes (is_written axis before.height steps rows room.now.starts.items) }
-    ensures table { B.table board.new ≡ B.table board.old }
-    ensures origin { B.origin board.new ≡ B.origin board.old }
-    ensures sides { sides_of (B.grid board.new) ≡ sides_of (B.grid board.old) }
+        ≡ rewritten_where before becomes (is_written axis before.height steps rows row_scratch.now.starts.items) }
+    ensures fixed { fixed_part B.Board board.new ≡ fixed_part B.Board board.old }
 {
     recall_shape(board);
     let mut left = rows;
     let mut changed = false;
     while let Some(row) = left.take_first() {
-        let columns = room.targets_on(row);
+        let columns = row_scratch.targets_on(row);
         changed |= write_behind(board, write, axis, steps, row, columns);
     }
     changed
@@ -97,7 +94,7 @@ pub fn attempt_writer<'r, B: Scan>(
     writer: Writer,
     board: &mut B,
     queue: &mut LentQueue<'r>,
-    room: &mut RoomFor<B>,
+    row_scratch: &mut ScratchFor<B>,
 ) -> bool
     requires writer { rule.now.writer ≡ Some writer }
     requires rewrites { rule.now.rewrites ≡ true }
@@ -105,17 +102,15 @@ pub fn attempt_writer<'r, B: Scan>(
         let after : State = record { grid = B.grid board.new; queue = queue.new } in
         let all : Meant = record { state = after; changed = result } in
         all ≡ attempt (rule_meaning (B.table board.old) rule.now) before }
-    ensures table { B.table board.new ≡ B.table board.old }
-    ensures origin { B.origin board.new ≡ B.origin board.old }
-    ensures sides { sides_of (B.grid board.new) ≡ sides_of (B.grid board.old) }
+    ensures fixed { fixed_part B.Board board.new ≡ fixed_part B.Board board.old }
 {
     recall_shape(board);
     let row = &rule.rows.as_slice()[0];
     let cell = writing_cell(row, writer);
-    let rows = room.find_targets(board, row, writer.leads);
+    let rows = row_scratch.find_targets(board, row, writer.leads);
     if rows.is_empty() {
         return false;
     }
     queue.enter(rule.commands);
-    write_targets(board, &cell.write, row.axis, writer.cell, rows, room)
+    write_targets(board, &cell.write, row.axis, writer.cell, rows, row_scratch)
 }

@@ -7,6 +7,7 @@ mod GameFactRows
 mod LanguageRows
 mod OutputRows
 mod LevelRunRows
+mod SolvingRows
 mod HeldRows
 mod RefusedRows
 mod PlayedGames1Rows

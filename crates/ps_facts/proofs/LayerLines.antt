@@ -7,14 +7,14 @@ use Rattle.ps_model.specs.text.Lines.{Line, lines_of}
 use Rattle.ps_model.specs.text.LineNumbers.{no_line, line_at}
 use Rattle.ps_facts.specs.LayerWords.{is_layer, layer_lines}
 
--- what comes first behind so many stands at that place
+-- what comes first after the first n stands at the place n
 pub first-there : {A : Type 0} (xs ys : List A) (n : ℕ) (y : A) → drop n xs ≡ y ∷ ys → slice_get xs n ≡ Some y
 first-there [] ys zero y e = cc
 first-there [] ys (suc n) y e = cc
 first-there (x ∷ xs) ys zero y e = cc
 first-there (x ∷ xs) ys (suc n) y e = first-there xs ys n y e
 
--- and behind one more come the others
+-- and after one more come the others
 pub others-behind : {A : Type 0} (xs ys : List A) (n next : ℕ) (y : A) → next ≡ n + 1 → drop n xs ≡ y ∷ ys →
     drop next xs ≡ ys
 others-behind [] ys zero next y one e = cc

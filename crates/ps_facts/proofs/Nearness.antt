@@ -1,4 +1,4 @@
--- Words that are written much alike: behind a front of both.
+-- Words that are written much alike: after a front of both.
 use Rattle.std.proofs.Common.{◌≡◌, ◌∙◌, ◌+◌, ◌<◌, ◌≤◌, ℕ, List, ◌++◌, length, take, drop, get_or, refl}
 use Rattle.std.proofs.Common.{sym, ap, subst, arith}
 use Rattle.std.proofs.lemmas.List.{append_assoc, get_or-map, length-map, length-take, take-append-drop, take_more}
@@ -18,7 +18,7 @@ parts front count word =
     sym (take-append-drop front word)
     ∙ ap (λ (rest : List ℕ). take front word ++ rest) (sym (take-append-drop count (drop front word)))
 
--- behind a front of both, and a byte at most of each, they are the same
+-- after a front of both, and a byte at most of each, they are the same
 pub within_one : (word other : List ℕ) (front count other_count : ℕ) → take front word ≡ take front other →
     count ≤ 1 → other_count ≤ 1 → drop count (drop front word) ≡ drop other_count (drop front other) →
     AreWithinOne word other
@@ -50,7 +50,7 @@ behind_front front word other near =
           ∙ sym (append_assoc front near.front (near.other_byte ++ near.behind));
     }
 
--- behind a front of both, and a byte at most of each, one edit at most makes one of the other
+-- after a front of both, and a byte at most of each, one edit at most makes one of the other
 pub within_two : (word other : List ℕ) (front count other_count : ℕ) → take front word ≡ take front other →
     count ≤ 1 → other_count ≤ 1 →
     AreWithinOne (drop count (drop front word)) (drop other_count (drop front other)) → AreWithinTwo word other
@@ -80,7 +80,7 @@ within_two word other front count other_count same few other_few rest =
           (behind_front (first ++ byte) behind other_behind rest));
     }
 
--- what stands behind a front, letters folded
+-- what stands after a front, letters folded
 behind_folded : (front count : ℕ) (word : List ℕ) →
     drop count (drop front (folded word)) ≡ folded (drop count (drop front word))
 behind_folded front count word =

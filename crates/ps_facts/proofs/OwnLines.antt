@@ -22,7 +22,7 @@ own-step text section line next one within e =
     rw place (drop-cons (lines_of text) (line - 1) no_line (omega arith)) in
     rw first (one_more (is_own section (line_at text line)) (line_at text line) (own_lines_from text section next))
 
--- behind the last line there is none
+-- after the last line there is none
 pub own-end : (text : List ℕ) (section : Section) (line : ℕ) → length (lines_of text) < line →
     own_lines_from text section line ≡ []
 own-end text section line h = rw (drop_all (line - 1) (lines_of text) (omega arith)) refl

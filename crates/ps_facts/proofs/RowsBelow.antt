@@ -4,7 +4,7 @@ use Rattle.std.specs.List.{prefix_len}
 use Rattle.ps_model.specs.names.ObjectLines.{is_sprite_row}
 use Rattle.ps_model.specs.text.Lines.{Line}
 
--- how many rows stand on top of so many lines
+-- how many rows stand on top of the first `most` lines
 abbrev pub rows_of : ℕ → List Line → ℕ
 rows_of most lines = prefix_len is_sprite_row (take most lines)
 

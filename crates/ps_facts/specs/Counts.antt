@@ -3,7 +3,7 @@ use Rattle.std.specs.Prelude.{ℕ, ◌+◌, ◌||◌, if◌then◌else◌, List,
 use Rattle.ps_facts.specs.declared.signs.Sign.TheVariants.{Opening, Bar}
 use Rattle.ps_facts.specs.Signs.{is_sign, is_edge}
 
--- how many cells a row has up to its end, the first bracket or arrow, where so many are before
+-- how many cells a row has up to its end, the first bracket or arrow, where `count` are before
 abbrev pub cells_from : ℕ → List (List ℕ) → ℕ
 cells_from count [] = count
 cells_from count (word ∷ words) =
@@ -14,7 +14,7 @@ abbrev pub cell_counts : List (List ℕ) → List ℕ
 cell_counts [] = []
 cell_counts (word ∷ words) = if is_sign Opening word then cells_from 1 words ∷ cell_counts words else cell_counts words
 
--- one more cell behind a word that begins one: a `[` or a bar
+-- one more cell after a word that begins one: a `[` or a bar
 abbrev pub begun_behind : ℕ → List ℕ → ℕ
 begun_behind count word = if is_sign Opening word || is_sign Bar word then count + 1 else count
 

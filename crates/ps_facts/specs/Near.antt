@@ -14,7 +14,7 @@ pub record AreWithinOne (word other : List ℕ) : Type 0 where
   pub is : word ≡ front ++ (byte ++ behind)
   pub other_is : other ≡ front ++ (other_byte ++ behind)
 
--- two edits at most do, one behind the other
+-- two edits at most do, one after the other
 pub record AreWithinTwo (word other : List ℕ) : Type 0 where
   pub between : List ℕ
   pub one : AreWithinOne word between

@@ -5,7 +5,7 @@ use Rattle.std.specs.List.{list_any}
 use Rattle.ps_facts.specs.declared.signs.Sign.TheVariants.{Opening, Bar, Without}
 use Rattle.ps_facts.specs.Signs.{is_same, is_sign, is_edge}
 
--- brackets are open behind a word, where they are or aren't before it
+-- brackets are open after a word, where they are or aren't before it
 abbrev pub inside_behind : Bool → List ℕ → Bool
 inside_behind inside word = if is_edge word then is_sign Opening word else inside
 
@@ -22,7 +22,7 @@ comes_first sign (word ∷ words) = if is_edge word then is_sign sign word else 
 abbrev pub parts_cells : List ℕ → Bool
 parts_cells word = is_edge word || is_sign Bar word
 
--- a name has stood in the cell behind a word, where it has or hasn't before it
+-- a name has stood in the cell after a word, where it has or hasn't before it
 abbrev pub seen_behind : List ℕ → Bool → List ℕ → Bool
 seen_behind name seen word = if parts_cells word then false else (seen || is_same name word)
 

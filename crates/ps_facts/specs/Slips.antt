@@ -1,4 +1,4 @@
--- What may be wrong with a word of a line, by the words before it and behind it.
+-- What may be wrong with a word of a line, by the words before it and after it.
 use Rattle.std.specs.Prelude.{ℕ, ◌%◌, nat_eq, Bool, true, ◌&&◌, ◌||◌, not, List, [], ◌∷◌, length}
 use Rattle.ps_model.specs.declared.texts.Section.{Section}
 use Rattle.ps_model.specs.declared.texts.Section.TheVariants.{Prelude, Objects, Legend, Rules, Wins}
@@ -45,7 +45,7 @@ section_of (Form ThirdName) = Objects
 section_of (Form NameAgain) = Objects
 section_of (Form RealTime) = Prelude
 
--- there are so many words
+-- there are `count` words
 abbrev pub are_so_many : ℕ → List (List ℕ) → Bool
 are_so_many count words = nat_eq (length words) count
 
@@ -88,13 +88,13 @@ has_rule_slip Chance before word behind = is_by_chance word
 has_rule_slip Rigid before word behind = is_sign sign.Rigid word
 has_rule_slip TwiceInCell before word behind = is_in_cell word before && is_inside before
 
--- among these words, which stand behind a movement word or `no`, no name comes first
+-- among these words, which stand after a movement word or `no`, no name comes first
 abbrev pub begins_nameless : List (List ℕ) → Bool
 begins_nameless [] = true
 begins_nameless (word ∷ words) =
     parts_cells word || (is_movement word || (is_sign sign.Without word || is_sign sign.Ellipsis word))
 
--- the word asks for a name right behind it
+-- the word asks for a name right after it
 abbrev pub asks_for_name : List ℕ → Bool
 asks_for_name word = is_movement word || is_sign sign.Without word
 
@@ -137,7 +137,7 @@ has_form_slip ThirdName before word behind = are_so_many 2 before
 has_form_slip NameAgain before word behind = is_any before word
 has_form_slip RealTime before word behind = are_so_many 0 before && is_sign sign.RealTime word
 
--- what is wrong with a word, with these words before it and behind it in its line
+-- what is wrong with a word, with these words before it and after it in its line
 abbrev pub has_slip : Slip → List (List ℕ) → List ℕ → List (List ℕ) → Bool
 has_slip (Shape slip) before word behind = has_shape_slip slip before word behind
 has_slip (Rule slip) before word behind = has_rule_slip slip before word behind

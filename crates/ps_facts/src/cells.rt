@@ -11,7 +11,7 @@ use ps_model::Memory;
 use ps_text::Word;
 use std::alloc::Global;
 
-/// One more cell behind a bar.
+/// One more cell after a bar.
 fn cells_behind(count: usize, word: &str) -> usize
     requires { count < 2 ^ 62 }
     ensures count { result ≡ (if is_sign Bar word.now then count + 1 else count) }
@@ -62,7 +62,7 @@ pub fn cell_counts(alloc: Global, words: &[Word<'_>]) -> Result<Vec<usize>, Memo
     Ok(counts)
 }
 
-/// One more cell behind a word that begins one: a `[` or a bar.
+/// One more cell after a word that begins one: a `[` or a bar.
 fn begun_behind(count: usize, word: &str) -> usize
     requires { count < 2 ^ 62 }
     ensures count { result ≡ begun_behind count word.now }

@@ -15,7 +15,7 @@ fn are_odd(words: &[Word<'_>]) -> bool
     words.len() % 2 == 1
 }
 
-/// Whether a word of a line of LEGEND has that slip, with these words before it and behind it.
+/// Whether a word of a line of LEGEND has that slip, with these words before it and after it.
 fn has_legend_slip(slip: FormSlip, before: &[Word<'_>], word: &str, behind: &[Word<'_>]) -> bool
     ensures { result ≡ true → has_form_slip slip (map text_of before.now) word.now (map text_of behind.now) ≡ true }
 {
@@ -31,7 +31,7 @@ fn has_legend_slip(slip: FormSlip, before: &[Word<'_>], word: &str, behind: &[Wo
     }
 }
 
-/// Whether a word has that slip, with these words before it and behind it in its line.
+/// Whether a word has that slip, with these words before it and after it in its line.
 pub fn has_form_slip(slip: FormSlip, before: &[Word<'_>], word: &str, behind: &[Word<'_>]) -> bool
     ensures { result ≡ true → has_form_slip slip (map text_of before.now) word.now (map text_of behind.now) ≡ true }
 {

@@ -13,7 +13,7 @@ use crate::shape_slips::has_shape_slip;
 use crate::slips::Slip;
 use ps_text::Word;
 
-/// Whether a word has that slip, with these words before it and behind it in its line.
+/// Whether a word has that slip, with these words before it and after it in its line.
 fn has_slip(slip: Slip, before: &[Word<'_>], word: &str, behind: &[Word<'_>]) -> bool
     ensures { result ≡ true → has_slip slip (map text_of before.now) word.now (map text_of behind.now) ≡ true }
 {

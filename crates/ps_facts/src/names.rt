@@ -171,7 +171,7 @@ fn push_legend_names<'a>(
     Ok(())
 }
 
-/// The names that a text declares: those of OBJECTS, and behind them those of LEGEND.
+/// The names that a text declares: those of OBJECTS, and after them those of LEGEND.
 #[tactic(auto, unfolding(crate::specs::Declarations::declared))]
 pub fn declared_names<'a>(alloc: Global, source: &'a Source) -> Result<Vec<Named<'a>>, Memory>
     ensures { IfOk result (λ names. names_shown names.items ≡ declared source.now) }

@@ -29,7 +29,7 @@ fn same_front(a: &[u8], b: &[u8]) -> usize
     shorter
 }
 
-/// The bytes behind so many, the first ones.
+/// The bytes after the first `count`.
 fn behind(bytes: &[u8], count: usize) -> &[u8]
     requires { count ≤ length bytes.now }
     ensures { result.now ≡ drop count bytes.now }
@@ -37,7 +37,7 @@ fn behind(bytes: &[u8], count: usize) -> &[u8]
     &bytes[count..]
 }
 
-/// The bytes behind the first; of none, none.
+/// The bytes after the first; of none, none.
 fn behind_first(bytes: &[u8]) -> &[u8]
     ensures { result.now ≡ drop 1 bytes.now }
 {

@@ -17,7 +17,7 @@ pub enum Place {
     Between,
     /// Right below a name line, where the colours stand.
     BelowName,
-    /// Below the colours, where so many more rows of a sprite may stand.
+    /// Below the colours, where this many more rows of a sprite may stand.
     BelowColours(u32),
 }
 

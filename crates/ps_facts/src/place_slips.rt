@@ -12,7 +12,7 @@ use crate::signs::{
 use crate::slips::PlaceSlip;
 use ps_text::Word;
 
-/// Whether a word that stands right behind a movement word or `no` is no name.
+/// Whether a word that stands right after a movement word or `no` is no name.
 fn is_no_name(word: &str) -> bool
     ensures { result ≡ begins_nameless (word.now ∷ []) }
 {
@@ -22,7 +22,7 @@ fn is_no_name(word: &str) -> bool
         || is_sign(Sign::Ellipsis, word)
 }
 
-/// Whether no name comes first among these words, which stand behind a movement word or `no`.
+/// Whether no name comes first among these words, which stand after a movement word or `no`.
 fn begins_nameless(behind: &[Word<'_>]) -> bool
     ensures { result ≡ begins_nameless (map text_of behind.now) }
 {
@@ -32,7 +32,7 @@ fn begins_nameless(behind: &[Word<'_>]) -> bool
     is_no_name(next.text())
 }
 
-/// Whether a word asks for a name right behind it.
+/// Whether a word asks for a name right after it.
 fn asks_for_name(word: &str) -> bool
     ensures { result ≡ asks_for_name word.now }
 {
@@ -63,7 +63,7 @@ fn is_plus(before: &[Word<'_>], word: &str) -> bool {
     before.is_empty() && word == "+"
 }
 
-/// Whether a word outside brackets stands in that wrong place, with these words before it and behind it in its line.
+/// Whether a word outside brackets stands in that wrong place, with these words before it and after it in its line.
 fn is_misplaced(slip: PlaceSlip, before: &[Word<'_>], word: &str, behind: &[Word<'_>]) -> bool
     ensures { result ≡ true → has_place_slip slip (map text_of before.now) word.now (map text_of behind.now) ≡ true }
 {
@@ -87,7 +87,7 @@ fn is_misplaced(slip: PlaceSlip, before: &[Word<'_>], word: &str, behind: &[Word
     }
 }
 
-/// Whether a word stands in that wrong place, with these words before it and behind it in its line.
+/// Whether a word stands in that wrong place, with these words before it and after it in its line.
 pub fn has_place_slip(slip: PlaceSlip, before: &[Word<'_>], word: &str, behind: &[Word<'_>]) -> bool
     ensures { result ≡ true → has_place_slip slip (map text_of before.now) word.now (map text_of behind.now) ≡ true }
 {

@@ -1,4 +1,4 @@
-//! Where a word of a rule stands, by the words before it and behind it.
+//! Where a word of a rule stands, by the words before it and after it.
 
 ghost use Rattle.std.specs.Prelude.{◌≡◌, ◌||◌, map};
 ghost use Rattle.ps_text.specs.WordViews.{text_of};
@@ -8,7 +8,7 @@ ghost use Rattle.ps_facts.specs.Places.{are_parted, is_barred};
 use crate::signs::{Sign, is_edge, is_sign};
 use ps_text::{Word, same_name};
 
-/// Whether brackets are open behind a word, where they are or aren't before it.
+/// Whether brackets are open after a word, where they are or aren't before it.
 pub fn inside_behind(inside: bool, word: &str) -> bool
     ensures { result ≡ inside_behind inside word.now }
 {
@@ -48,7 +48,7 @@ pub fn parts_cells(word: &str) -> bool
     is_edge(word) || is_sign(Sign::Bar, word)
 }
 
-/// Whether a name has stood in the cell behind a word, where it has or hasn't before it.
+/// Whether a name has stood in the cell after a word, where it has or hasn't before it.
 fn seen_behind(name: &str, seen: bool, word: &str) -> bool
     ensures { result ≡ seen_behind name.now seen word.now }
 {

@@ -25,7 +25,7 @@ fn is_name(before: &[Word<'_>], word: &str) -> bool {
     !is_movement(word) && !is_sign(Sign::Without, word) && !is_sign(Sign::Without, last.text())
 }
 
-/// Whether a word has that slip, with these words before it and behind it in its line.
+/// Whether a word has that slip, with these words before it and after it in its line.
 pub fn has_rule_slip(slip: RuleSlip, before: &[Word<'_>], word: &str, behind: &[Word<'_>]) -> bool
     ensures { result ≡ true → has_rule_slip slip (map text_of before.now) word.now (map text_of behind.now) ≡ true }
 {

@@ -17,7 +17,7 @@ pub fn lacks(sign: Sign, before: &[Word<'_>], word: &str, behind: &[Word<'_>]) -
     !has_sign(sign, before) && !is_sign(sign, word) && !has_sign(sign, behind)
 }
 
-/// Whether a bracket or an arrow, the word, has that slip, with these words before it and behind it in its line.
+/// Whether a bracket or an arrow, the word, has that slip, with these words before it and after it in its line.
 fn has_edge_slip(slip: ShapeSlip, before: &[Word<'_>], word: &str, behind: &[Word<'_>]) -> bool
     ensures { result ≡ true → has_shape_slip slip (map text_of before.now) word.now (map text_of behind.now) ≡ true }
 {
@@ -34,7 +34,7 @@ fn has_edge_slip(slip: ShapeSlip, before: &[Word<'_>], word: &str, behind: &[Wor
     }
 }
 
-/// Whether a word has that slip, with these words before it and behind it in its line.
+/// Whether a word has that slip, with these words before it and after it in its line.
 pub fn has_shape_slip(slip: ShapeSlip, before: &[Word<'_>], word: &str, behind: &[Word<'_>]) -> bool
     ensures { result ≡ true → has_shape_slip slip (map text_of before.now) word.now (map text_of behind.now) ≡ true }
 {

@@ -14,30 +14,30 @@ pub enum ShapeSlip {
     LikeBracket,
     /// The line has no `->`; the word is its last.
     NoArrow,
-    /// A `->` behind another one.
+    /// A `->` after another one.
     SecondArrow,
-    /// A `[` behind which another one stands before a `]`.
+    /// A `[` after which another one stands before a `]`.
     Nested,
-    /// A `[` without a `]` behind it, on its side of the arrow.
+    /// A `[` without a `]` after it, on its side of the arrow.
     Unclosed,
     /// A `]` without a `[` before it, on its side of the arrow.
     LoneClosing,
     /// A `->` without a `[` before it.
     NothingLeft,
-    /// A `->` behind which the line ends.
+    /// A `->` after which the line ends.
     NothingRight,
     /// A `|` outside brackets.
     BarOutside,
-    /// A direction word outside brackets, behind the arrow.
+    /// A direction word outside brackets, after the arrow.
     DirectionOutside,
-    /// Another word outside brackets, behind the first `[`.
+    /// Another word outside brackets, after the first `[`.
     WordOutside,
 }
 
 /// What may be wrong with other words of a rule.
 #[derive(Clone, Copy)]
 pub enum RuleSlip {
-    /// `startloop` or `endloop` with words behind it.
+    /// `startloop` or `endloop` with words after it.
     LoopWords,
     /// `message` in a line without `->`.
     MessageAlone,
@@ -60,13 +60,13 @@ pub enum PlaceSlip {
     CommandInCell,
     /// `late`, `startloop` or `endloop` in brackets.
     KeyWordInCell,
-    /// In brackets, a movement word or `no` without a name right behind it.
+    /// In brackets, a movement word or `no` without a name right after it.
     Nameless,
-    /// On the left, outside brackets behind the first `[`.
+    /// On the left, outside brackets after the first `[`.
     OutsideLeft,
     /// On the right, outside brackets before a `[`.
     BeforeRow,
-    /// On the right, behind all brackets, a word that is no command.
+    /// On the right, after all brackets, a word that is no command.
     NoCommand,
 }
 
@@ -75,7 +75,7 @@ pub enum PlaceSlip {
 pub enum FormSlip {
     /// The second word of a line of LEGEND isn't `=`.
     NoEquals,
-    /// Behind a name of a line of LEGEND stands neither `and` nor `or`.
+    /// After a name of a line of LEGEND stands neither `and` nor `or`.
     NoJoiner,
     /// A `=` stands where a line of LEGEND has a name.
     EqualsAsName,

@@ -69,7 +69,7 @@ told_by_names lines fault h e =
     (name_faults (header_number lines Objects) (section_lines lines Objects) (section_lines lines Legend)
     (section_lines lines Layers)) _ fault e)
 
--- the faults behind those of the names
+-- the faults after those of the names
 abbrev faults_of_rest : List Line → Names → List Fault
 faults_of_rest lines names =
     rule_faults names (section_lines lines Rules)
@@ -77,7 +77,7 @@ faults_of_rest lines names =
     (win_faults names (section_lines lines Wins) ++ reading_faults names
     (rules_read names (section_lines lines Rules))))
 
--- names without a fault leave those behind them
+-- names without a fault leave those after them
 rest_is : (lines : List Line) (names : Names) → AreNamed lines names → line_faults lines ≡ faults_of_rest lines names
 rest_is lines names named =
     ap (λ (front : List Fault). front ++ (name_faults (header_number lines Objects) (section_lines lines Objects)

@@ -10,8 +10,8 @@ use ps_readings::reading_count;
 use ps_rules::Occurrences;
 use std::alloc::Global;
 
-/// The fault of the first rule with more than 4,096 readings, or with which the readings of the rules down to it are
-/// more than 65,536; readings that are impossible count too. Each rule is told by its occurrences.
+/// The fault of the first rule with more than 4,096 readings, or with which the rules down to it have more than 65,536.
+/// Readings that are impossible count too. Each rule is told by its occurrences.
 pub fn first_too_many(
     alloc: Global,
     names: &Names,

@@ -25,7 +25,7 @@ use std::marker::Model;
 
 /// A game, as its text says it.
 pub struct Game {
-    /// The text behind `title`, without the blanks at its ends; empty where the prelude has none.
+    /// The text after `title`, without the blanks at its ends; empty where the prelude has none.
     pub title: Text,
     pub options: Options,
     pub names: Names,
@@ -36,7 +36,7 @@ pub struct Game {
     pub wins: Vec<Win>,
 }
 
-/// Written out, so that who owns a game calls this on each way out, instead of dropping its parts there.
+/// Written out: an owner of a game calls this on each return path, and doesn't drop its parts there.
 impl Drop for Game {
     fn drop(self) {
         let Game {

@@ -1,4 +1,4 @@
--- A piece that is fed byte by byte: what was read of it, and what comes behind.
+-- A piece that is fed byte by byte: what was read of it, and what comes after.
 use Rattle.std.proofs.Common.{◌≡◌, ℕ, ◌+◌, ◌<◌, ◌≤◌, List, [], ◌∷◌, ◌++◌, Option, None, length, take, drop, get_or}
 use Rattle.std.proofs.Common.{refl, sym, ◌∙◌, ap, append_assoc, append-nil}
 use Rattle.std.specs.Prelude.{option_to_list}
@@ -11,7 +11,7 @@ use Rattle.ps_laws.proofs.keys.HeldKeys.{one_byte_more}
 use Rattle.ps_laws.proofs.keys.KeysInPieces.{keys_of-append, keys_of-nothing_more}
 use Rattle.ps_laws.proofs.common.Lists.{none-before}
 
--- a part of a piece was read behind what was held at first, and brought no key
+-- a part of a piece was read after what was held at first, and brought no key
 abbrev pub ReadSilently : Held → Held → List ℕ → Type 0
 ReadSilently first now part = (others : List ℕ) →
     keys_of (bytes_of first ++ (part ++ others)) ≡ keys_of (bytes_of now ++ others)
@@ -39,7 +39,7 @@ whole : (piece : List ℕ) (read : ℕ) (others : List ℕ) → piece ++ others 
 whole piece read others = ap (λ (l : List ℕ). l ++ others) (sym (take-append-drop read piece))
     ∙ append_assoc (take read piece) (drop read piece) others
 
--- the keys of the piece and of anything behind it, at the byte that brings one
+-- the keys of the piece and of anything after it, at the byte that brings one
 pub fed_key : (first now next : Held) (piece : List ℕ) (place : ℕ) (key : Option Key) → place < length piece →
     ReadSilently first now (take place piece) →
     key ≡ key_behind now (get_or piece place 0) → next ≡ held_behind now (get_or piece place 0) →

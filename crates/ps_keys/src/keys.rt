@@ -52,7 +52,7 @@ impl Keys {
         self.held
     }
 
-    /// Reads one byte, and tells the key that it brings behind what was held, if it brings one.
+    /// Reads one byte, and tells the key that it brings after what was held, if it brings one.
     pub fn next(&mut self, byte: u8) -> Option<Key>
         ensures key { result ≡ key_behind self.old byte }
         ensures held { self.new ≡ held_behind self.old byte }
@@ -86,7 +86,7 @@ impl Keys {
     }
 }
 
-/// The key that a byte brings behind what is held.
+/// The key that a byte brings after what is held.
 fn key_then(held: Held, byte: u8) -> Option<Key>
     ensures { result ≡ key_behind held byte }
 {
@@ -96,7 +96,7 @@ fn key_then(held: Held, byte: u8) -> Option<Key>
     }
 }
 
-/// What is held behind a byte.
+/// What is held after a byte.
 fn held_then(held: Held, byte: u8) -> Held
     ensures { result ≡ held_behind held byte }
 {

@@ -8,3 +8,6 @@ pub mod AlikeScripts
 pub mod SessionBoards
 pub mod LevelNumbers
 pub mod RoomFrames
+pub mod SpotsAtStarts
+pub mod SpotsAtKeys
+pub mod SolvingSpots

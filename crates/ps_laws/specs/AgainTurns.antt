@@ -1,5 +1,5 @@
 -- Again turns, those of a key and those of the start of a level: the longest list of turns that count, of no more than
--- so many, which a message cuts. Each has a frame; what comes behind the last one is said by that one, or by the turn
+-- a limit, which a message cuts. Each has a frame; what comes after the last one is said by that one, or by the turn
 -- that doesn't count.
 use Rattle.std.specs.Prelude.{◌≡◌, ℕ, zero, suc, ◌-◌, ◌≤◌, ◌⊎◌, Bool, true, ◌&&◌, ◌||◌, not, is_none}
 use Rattle.std.specs.Prelude.{None, List, [], ◌∷◌, length, ⊤}
@@ -16,7 +16,7 @@ use Rattle.ps_model.specs.session.KeySteps.{key_told, key_turns, all_key_turns}
 abbrev pub counts_for_key : Done → Bool
 counts_for_key done = done.changed || done.win
 
--- behind a turn of a key another is due: it is to come again, no message waits, and the level isn't won
+-- after a turn of a key another is due: it is to come again, no message waits, and the level isn't won
 abbrev pub goes_on_for_key : Done → Bool
 goes_on_for_key done = is_none done.message && (not done.win && done.again)
 
@@ -24,11 +24,11 @@ goes_on_for_key done = is_none done.message && (not done.win && done.again)
 abbrev pub counts_for_start : Done → Bool
 counts_for_start done = done.changed
 
--- behind a turn of a start another is due: it is to come again, and no message waits
+-- after a turn of a start another is due: it is to come again, and no message waits
 abbrev pub goes_on_for_start : Done → Bool
 goes_on_for_start done = is_none done.message && done.again
 
--- turns without input from a board on, one after the other: all of them count, and behind each but the last another is
+-- turns without input from a board on, one after the other: all of them count, and after each but the last another is
 -- due
 abbrev pub Follow : (Done → Bool) → (Done → Bool) → Script → Grid → List Done → Type 0
 Follow counts goes_on script board [] = ⊤
@@ -36,7 +36,7 @@ Follow counts goes_on script board (done ∷ others) =
     (turn script None board ≡ Finished done) × (counts done ≡ true) × ((others ≡ []) ⊎ (goes_on done ≡ true)) × Follow
     counts goes_on script done.board others
 
--- they are no more than so many, and no such list is longer
+-- they are no more than the limit, and no such list is longer
 pub record IsLongest (counts goes_on : Done → Bool) (script : Script) (limit : ℕ) (board : Grid) (dones : List Done) :
     Type 0 where
   pub follow : Follow counts goes_on script board dones
@@ -46,7 +46,7 @@ pub record IsLongest (counts goes_on : Done → Bool) (script : Script) (limit :
 
 -- what they bring -----------------------------------------------------------------------------------------------------
 
--- what turns bring, of which so many are left: each its frame and what is told behind it, and the last what comes where
+-- what turns bring, of which a number is left: each its frame and what is told after it, and the last what comes where
 -- they stop
 abbrev pub turns_told : (Play → Done → ℕ → (Play → Step) → Step) → (ℕ → Play → Step) → Script → List Done → ℕ → Play →
     Step
@@ -70,7 +70,7 @@ key_stop script (suc left) play = key_stopped script play (turn script None play
 abbrev pub start_stop : ℕ → Play → Step
 start_stop left play = quietly (Playing play)
 
--- what is told behind a turn of a start
+-- what is told after a turn of a start
 abbrev pub told_at_start : Play → Done → ℕ → (Play → Step) → Step
 told_at_start play done left again_turns = start_told play done.message done.again left again_turns
 

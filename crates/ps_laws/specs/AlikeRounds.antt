@@ -1,7 +1,7 @@
--- Two lists of rules are alike on a game where their rounds come to the same from each grid of the game, and to a grid
--- of the game. They needn't be alike rule by rule, nor have as many rules: several may stand for one, some may be left
--- out, and each may face down or right. Whatever is made of rounds comes to the same then: groups, passes, loops,
--- sections and programs.
+-- Two lists of rules are alike on a game where their rounds come to the same from each grid of the game. What they come
+-- to is again a grid of the game. They needn't be alike rule by rule, nor have as many rules: several may stand for
+-- one, some may be left out, and each may face down or right. Whatever is made of rounds comes to the same then:
+-- groups, passes, loops, sections and programs.
 use Rattle.std.specs.Prelude.{ℕ, List, ◌∷◌, ◌++◌, map, All}
 use Rattle.std.specs.List.{AllZip, flat_map}
 use Rattle.ps_model.specs.names.Names.{Names}
@@ -45,7 +45,7 @@ AlikeBothWays = (names : Names) (a b : List RuleMeaning) → Alike names a b →
 abbrev pub AlikeThroughAnother : Type 0
 AlikeThroughAnother = (names : Names) (a b c : List RuleMeaning) → Alike names a b → Alike names b c → Alike names a c
 
--- lists that are alike stay so with lists behind them that are alike
+-- lists that are alike stay so with lists after them that are alike
 abbrev pub AppendedAreAlike : Type 0
 AppendedAreAlike =
     (names : Names) (a b c d : List RuleMeaning) → Alike names a b → Alike names c d → Alike names (a ++ c) (b ++ d)

@@ -1,6 +1,6 @@
--- Two scripts are alike where all but their rules is the same, and where their programs come to the same from each grid
--- of the game, and to a grid of the game. Then they have the same turns on grids of the game, the same steps, and the
--- same runs: so a game may be played by other rules than it is written with.
+-- Two scripts are alike where all but their rules is the same, and their programs come to the same from each grid of
+-- the game. What they come to is again a grid of the game. Then they have the same turns on grids of the game, the same
+-- steps, and the same runs. So a game may be played by other rules than it is written with.
 use Rattle.std.specs.Prelude.{◌≡◌, ℕ, Option, Some, List, All}
 use Rattle.ps_model.specs.declared.play.Input.{Input}
 use Rattle.ps_model.specs.declared.play.Key.{Key}
@@ -96,8 +96,8 @@ AlikeKeys =
 abbrev pub AlikeRuns : Type 0
 AlikeRuns = (a b : Script) → AlikeScripts a b → All (LoadsAsGrid a.names) a.entries → SameRuns a b
 
--- the game of a text, begun at any entry, has the runs of each script that is alike with its own, whose rules are as
--- they are written
+-- the game of a text, begun at any entry, has the runs of each script that is alike with its own. The rules of its own
+-- are as they are written
 abbrev pub AlikeGames : Type 0
 AlikeGames =
     (text : List ℕ) (read : Game) → game text ≡ Some read → (entry : ℕ) (script : Script) →

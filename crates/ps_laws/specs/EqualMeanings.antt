@@ -1,5 +1,5 @@
--- Rules whose cells fit alike and rewrite alike do alike: whatever they are part of, from one attempt to a whole
--- program, comes to the same grid and the same queue, and tells the same of whether something changed. So a compiled
+-- Rules whose cells fit alike and rewrite alike do alike. Whatever they are part of, from one attempt to a whole
+-- program, comes to the same grid and the same queue. It tells the same of whether something changed. So a compiled
 -- rule may stand for its source. It is enough that the cells agree on the cells of a game, since rewriting keeps to
 -- these.
 use Rattle.std.specs.Prelude.{◌≡◌, ℕ, Bool, true, List}
@@ -16,13 +16,13 @@ use Rattle.ps_laws.specs.EachGroup.{GroupByGroup}
 -- alike ---------------------------------------------------------------------------------------------------------------
 
 -- two cells of rules agree on all cells of the game: they fit the same ones; and where their rules rewrite cells, they
--- make the same of each, whether it fits or not, and what they make of it is again a cell of the game
+-- make the same of each, whether it fits or not. What they make of it is again a cell of the game
 pub record AgreeOn (names : Names) (rewrites : Bool) (a b : CellMeaning) : Type 0 where
   pub fits : (cell : List Slot) → IsCellOf names cell → a.fits cell ≡ b.fits cell
   pub writes : rewrites ≡ true → (cell : List Slot) → IsCellOf names cell → a.rewritten cell ≡ b.rewritten cell
   pub keeps : rewrites ≡ true → (cell : List Slot) → IsCellOf names cell → IsCellOf names (a.rewritten cell)
 
--- two rules are alike: they have the same direction and the same commands, both rewrite cells or neither does, and cell
+-- two rules are alike: they have the same direction and the same commands, and both rewrite cells or neither does. Cell
 -- by cell of each part of each row they agree
 pub record SameRule (names : Names) (a b : RuleMeaning) : Type 0 where
   pub direction : a.direction ≡ b.direction

@@ -1,5 +1,5 @@
--- What a run has written when it has read so far: the front of its output. It grows with each key until the game ends,
--- and the whole output is the front of all keys, with one more line where the keys end first.
+-- What a run has written when it has read so far: the front of its output. It grows with each key until the game ends.
+-- The whole output is the front of all keys, with one more line where the keys end first.
 use Rattle.std.specs.Prelude.{ℕ, ◌≤◌, Some, None, List, [], ◌∷◌, ◌++◌, length, ◌≡◌, ◌≢◌}
 use Rattle.ps_model.specs.declared.play.Ending.{Ending}
 use Rattle.ps_model.specs.declared.play.Ending.TheVariants.{EndOfKeys}
@@ -12,13 +12,13 @@ use Rattle.ps_model.specs.session.KeySteps.{key_step}
 use Rattle.ps_model.specs.game.Headline.{IsFront}
 use Rattle.ps_model.specs.game.Outputs.{output, opening_step, ending_of, end_of_keys_line, texts_of_keys, front}
 
--- the session behind keys
+-- the session after keys
 abbrev pub session_after : Script → Session → List Key → Session
 session_after script session [] = session
 session_after script session (key ∷ keys) = let step : Step = key_step script session key in
     session_after script step.session keys
 
--- the session behind the bytes
+-- the session after the bytes
 abbrev pub session_of : Script → List ℕ → Session
 session_of script bytes = session_after script (opening_step script).session (keys_of bytes)
 
@@ -34,13 +34,13 @@ FrontGrows =
     (script : Script) (bytes : List ℕ) (few many : ℕ) → few ≤ many →
     IsFront (front script bytes few) (front script bytes many)
 
--- where the run has ended behind the keys, the front of all keys is the output, and that ending is its ending
+-- where the run has ended after the keys, the front of all keys is the output, and that ending is its ending
 abbrev pub OutputOfEnded : Type 0
 OutputOfEnded =
     (script : Script) (bytes : List ℕ) (ending : Ending) → ending_of (session_of script bytes) ≡ Some ending →
     output script bytes ≡ record { written = whole_front script bytes; ending = ending }
 
--- and where it hasn't, the line that says so comes behind it
+-- and where it hasn't, the line that says so comes after it
 abbrev pub OutputOfUnended : Type 0
 OutputOfUnended = (script : Script) (bytes : List ℕ) → ending_of (session_of script bytes) ≡ None →
     output script bytes ≡ record { written = whole_front script bytes ++ end_of_keys_line; ending = EndOfKeys }
@@ -49,8 +49,8 @@ OutputOfUnended = (script : Script) (bytes : List ℕ) → ending_of (session_of
 abbrev pub EndsOtherwise : Type 0
 EndsOtherwise = (script : Script) (bytes : List ℕ) → ending_of (session_of script bytes) ≢ Some EndOfKeys
 
--- so the ending tells what is behind the front: a run for which the keys ended says so in one more line, and any other
--- run writes no more than the texts of its keys
+-- so the ending tells what is after the front: a run for which the keys ended says so in one more line; any other run
+-- writes no more than the texts of its keys
 abbrev pub WrittenByEnding : Type 0
 WrittenByEnding = (script : Script) (bytes : List ℕ) →
     ((output script bytes).ending ≡ EndOfKeys →
@@ -72,8 +72,8 @@ abbrev pub EndStays : Type 0
 EndStays = (script : Script) (ending : Ending) (keys : List Key) →
     (session_after script (Ended ending) keys ≡ Ended ending) × (texts_of_keys script (Ended ending) keys ≡ [])
 
--- bytes that come in pieces: the front of two pieces is that of the first, and then the texts of the keys that the
--- second brings behind what is held of the first; and so is the session
+-- bytes that come in pieces: the front of two pieces is that of the first, and then further texts: those of the keys
+-- that the second brings after what is held of the first; and so is the session
 abbrev pub FrontInPieces : Type 0
 FrontInPieces = (script : Script) (first second : List ℕ) →
     (whole_front script (first ++ second) ≡ whole_front script first ++ texts_of_keys script (session_of script first)
@@ -81,7 +81,7 @@ FrontInPieces = (script : Script) (first second : List ℕ) →
     × (session_of script (first ++ second) ≡ session_after script (session_of script first)
     (keys_of (held first ++ second)))
 
--- what is written for the bytes so far is a front of the output, whatever bytes come behind them
+-- what is written for the bytes so far is a front of the output, whatever bytes come after them
 abbrev pub FrontOfMore : Type 0
 FrontOfMore =
     (script : Script) (first second : List ℕ) →

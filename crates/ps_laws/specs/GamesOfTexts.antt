@@ -1,6 +1,6 @@
--- What every game of a text is: its names are bounded, it has an object and a layer, its rules speak of its own objects
--- alone, each of its levels is loaded as a grid of the game, its rooms are sized, and each of its turns keeps such
--- grids.
+-- What every game of a text is. Its names are bounded, it has an object and a layer, and its rules speak of its own
+-- objects alone. Each of its levels is loaded as a grid of the game, its rooms are sized, and each of its turns keeps
+-- such grids.
 use Rattle.std.specs.Prelude.{◌≡◌, ℕ, ◌<◌, ◌≤◌, false, Option, Some, None, List, [], All, ⊤, codes}
 use Rattle.ps_model.specs.declared.play.Input.{Input}
 use Rattle.ps_model.specs.declared.texts.Section.TheVariants.{Prelude}

@@ -1,5 +1,6 @@
--- What keeps a grid one of its game: attempts, rounds, groups, passes, loops, sections and programs of rules whose
--- cells keep the cells of the game, as those of a game's own rules do; the movement, rest and inputs; and so each turn.
+-- What keeps a grid one of its game: attempts, rounds, groups, passes, loops, sections and programs, of rules whose
+-- cells keep the cells of the game; the movement, rest and inputs; and so each turn. The cells of a game's own rules
+-- keep the cells of the game.
 use Rattle.std.specs.Prelude.{ℕ, Bool, Option, List, All, ⊤}
 use Rattle.ps_model.specs.declared.pieces.Slot.{Slot}
 use Rattle.ps_model.specs.declared.play.Input.{Input}
@@ -125,8 +126,8 @@ abbrev pub ReadingsAreOfGames : Type 0
 ReadingsAreOfGames =
     (names : Names) (rule : SourceRule) → IsRuleOf names rule → All (IsReadingOf names) (readings names rule)
 
--- a cell whose objects are all of the game keeps the cells of the game, under each reading that chooses objects of the
--- game, be it possible or not
+-- a cell whose objects are all of the game keeps the cells of the game. So it does under each reading that chooses
+-- objects of the game, be it possible or not
 abbrev pub RuleCellsKeepCells : Type 0
 RuleCellsKeepCells =
     (names : Names) (rule : SourceRule) (reading : Reading) (cell : CellPair) → IsReadingOf names reading →

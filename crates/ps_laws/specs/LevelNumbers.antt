@@ -1,5 +1,5 @@
--- Levels and their numbers, and runs that begin at a level: each level is found for its number and for no other, none
--- is found where there are fewer, and a run from the first level is a run from the start, where a game begins with it.
+-- Levels and their numbers, and runs that begin at a level. Each level is found for its number and for no other, and
+-- none is found where there are fewer. A run from the first level is a run from the start, where a game begins with it.
 use Rattle.std.specs.Prelude.{◌≡◌, ◌<◌, ◌⊎◌, ℕ, true, Some, None, List, ◌∷◌, slice_get}
 use Rattle.ps_model.specs.board.Levels.{Level}
 use Rattle.ps_model.specs.board.Turns.{Script}

@@ -23,3 +23,4 @@ pub mod AlikeScripts
 pub mod RunsNotAllowed
 pub mod LevelNumbers
 pub mod RoomFrames
+pub mod SolvingSpots

@@ -32,6 +32,6 @@ GameOrFault = (text : List ℕ) → ((read : Game) × (game text ≡ Some read))
 abbrev pub FirstIsFault : Type 0
 FirstIsFault = (text : List ℕ) (fault : Fault) → first_fault (faults text) ≡ Some fault → IsFaultOf text fault
 
--- what the list of faults leaves out stands behind one that it lists
+-- what the list of faults leaves out stands after one that it lists
 abbrev pub HiddenAreBehind : Type 0
 HiddenAreBehind = (text : List ℕ) → faults text ≡ [] → hidden_faults text ≡ []

@@ -22,9 +22,9 @@ abbrev pub KeysInPieces : Type 0
 KeysInPieces =
     (first second : List ℕ) → keys_of (first ++ second) ≡ keys_of (before_held first) ++ keys_of (held first ++ second)
 
--- a reader that has given the keys of what it read, and holds what is held of it, reads a piece behind that: it gives
--- the keys of both but for what is held then, and has again given the keys of all that it read, and holds what is held
--- of it
+-- a reader that has given the keys of what it read, and holds what is held of it, reads a piece after that. It gives
+-- the keys of both but for what is held then. So it has again given the keys of all that it read, and holds what is
+-- held of it
 abbrev pub ReadPieceByPiece : Type 0
 ReadPieceByPiece = (read piece kept : List ℕ) → kept ≡ held read →
     (keys_of read ++ keys_of (before_held (kept ++ piece)) ≡ keys_of (read ++ piece)) ×
@@ -36,7 +36,7 @@ ReadByteByByte = (read : List ℕ) (byte : ℕ) (kept : Held) → bytes_of kept 
     (keys_of read ++ option_to_list (key_behind kept byte) ≡ keys_of (read ++ byte ∷ [])) ×
     (bytes_of (held_behind kept byte) ≡ held (read ++ byte ∷ []))
 
--- one byte behind what is held, whatever comes behind it
+-- one byte after what is held, whatever comes after it
 abbrev pub OneByteMore : Type 0
 OneByteMore = (kept : Held) (byte : ℕ) (others : List ℕ) →
     keys_of (bytes_of kept ++ byte ∷ others) ≡ option_to_list (key_behind kept byte) ++ keys_of

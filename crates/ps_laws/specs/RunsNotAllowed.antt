@@ -14,7 +14,7 @@ use Rattle.ps_model.specs.game.Headline.{Answer, WantsMemory, CannotRead, Cannot
 use Rattle.ps_model.specs.game.Headline.{Ends, RunsRightly, text_count}
 use Rattle.ps_model.specs.game.Headline.{IsTrueOfText, script_of_text, texts_of}
 
--- reading behind the ending -------------------------------------------------------------------------------------------
+-- reading after the ending -------------------------------------------------------------------------------------------
 
 -- the keys that were read had ended the game, and the run called the reader once more: it isn't allowed, whether that
 -- call gave bytes or failed, and whatever the run answered
@@ -33,22 +33,22 @@ NoReadFaultBehindEnding =
     script_of_text text ≡ Some script → (output script (read told.reading)).ending ≢ EndOfKeys →
     Answers text told CannotRead → ⊥
 
--- the game had ended and its whole output is written, and the run answers that it wants memory
+-- the game had ended and its whole output is written, and the run answers that it is out of memory
 abbrev pub NoWantBehindEnding : Type 0
 NoWantBehindEnding =
     (text : List ℕ) (told : Told) (script : Script) →
     script_of_text text ≡ Some script → told.wrote ≡ (output script (all_bytes told)).written →
     Answers text told WantsMemory → ⊥
 
--- something is written, what was read brings no key, no call gave nothing, and the run answers that it wants memory: so
--- neither does one that has called no reader, nor one that has read bytes alone which are no keys
+-- something is written, what was read brings no key, no call gave nothing, and the run answers that it is out of
+-- memory: so neither does one that has called no reader, nor one that has read bytes alone which are no keys
 abbrev pub NoWantWithoutKey : Type 0
 NoWantWithoutKey =
     (text : List ℕ) (told : Told) → told.wrote ≢ [] → keys_of (read told.reading) ≡ [] →
     (GaveNothing told.reading → ⊥) → Answers text told WantsMemory → ⊥
 
--- the texts of all keys that were read are written, each of which has something, no call gave nothing, and the run
--- answers that it wants memory
+-- the texts of all keys that were read are written, each of which has something, and no call gave nothing. The run
+-- answers that it is out of memory
 abbrev pub NoWantBehindAllKeys : Type 0
 NoWantBehindAllKeys =
     (text : List ℕ) (told : Told) (script : Script) →
@@ -76,14 +76,14 @@ NoLongCall =
     told.reading ≡ Asked earlier last → (last ≡ Gives piece) ⊎ IsAmong piece earlier → CALL_LIMIT < length piece →
     Answers text told answer → ⊥
 
--- the run called the reader behind a call that gave nothing
+-- the run called the reader after a call that gave nothing
 abbrev pub NoCallBehindEnd : Type 0
 NoCallBehindEnd =
     (text : List ℕ) (told : Told) (answer : Answer) (before behind : List (List ℕ)) (last : Call) →
     told.reading ≡ Asked (before ++ [] ∷ behind) last → Answers text told answer → ⊥
 
 -- a call of the reader had room for fewer bytes than a run asks for at a time, or for more: so no run asks for a byte
--- at a time, not even one that stops at the last call that it makes, and none asks for 5,000 and tells of two calls
+-- at a time, not even one that stops at the last call that it makes. None asks for 5,000 and tells of two calls
 abbrev pub NoOddSizedCall : Type 0
 NoOddSizedCall =
     (text : List ℕ) (reader_before reader_after : ReaderState) (writer_before writer_after : WriterState)
@@ -91,7 +91,7 @@ NoOddSizedCall =
     reader_before.odd_sized_calls < reader_after.odd_sized_calls →
     RunsRightly text reader_before reader_after writer_before writer_after answer → ⊥
 
--- two calls of the reader gave nothing: however the bytes of the others are cut into pieces, one of the two was behind
+-- two calls of the reader gave nothing: however the bytes of the others are cut into pieces, one of the two was after
 -- the end of the keys, or had no room
 abbrev pub NoSecondEmptyCall : Type 0
 NoSecondEmptyCall =
@@ -170,9 +170,8 @@ NoWriteUncounted =
     1 ≤ length told.wrote → writer_after.calls ≡ writer_before.calls →
     Tells reader_before reader_after writer_before writer_after told → ⊥
 
--- the run called the writer more often than it has texts to write, but for one more call for each that took less than
--- it
--- was handed: so a text isn't handed on in pieces that the writer didn't ask for
+-- the run called the writer more often than it has texts to write and calls that took less than they were handed,
+-- together. So a text isn't handed on in pieces that the writer didn't ask for
 abbrev pub NoTextInPieces : Type 0
 NoTextInPieces =
     (text : List ℕ) (reader_before reader_after : ReaderState) (writer_before writer_after : WriterState) (told : Told)

@@ -56,7 +56,7 @@ KeysKeepBoards =
     AreBoardsIn (IsBoardOf read.names) session →
     AreBoardsIn (IsBoardOf read.names) (key_step (script_of read) session key).session
 
--- and so it is behind whatever bytes
+-- and so it is after whatever bytes
 abbrev pub SessionsHaveBoards : Type 0
 SessionsHaveBoards =
     (text : List ℕ) (read : Game) → game text ≡ Some read → (bytes : List ℕ) →

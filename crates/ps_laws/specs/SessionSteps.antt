@@ -1,5 +1,5 @@
--- Steps of a session one by one. Turns, openings and fronts are opened by these laws and by nothing else, so that a
--- proof about a session speaks of them by their names.
+-- Steps of a session one by one. Turns, openings and fronts are opened by these laws and by nothing else. So a proof
+-- about a session speaks of them by their names.
 use Rattle.std.specs.Prelude.{◌≡◌, ℕ, suc, Option, Some, None, List, [], ◌∷◌, ◌++◌, codes}
 use Rattle.ps_model.specs.declared.play.Input.{Input}
 use Rattle.ps_model.specs.declared.play.Key.{Key}
@@ -55,7 +55,7 @@ DoneWithHistory =
 
 -- texts ---------------------------------------------------------------------------------------------------------------
 
--- a text behind a text is the two joined
+-- a text after a text is the two joined
 abbrev pub TextsJoin : Type 0
 TextsJoin = (first second : List ℕ) (step : Step) → after first (after second step) ≡ after (first ++ second) step
 
@@ -98,7 +98,7 @@ FrontsAreTexts = (script : Script) (bytes : List ℕ) →
     whole_front script bytes ≡ (opening_step script).text ++ texts_of_keys script (opening_step script).session
     (keys_of bytes)
 
--- a byte that brings no key behind what is held writes nothing, and leaves the session
+-- a byte that brings no key after what is held writes nothing, and leaves the session
 abbrev pub SilentBytesWriteNothing : Type 0
 SilentBytesWriteNothing =
     (script : Script) (read : List ℕ) (byte : ℕ) (kept : Held) → bytes_of kept ≡ held read →

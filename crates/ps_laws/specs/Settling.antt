@@ -10,7 +10,7 @@ use Rattle.ps_model.specs.board.Programs.{Progress, round, group, pass, looped}
 abbrev pub Repeated : Type 0
 Repeated = State → Result
 
--- the state that so many steps lead to, one after the other
+-- the state that a number of steps lead to, one after the other
 abbrev pub reached_by : ℕ → Repeated → State → State
 reached_by zero step state = state
 reached_by (suc steps) step state = reached_by steps step (step state).state
@@ -35,8 +35,8 @@ pub record Settles (rules : List RuleMeaning) (limit : ℕ) (state : State) (res
   pub changed : (result.changed ≡ true) ↔ ((number : ℕ) × (1 ≤ number) × (number ≤ rounds) ×
       (changes number (round rules) state ≡ true))
 
--- the progress is that of passes which are made until one changes nothing, or until none of so many repeats is left;
--- each pass but the first is a repeat
+-- passes are made until one changes nothing, or until no repeat is left, and the progress is theirs; each pass but the
+-- first is a repeat
 pub record Passes (body : List (List RuleMeaning)) (repeats : ℕ) (state : State) (progress : Progress) : Type 0 where
   -- how many passes there are: one at least, and no more than one and the repeats
   pub passes : ℕ

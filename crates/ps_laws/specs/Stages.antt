@@ -14,7 +14,7 @@ use Rattle.ps_model.specs.meaning.Readings.{all_move_choices, all_member_choices
 
 -- lists of choices ----------------------------------------------------------------------------------------------------
 
--- each list made so far is split by the items of one more: each item in turn behind it
+-- each list made so far is split by the items of one more: each item in turn after it
 abbrev pub split_by : {A : Type 0} → List A → List (List A) → List (List A)
 split_by items made = flat_map (λ chosen. map (λ item. chosen ++ item ∷ []) items) made
 
@@ -88,7 +88,7 @@ nested_readings names rule = flat_map (nested_readings_in names rule) (direction
 abbrev pub OneByOne : Type 0 → Type 0
 OneByOne A = (choices : List (List A)) → split_all choices ([] ∷ []) ≡ one_of_each choices
 
--- one of each of all lists is one of each of the first lists, and behind each of these one of each of the others
+-- one of each of all lists is one of each of the first lists, and after each of these one of each of the others
 abbrev pub InTwoStages : Type 0 → Type 0
 InTwoStages A = (first second : List (List A)) →
     one_of_each (first ++ second) ≡ flat_map (λ front.

@@ -1,5 +1,5 @@
--- What a rule turned round does: its places are those of the rule, backwards and in the same order, and its attempts
--- come to the same, as do the rounds, groups, loops and programs of such rules.
+-- What a rule turned round does. Its places are those of the rule, backwards and in the same order, and its attempts
+-- come to the same. So do the rounds, groups, loops and programs of such rules.
 use Rattle.std.specs.Prelude.{◌≡◌, ℕ, List, map, reverse}
 use Rattle.ps_model.specs.declared.pieces.Direction.{Direction}
 use Rattle.ps_model.specs.board.Grid.{Grid}

@@ -10,8 +10,8 @@ pub fn chains_slide()
     ensures { ChainsSlide }
 {}
 
-/// The places of a row lie on the board in a straight line, with gaps between the row's parts alone, and each has a
-/// cell for each cell of the row.
+/// The places of a row lie on the board in a straight line, with gaps between the row's parts alone. Each has a cell
+/// for each cell of the row.
 pub fn places_lie_on_boards()
     ensures within { PlacesLieOnBoards }
     ensures whole { PlacesAreWhole }

@@ -22,7 +22,7 @@ pub fn cells_compile()
     ensures cells { CompiledCellsAgree }
 {}
 
-/// The compiled cells of a game's rule agree with what its cells mean, and the compiled rules of a game's rule are like
+/// The compiled cells of a game's rule agree with what its cells mean. The compiled rules of a game's rule are like
 /// what it means, one by one.
 pub fn rules_compile()
     ensures cells { RuleCellsAgree }

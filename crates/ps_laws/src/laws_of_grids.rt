@@ -75,8 +75,8 @@ pub fn readings_are_of_games()
     ensures { ReadingsAreOfGames }
 {}
 
-/// A cell of a rule whose objects are all of a game keeps the cells of the game, under each reading that chooses
-/// objects of the game.
+/// A cell of a rule whose objects are all of a game keeps the cells of the game. So it does under each reading that
+/// chooses objects of the game.
 pub fn rule_cells_keep_cells()
     ensures { RuleCellsKeepCells }
 {}

@@ -17,7 +17,7 @@ pub fn rooms_show_players()
     ensures { SeenRoomsShowPlayers }
 {}
 
-/// A session of a game that asks for no rooms shows whole boards. A board that is shown once more, as behind a turn
+/// A session of a game that asks for no rooms shows whole boards. A board that is shown once more, as after a turn
 /// that was blocked, is shown in the same room.
 pub fn rooms_in_sessions()
     ensures without { SessionsWithoutRooms }

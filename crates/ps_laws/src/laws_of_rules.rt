@@ -68,8 +68,8 @@ pub fn alike_programs()
     ensures programs { AlikePrograms }
 {}
 
-/// A rule does nothing where one of its cells fits none of the board's, and nothing at all where it has no commands and
-/// its cells leave what they fit as it is.
+/// A rule does nothing where one of its cells fits none of the board's. It does nothing at all where it has no commands
+/// and its cells leave what they fit as it is.
 pub fn idle_rules()
     ensures nowhere { NowhereIsNothing }
     ensures none { FittingNoneIsIdle }

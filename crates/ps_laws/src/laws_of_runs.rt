@@ -21,8 +21,8 @@ ghost use Rattle.ps_laws.specs.OneGame.{FirstIsFault, HiddenAreBehind};
 ghost use Rattle.ps_laws.specs.LevelNumbers.{FoundLevelsAreNumbered, LackedLevelsAreBeyond, FirstLevelIsStart};
 ghost use Rattle.ps_laws.specs.LevelNumbers.{AnswersFromStart, AnswersAreTrueOfLevels, NumberedLevelsAreFound};
 
-/// The readings of a rule can be made stage by stage, by directions, by moves and by members, each stage splitting all
-/// that is made so far by one occurrence after the other: they are the same, in the same order, and as many as are
+/// The readings of a rule can be made stage by stage, by directions, by moves and by members. Each stage splits all
+/// that is made so far by one occurrence after the other. They are the same, in the same order, and as many as are
 /// counted.
 pub fn readings_by_stages()
     ensures moves { MovesOneByOne }
@@ -51,7 +51,7 @@ pub fn keys_in_pieces()
 {}
 
 /// What a run has written grows with each key, and each such front is a front of the whole output, whatever keys come
-/// behind them.
+/// after them.
 pub fn fronts_of_output()
     ensures grows { FrontGrows }
     ensures of_output { FrontOfOutput }
@@ -60,7 +60,7 @@ pub fn fronts_of_output()
 {}
 
 /// The whole output is the front of all keys, where the run has ended; where the keys end first, a line that says so
-/// stands behind it. Keys after the end change nothing.
+/// stands after it. Keys after the end change nothing.
 pub fn ends_of_output()
     ensures ended { OutputOfEnded }
     ensures unended { OutputOfUnended }
@@ -71,10 +71,10 @@ pub fn ends_of_output()
     ensures by_ending { WrittenByEnding }
 {}
 
-/// Runs that aren't allowed, whatever the game: calls of the reader behind the ending, behind its end, too many or too
-/// long, or with room for more or fewer bytes than a run asks for; writes of nothing, none where something is written,
-/// or more of them than there are texts, where the writer takes each whole; answers that tell of a failure that wasn't,
-/// or don't tell of one that was; wanting memory where nothing was to be made; and writing what isn't to be written.
+/// Runs that aren't allowed, whatever the game. There are calls of the reader after the ending or after its end, too
+/// many or too long, or with another room. There are writes of nothing, or none where something is written. There are
+/// more of them than texts, where the writer takes each whole. There are answers that tell of a failure that wasn't, or
+/// don't tell of one that was. There is `Memory` where nothing was to be made, and writing what isn't to be written.
 pub fn runs_not_allowed()
     ensures no_call_behind_ending { NoCallBehindEnding }
     ensures no_read_fault_behind_ending { NoReadFaultBehindEnding }

@@ -1,4 +1,5 @@
-//! Laws of sessions: again turns, steps and what they write, the boards of sessions, and scripts that are alike.
+//! Laws of sessions: again turns, steps and what they write, the boards of sessions, scripts that are alike, and by what
+//! a level goes on.
 //!
 //! Each function here is a law: it has no body, and its contract is proved.
 
@@ -12,9 +13,11 @@ ghost use Rattle.ps_laws.specs.SessionSteps.{KeysWriteTheirTexts};
 ghost use Rattle.ps_laws.specs.SessionBoards.{OpeningsHaveBoards, KeysKeepBoards, SessionsHaveBoards};
 ghost use Rattle.ps_laws.specs.AlikeScripts.{AlikeTurns, AlikeOpenings, AlikeKeys, AlikeRuns, AlikeGames};
 ghost use Rattle.ps_laws.specs.AlikeScripts.{AlikeProgramsOfGames};
+ghost use Rattle.ps_laws.specs.SolvingSpots.{SpotsDecide, SpotsAreOfSessions, LevelsAreNotPast, LeftLevelsArePast};
+ghost use Rattle.ps_laws.specs.SolvingSpots.{PastStaysPast, ListsGoBySpots};
 
-/// The again turns of a key, and those of a start, are those of the longest list of turns that count, no more than
-/// their limit; a message cuts it.
+/// The again turns of a key, and those of a start, are those of the longest list of turns that count, within their
+/// limit. A message cuts it.
 pub fn again_turns()
     ensures key { KeyTurnsAreLongest }
     ensures start { StartTurnsAreLongest }
@@ -54,8 +57,9 @@ pub fn session_boards()
     ensures sessions { SessionsHaveBoards }
 {}
 
-/// Scripts that are the same but for their rules, and whose programs come to the same on each grid of the game, have
-/// the same turns, the same steps and the same runs. So a game may be played by other programs than those of its rules.
+/// Take scripts that are the same but for their rules, and whose programs come to the same on each grid of the game.
+/// They have the same turns, the same steps and the same runs. So a game may be played by other programs than those of
+/// its rules.
 pub fn alike_scripts()
     ensures turns { AlikeTurns }
     ensures opening { AlikeOpenings }
@@ -63,4 +67,16 @@ pub fn alike_scripts()
     ensures runs { AlikeRuns }
     ensures games { AlikeGames }
     ensures programs { AlikeProgramsOfGames }
+{}
+
+/// How a level goes on is decided by its spot: its board, the board that a restart goes back to, and what a waiting
+/// message goes on with. What was done before and the room that is seen make no difference. Who leaves a level is past
+/// it, and stays so; so lists of inputs lead past it where they lead to no spot.
+pub fn solving_spots()
+    ensures decide { SpotsDecide }
+    ensures sessions { SpotsAreOfSessions }
+    ensures here { LevelsAreNotPast }
+    ensures left { LeftLevelsArePast }
+    ensures past { PastStaysPast }
+    ensures lists { ListsGoBySpots }
 {}

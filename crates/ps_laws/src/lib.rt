@@ -39,6 +39,6 @@ pub use laws_of_runs::{
     readings_by_stages, runs_from_levels, runs_not_allowed,
 };
 pub use laws_of_sessions::{
-    again_turns, alike_scripts, session_boards, session_steps, session_texts,
+    again_turns, alike_scripts, session_boards, session_steps, session_texts, solving_spots,
 };
 pub use laws_of_sides::{rules_keep_sides, turns_keep_sides};

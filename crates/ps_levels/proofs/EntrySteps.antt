@@ -101,7 +101,7 @@ first-of-level text line end one less within there message blank =
     ∙ entry_row (is_message (line_at text line)) (is_blank_line (line_at text line)) (line_at text line)
     (lines_between text (line + 1) end) message blank
 
--- a level, and what begins behind it
+-- a level, and what begins after it
 pub past-level : (text : List ℕ) (line next end : ℕ) → 1 ≤ line → line < end → end ≤ length (lines_of text) + 1 →
     (line_at text line).is_there ≡ true → is_message (line_at text line) ≡ false →
     is_blank_line (line_at text line) ≡ false →

@@ -21,7 +21,7 @@ meanings-more names found longer code meaning so l e =
     ∙ ap (λ (m : Option model.Meaning). map (character_meaning names) (range_with_len 0 code) ++ m ∷ []) e
     ∙ sym (map-range_with_len_more (character_meaning names) 0 code code (omega arith))
 
--- so many as there are
+-- as many as there are
 pub meanings-counted : (names : model.Names) (found : List (Option (Bor Meaning))) (code : ℕ) →
     meanings_shown found ≡ map (character_meaning names) (range_with_len 0 code) →
     meanings_shown found ≡ map (character_meaning names) (range_with_len 0 (length found))

@@ -75,7 +75,7 @@ rows-append names width place (row ∷ rows) others =
     ∙ sym (append_assoc (row_faults names width place row) (rows_faults names width (suc place) rows)
     (rows_faults names width (place + suc (length rows)) others))
 
--- the faults of the first rows, and of others below so many of them
+-- the faults of the first rows, and of others below those
 pub first-of-rows : (names : Names) (width place : ℕ) (all rows others : List Line) (fault : Fault) →
     all ≡ rows ++ others → first_fault (rows_faults names width place rows) ≡ Some fault →
     first_fault (rows_faults names width place all) ≡ Some fault

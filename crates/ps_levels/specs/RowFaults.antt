@@ -16,7 +16,7 @@ faults_of_meanings meanings width place number =
     when (list_any is_unknown meanings) UnknownGlyph number ++
     (when (list_any is_property meanings) PropertyGlyph number ++ when (is_too_large width place) TooLarge number)
 
--- the faults of a level so many columns wide at a place among the entries, by its first row and the rows below it
+-- the faults of a level `width` columns wide at a place among the entries, by its first row and the rows below it
 abbrev pub level_faults_by : Names → ℕ → ℕ → Line → List Line → List Fault
 level_faults_by names width place first below =
     row_faults names width 0 first ++ (too_many place first ++ rows_faults names width 1 below)

@@ -57,7 +57,7 @@ fn add_one(list: &mut Vec<ObjectId>, object: Option<ObjectId>) -> Result<(), Mem
 }
 
 impl Cells {
-    /// No cells, with room for so many.
+    /// No cells, with room for `count`.
     pub(crate) fn with_room(alloc: Global, count: usize) -> Result<Cells, Memory>
         ensures { IfOk result (λ cells. cells ≡ []) }
     {

@@ -32,7 +32,7 @@ fn add_column<'a>(
     Ok(())
 }
 
-/// The cells of the rows of a level so many columns wide, in columns from the left and each column from the top.
+/// The cells of the rows of a level `width` columns wide, in columns from the left and each column from the top.
 pub fn in_columns<'a>(
     alloc: Global,
     rows: &[Vec<&'a [ObjectId]>],

@@ -62,7 +62,7 @@ impl Level {
     }
 }
 
-/// Reads the lines from a level's first row to before what ends it, which all are rows or aren't there, as rows so many
+/// Reads the lines from a level's first row to before what ends it, which all are rows or aren't there, as rows `width`
 /// columns wide. The level has that place among the entries.
 fn read_rows<'a>(
     alloc: Global,

@@ -95,7 +95,7 @@ fn add_level(
     Ok(end)
 }
 
-/// Reads the first of the lines, and all of its level if it begins one, and adds what it is to the entries above it:
+/// Reads the first of the lines, and all of its level if it begins one, and adds that to the entries above it. Answers
 /// the line to go on with.
 fn add_entry(
     alloc: Global,

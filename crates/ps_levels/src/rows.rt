@@ -75,7 +75,7 @@ fn written(characters: &[char], width: usize) -> usize
     width
 }
 
-/// The first so many, or all if there are fewer.
+/// The first `count`, or all if there are fewer.
 fn front<'s, 'a>(meanings: &'s [Option<&'a Meaning>], count: usize) -> &'s [Option<&'a Meaning>]
     ensures { result.now ≡ take count meanings.now }
 {
@@ -85,7 +85,7 @@ fn front<'s, 'a>(meanings: &'s [Option<&'a Meaning>], count: usize) -> &'s [Opti
     &meanings[..count]
 }
 
-/// Reads a line as a row, at a place in a level so many columns wide: the objects of each of its cells.
+/// Reads a line as a row, at a place in a level `width` columns wide: the objects of each of its cells.
 fn read_row<'a>(
     alloc: Global,
     source: &Source,
@@ -110,7 +110,7 @@ fn read_row<'a>(
     Ok(cells)
 }
 
-/// Reads a line as a row, if it is there, and adds it to the rows above it of a level so many columns wide.
+/// Reads a line as a row, if it is there, and adds it to the rows above it of a level `width` columns wide.
 fn add_row<'a>(
     alloc: Global,
     source: &Source,
@@ -132,7 +132,7 @@ fn add_row<'a>(
     Ok(())
 }
 
-/// Reads lines as rows, those that are there, and adds them to the rows above them of a level so many columns wide.
+/// Reads lines as rows, those that are there, and adds them to the rows above them of a level `width` columns wide.
 pub fn add_rows<'a>(
     alloc: Global,
     source: &Source,

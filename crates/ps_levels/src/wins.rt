@@ -98,7 +98,7 @@ fn meaning_of_name(alloc: Global, names: &Names, name: &str) -> Result<Option<Me
     Ok(Some(copy))
 }
 
-/// What the name behind `on` stands for, if there is none or it is declared.
+/// What the name after `on` stands for, if there is none or it is declared.
 fn read_place(
     alloc: Global,
     names: &Names,
@@ -182,9 +182,9 @@ fn add_line(
     Ok(())
 }
 
-/// Reads WINCONDITIONS, given by the numbers of the lines right below its header up to the next header, counted from 1;
-/// an absent section by an empty range. The conditions are in the order of their lines. Takes time linear in these
-/// lines.
+/// Reads WINCONDITIONS. It is given by the numbers of the lines right below its header up to the next header, counted
+/// from 1. An absent section is an empty range. The conditions are in the order of their lines. Takes time linear in
+/// these lines.
 ///
 /// `Refused` with the first fault of the lines, if they have one: `BadWin` (WN1) for a line that is neither blank nor a
 /// win condition, `UnknownWinName` (WN2) for a name that isn't declared. `Memory` if a growth was refused.

@@ -16,7 +16,7 @@ use Rattle.ps_board.specs.Rooms.{HasRoom}
 use Rattle.ps_board.specs.Runnable.{has_room_for, object_has_room}
 use Rattle.ps_match.specs.InRoom.{SlotHasRoom, is_own_write, own_write, slot_after, write_in_room}
 
--- what is looked for behind a filter
+-- what is looked for after a filter
 find_filter : {X : Type 0} (f p : X → Bool) (xs : List X) → find f (filter p xs) ≡ find (λ x. p x && f x) xs
 find_filter f p [] = refl
 find_filter f p (x ∷ xs) = elim (cases_Bool (p x)) [

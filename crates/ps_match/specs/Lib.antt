@@ -4,3 +4,4 @@ pub mod Touches
 pub mod Nowhere
 pub mod Topics
 pub mod ScannedRows
+pub mod FixedParts

@@ -22,6 +22,6 @@ rewritten_where g becomes chosen = record {
   changed = list_any (changes_where g becomes chosen) (range_with_len 0 (length g.cells));
 }
 
--- the cell lies on that row of a board of so many rows, in one of these columns
+-- the cell lies on that row of a board of `height` rows, in one of these columns
 abbrev pub is_on_row : ℕ → ℕ → List Bool → ℕ → Bool
 is_on_row height row columns n = nat_eq (n % height) row && column_at columns (n / height)

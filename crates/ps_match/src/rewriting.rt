@@ -3,7 +3,8 @@
 ghost use Rattle.std.specs.Prelude.{◌≡◌, ◌*◌, ◌<◌, ◌&&◌, ◌||◌, nat_eq};
 ghost use Rattle.ps_model.specs.meaning.Compiled.{cell_written};
 ghost use Rattle.ps_program.specs.ProgramShown.{write_shown};
-ghost use Rattle.ps_match.specs.InRoom.{sides_of, write_in_room};
+ghost use Rattle.ps_match.specs.FixedParts.{fixed_part};
+ghost use Rattle.ps_match.specs.InRoom.{write_in_room};
 ghost use Rattle.ps_match.specs.Together.{is_on_row, rewritten_where};
 
 use crate::rooms::Rooms;
@@ -48,9 +49,7 @@ pub fn rewrite_row<B: Rooms>(
         let becomes = cell_written (write_in_room (B.table board.old) (write_shown write.now)) in
         record { grid = B.grid board.new; changed = result }
         ≡ rewritten_where before becomes (is_on_row before.height row columns) }
-    ensures table { B.table board.new ≡ B.table board.old }
-    ensures origin { B.origin board.new ≡ B.origin board.old }
-    ensures sides { sides_of (B.grid board.new) ≡ sides_of (B.grid board.old) }
+    ensures fixed { fixed_part B.Board board.new ≡ fixed_part B.Board board.old }
 {
     let (width, height) = board.size();
     let mut changed = false;

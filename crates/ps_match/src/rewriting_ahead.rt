@@ -4,14 +4,15 @@ ghost use Rattle.std.specs.Prelude.{◌≡◌, ◌<◌};
 ghost use Rattle.ps_model.specs.meaning.Compiled.{cell_written};
 ghost use Rattle.ps_program.specs.ProgramShown.{write_shown};
 ghost use Rattle.ps_board.specs.ColumnSets.{columns_ahead};
-ghost use Rattle.ps_match.specs.InRoom.{sides_of, write_in_room};
+ghost use Rattle.ps_match.specs.FixedParts.{fixed_part};
+ghost use Rattle.ps_match.specs.InRoom.{write_in_room};
 ghost use Rattle.ps_match.specs.Together.{is_on_row, rewritten_where};
 
 use crate::scan::Scan;
 use ps_board::{Columns, recall_shape};
 use ps_program::CellWrite;
 
-/// Writes the cells of a row of the board that lie so many columns to the right of those of a set, and answers whether
+/// Writes the cells of a row of the board that lie `steps` columns to the right of those of a set. It answers whether
 /// one of them changed. Beyond the board's width nothing is written, and an object that has no room on a layer isn't
 /// put there.
 pub fn rewrite_ahead<B: Scan>(
@@ -26,9 +27,7 @@ pub fn rewrite_ahead<B: Scan>(
         let becomes = cell_written (write_in_room (B.table board.old) (write_shown write.now)) in
         record { grid = B.grid board.new; changed = result }
         ≡ rewritten_where before becomes (is_on_row before.height row (columns_ahead columns steps)) }
-    ensures table { B.table board.new ≡ B.table board.old }
-    ensures origin { B.origin board.new ≡ B.origin board.old }
-    ensures sides { sides_of (B.grid board.new) ≡ sides_of (B.grid board.old) }
+    ensures fixed { fixed_part B.Board board.new ≡ fixed_part B.Board board.old }
 {
     recall_shape(board);
     let ahead = columns.ahead(steps);

@@ -6,7 +6,8 @@ ghost use Rattle.ps_model.specs.board.Attempts.{Rewritten, rewritten_cell};
 ghost use Rattle.ps_program.specs.ProgramShown.{mask_shown, write_shown};
 ghost use Rattle.ps_board.specs.ColumnSets.{row_fits};
 ghost use Rattle.ps_model.specs.meaning.Compiled.{cell_written};
-ghost use Rattle.ps_match.specs.InRoom.{meaning_of_mask, meaning_of_write, sides_of, write_in_room};
+ghost use Rattle.ps_match.specs.FixedParts.{fixed_part};
+ghost use Rattle.ps_match.specs.InRoom.{meaning_of_mask, meaning_of_write, write_in_room};
 ghost use Rattle.ps_match.specs.Together.{is_on_row, rewritten_where};
 ghost use Rattle.ps_match.specs.Nowhere.{HasMotionsIn, HasMovesIn, HasRowsIn, IsNowhere};
 ghost use Rattle.ps_match.specs.ScannedRows.{AreRowsScanned};
@@ -30,7 +31,7 @@ pub trait Scan: Board {
         requires { row < (Self.grid self.now).height }
         ensures { result ≡ row_fits (Self.grid self.now) (meaning_of_mask (mask_shown mask.now)) row };
 
-    /// The columns whose cells fit a mask, of as many rows of the board as there is room for, the first one and those
+    /// The columns whose cells fit a mask, of as many rows of the board as there is room for: the first one and those
     /// below it.
     fn scan_rows(&self, mask: &CellMask, first: u32, found: &mut [Columns<Self::Words>])
         requires { first + length found.old ≤ (Self.grid self.now).height }
@@ -57,9 +58,8 @@ pub trait Scan: Board {
     fn motions_there(&self) -> MotionSet
         ensures { HasMotionsIn (Self.grid self.now) result };
 
-    /// Topics, as a set of their numbers, outside of which another board of the same size, with as many layers and the
-    /// same room, has the same objects and motions in each cell. There may be more of them, and all of them, as a board
-    /// needn't look for it.
+    /// Topics, as a set of their numbers. Outside of them another board, of the same size, layers and room, has the
+    /// same objects and motions in each cell. There may be more of them, or all: a board needn't look for it.
     fn topics_differing(&self, other: &Self) -> Topics
         requires width { (Self.grid other.now).width ≡ (Self.grid self.now).width }
         requires height { (Self.grid other.now).height ≡ (Self.grid self.now).height }
@@ -74,11 +74,9 @@ pub trait Scan: Board {
             let meaning = meaning_of_write (write_in_room (Self.table self.old) (write_shown write.now)) in
             record { grid = Self.grid self.new; changed = result }
             ≡ rewritten_cell before meaning cell (slice_get before.grid.cells cell) }
-        ensures table { Self.table self.new ≡ Self.table self.old }
-        ensures origin { Self.origin self.new ≡ Self.origin self.old }
-        ensures sides { sides_of (Self.grid self.new) ≡ sides_of (Self.grid self.old) };
+        ensures fixed { fixed_part Self.Board self.new ≡ fixed_part Self.Board self.old };
 
-    /// Writes the cells of a row of the board whose columns are in a set, and no other cell, and answers whether one of
+    /// Writes the cells of a row of the board whose columns are in a set, and no other cell. It answers whether one of
     /// them changed. Beyond the board's width nothing is written, and an object that has no room on a layer isn't put
     /// there.
     fn rewrite(&mut self, write: &CellWrite, row: u32, columns: &Columns<Self::Words>) -> bool
@@ -87,7 +85,5 @@ pub trait Scan: Board {
             let becomes = cell_written (write_in_room (Self.table self.old) (write_shown write.now)) in
             record { grid = Self.grid self.new; changed = result }
             ≡ rewritten_where before becomes (is_on_row before.height row columns.now) }
-        ensures table { Self.table self.new ≡ Self.table self.old }
-        ensures origin { Self.origin self.new ≡ Self.origin self.old }
-        ensures sides { sides_of (Self.grid self.new) ≡ sides_of (Self.grid self.old) };
+        ensures fixed { fixed_part Self.Board self.new ≡ fixed_part Self.Board self.old };
 }

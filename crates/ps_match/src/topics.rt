@@ -11,7 +11,7 @@ use ps_model::{LayerId, ObjectId};
 /// How many topics objects have: those of numbers that are as many apart have one.
 pub const OBJECT_TOPICS: u32 = 192;
 
-/// How many topics the motions of layers have, behind those of objects. Both together are `SIDE_LIMIT`.
+/// How many topics the motions of layers have, after those of objects. Both together are `SIDE_LIMIT`.
 pub const MOTION_TOPICS: u32 = 64;
 
 /// A set of topics, by their numbers.

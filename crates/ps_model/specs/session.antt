@@ -5,6 +5,7 @@ pub mod RoomSizes
 pub mod Sessions
 pub mod StartSteps
 pub mod KeySteps
+pub mod Solving
 pub mod Keys
 pub mod HeldKeys
 pub mod Frames

@@ -1,9 +1,9 @@
-//! Want of memory.
+//! Out of memory.
 
 use std::alloc::{AllocError, AllocFailed};
 use thiserror::Error;
 
-/// A growth was refused: the answer of a call that can fail for want of memory and for nothing else.
+/// A growth was refused: the answer of a call that can run out of memory, and fails for nothing else.
 #[derive(Clone, Copy, PartialEq, Eq, Debug, Error)]
 #[error("out of memory")]
 pub struct Memory;

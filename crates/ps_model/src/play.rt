@@ -22,7 +22,7 @@ pub enum Key {
 /// How a run ended.
 #[derive(Clone, Copy, PartialEq, Eq, Debug)]
 pub enum Ending {
-    /// The last entry is behind the player: its level was won, or its message dismissed.
+    /// The last entry is after the player: its level was won, or its message dismissed.
     TheEnd,
     /// The player quit.
     Quit,

@@ -1,6 +1,6 @@
 //! Rooms: the parts of a board that frames show, one at a time, where a game asks for it.
 
-/// The size of the rooms of a game: so many columns, and so many rows, each from 1 to `SIDE_LIMIT`.
+/// The size of the rooms of a game: numbers of columns and of rows, each from 1 to `SIDE_LIMIT`.
 #[derive(Clone, Copy, PartialEq, Debug)]
 pub struct RoomSize {
     pub width: u32,
@@ -14,7 +14,7 @@ pub struct Room {
     pub y: u32,
 }
 
-/// A part of a board: so many columns from one on, and so many rows from one on.
+/// A part of a board: some columns from one on, and some rows from one on.
 #[derive(Clone, Copy)]
 pub struct Window {
     pub first_column: u32,

@@ -50,6 +50,6 @@ pub enum Quantifier {
 pub enum Part {
     /// Before the movement.
     Plain,
-    /// Behind it: rules marked `late`.
+    /// After it: rules marked `late`.
     Late,
 }

@@ -31,8 +31,8 @@ pub enum Cut {
     Legend,
     /// At blanks and commas.
     Layers,
-    /// At blanks, with `[`, `]`, `|` and `->` words of their own wherever they stand, `>`, `<` and `^` cut off where
-    /// they begin a word, and one `+` cut off where it begins the line.
+    /// At blanks. `[`, `]`, `|` and `->` are words of their own wherever they stand. `>`, `<` and `^` are cut off where
+    /// they begin a word, and one `+` is cut off where it begins the line.
     Rule,
 }
 
@@ -45,7 +45,7 @@ pub enum ObjectStage {
     Named,
     /// Right below the colours: a sprite row, or else the end of this object.
     Coloured,
-    /// Below so many sprite rows, one to four, that ask for the next.
+    /// Below this many sprite rows, one to four, that ask for the next.
     Sprite(u32),
 }
 

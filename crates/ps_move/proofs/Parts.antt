@@ -81,7 +81,7 @@ goes_from g layer from to shape low place aims bare =
       },
     )
 
--- what a board shows behind a shift
+-- what a board shows after a shift
 pub shifted : (g : Grid) (layer from to : ℕ) (object : ObjectId) (direction : Direction) →
     slot_at g from layer ≡ Holds object (Going direction) →
     with_slot (with_slot g to layer (slot_of (object_in (slot_at g from layer)) Still)) from layer Bare
@@ -165,7 +165,7 @@ chain_end passes old now layer left hole p none = record {
   fewer = p.fewer;
 }
 
--- an object went to a cell that was bare from the start, and behind it others
+-- an object went to a cell that was bare from the start, and after it others
 pub part_goes : (passes : ℕ) (old new : Grid) (layer first : ℕ) (object : ObjectId) (direction : Direction) (to : ℕ) →
     Goes old layer first object direction to → IsFirst old layer to first →
     IsChain passes (stepped old layer first object to) new layer first None → IsPart (1 + passes) old new layer
@@ -189,7 +189,7 @@ part_goes passes old new layer first object direction to h least p = record {
   same = λ none. absurd (omega (arith, none));
 }
 
--- behind that nothing can go any more to the cell that was entered
+-- after that nothing can go any more to the cell that was entered
 pub stuck_behind : (passes : ℕ) (old new : Grid) (layer first : ℕ) (object : ObjectId) (direction : Direction)
     (to : ℕ) → Goes old layer first object direction to →
     IsChain passes (stepped old layer first object to) new layer first None →
@@ -221,7 +221,7 @@ pub still_stuck : (g : Grid) (layer cell : ℕ) → is_moving (slot_at g cell la
 still_stuck g layer cell still = λ to goes.
     still_aims_nowhere g layer cell to still (way_some g layer (target g layer cell) to goes).0
 
--- what couldn't go before can't behind a part
+-- what couldn't go before can't after a part
 pub stuck_still : (passes : ℕ) (old new : Grid) (layer cell : ℕ) → IsPart passes old new layer →
     IsStuck old layer cell → IsStuck new layer cell
 stuck_still passes old new layer cell p stuck = λ to goes. stuck to (p.ways cell to goes)

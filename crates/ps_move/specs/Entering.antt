@@ -23,7 +23,7 @@ pub record IsFirst (g : Grid) (layer to from : ℕ) : Type 0 where
   pub aims : target g layer from ≡ Some to
   pub least : (other : ℕ) → target g layer other ≡ Some to → from ≤ other
 
--- the next cell behind another whose object wants to enter that, or, if none is behind, the first of all
+-- the next cell after another whose object wants to enter that, or, if none is after, the first of all
 pub record IsNext (g : Grid) (layer to from : ℕ) : Type 0 where
   pub place : from < g.width * g.height
   pub aims : target g layer from ≡ Some to

@@ -1,5 +1,5 @@
--- A movement under way. One layer is taken after the other, the lowest first, and on a layer whoever can go to a cell
--- that was bare from the start. A cell that an object left is entered before anything else is looked at.
+-- A movement under way. One layer is taken after the other, the lowest first. On a layer those go first who can go to a
+-- cell that was bare from the start. A cell that an object left is entered before anything else is looked at.
 use Rattle.std.specs.Prelude.{◌≡◌, ℕ, ◌+◌, ◌<◌, ◌≤◌, ◌⊎◌, true, false, Option, Some, length, count_by, slice_index_or}
 use Rattle.ps_model.specs.declared.pieces.Slot.TheVariants.{Bare}
 use Rattle.ps_model.specs.board.Grid.{Grid, slot_at}
@@ -20,9 +20,9 @@ pub record HasWon (before now : Grid) (layer from : ℕ) : Type 0 where
   pub few : links + going_on now layer ≤ length now.cells
   pub chain : slides_within before layer links from ≡ true
 
--- a movement that has come to a layer, on which one cell may have been left that none has entered yet, the hole: each
--- object that went had won its target, and what can go now goes to a cell that was bare from the start, or to the hole.
--- No object of the layers below can go, and those above are as they were
+-- a movement that has come to a layer; one cell of it may have been left that none has entered yet, the hole; each
+-- object that went had won its target; what can go now goes to a cell that was bare from the start, or to the hole. No
+-- object of the layers below can go, and those above are as they were
 pub record IsInOrder (before now : Grid) (layer : ℕ) (hole : Option ℕ) : Type 0 where
   pub midway : IsMidway before now
   pub won : (l from : ℕ) → midway.goes l from ≡ true → HasWon before now l from

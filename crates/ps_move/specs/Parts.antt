@@ -6,7 +6,7 @@ use Rattle.ps_board.specs.ColumnSets.{column_at}
 use Rattle.ps_move.specs.Visits.{going_count, way}
 use Rattle.ps_move.specs.Order.{IsInOrder}
 
--- objects of a layer went, in so many passes, and no cell that one left is waited for: what can go could before. Each
+-- objects of a layer went, in `passes` passes, and no cell that one left is waited for: what can go could before. Each
 -- pass left fewer with a direction for motion, and where there was none nothing changed
 pub record IsPart (passes : ℕ) (old new : Grid) (layer : ℕ) : Type 0 where
   pub shape : IsGrid old → IsGrid new
@@ -18,8 +18,8 @@ pub record IsPart (passes : ℕ) (old new : Grid) (layer : ℕ) : Type 0 where
   pub fewer : going_count new + passes ≤ going_count old
   pub same : passes ≡ 0 → new ≡ old
 
--- behind a cell that was left objects of its layer went, in so many passes more, up to another cell that was left, if
--- that is still waited for
+-- after a cell was left, objects of its layer went in `passes` more passes, up to another cell that was left: if that
+-- is still waited for
 pub record IsChain (passes : ℕ) (old new : Grid) (layer left : ℕ) (hole : Option ℕ) : Type 0 where
   pub shape : IsGrid old → IsGrid new
   pub width : new.width ≡ old.width
@@ -30,7 +30,7 @@ pub record IsChain (passes : ℕ) (old new : Grid) (layer left : ℕ) (hole : Op
       (way old layer from ≡ Some to) × (to ≢ left)
   pub fewer : going_count new + passes ≤ going_count old
 
--- passes, so many of which moved an object, lead from the start of one layer to that of another: each that moved one
+-- passes, of which `moved` moved an object, lead from the start of one layer to that of another: each that moved one
 -- left fewer with a direction for motion, and where none did nothing changed
 pub record ArePasses (moved : ℕ) (old new : Grid) (first last : ℕ) : Type 0 where
   pub shape : IsGrid old → IsGrid new

@@ -1,7 +1,7 @@
 //! The movement of a turn.
 //!
 //! [`slide`] moves the objects of a board whose motion is a direction, and brings all to rest. Its contract says
-//! which board comes out: `slid` of `ps_model` gives each slot, by who wins a cell and which objects slide, with no
+//! which board comes out: `slid` of `ps_model` gives each slot, by which objects win a cell and which slide, with no
 //! word of passes.
 #![tactic(auto)]
 

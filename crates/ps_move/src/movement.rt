@@ -1,11 +1,11 @@
 //! The movement of a turn: each object whose motion is a direction goes one cell on, where that cell is free.
 //!
 //! No layer has to do with another, and one is taken after the other. An object that has moved is at rest, so that it
-//! goes one cell at most. Of several that want to enter a cell one may: the one in the cell of least number, or, where
-//! an object left the cell, the next one behind it, and behind the last cell the first. So it would be if all cells
-//! were visited in the order of their numbers, in passes, until one moves nothing. Here it is one visit to each object:
-//! where one can go, the cell that it leaves is entered at once by the one that waits for it and may, and so on. So a
-//! row of objects that push one another is gone through once, from its front.
+//! goes one cell at most. Of several that want to enter a cell one may: the one in the cell of least number. Where an
+//! object left the cell, it is the next one after it, and after the last cell the first. So it would be if all cells
+//! were visited in the order of their numbers, in passes, until one moves nothing. Here it is one visit to each object.
+//! Where one can go, the one that waits for the cell which it leaves, and may, enters that at once, and so on. So a row
+//! of objects that push one another is gone through once, from its front.
 
 ghost use Rattle.std.specs.Prelude.{◌≡◌, ℕ, ◌+◌, ◌*◌, ◌^◌, ◌<◌, ◌≤◌, IfSome, None};
 ghost use Rattle.ps_model.specs.declared.pieces.Slot.TheVariants.{Bare};
@@ -47,10 +47,9 @@ impl Slid {
 
 /// Moves the objects of a board, and brings all to rest.
 ///
-/// Each object whose motion is a direction goes one cell on in its layer, where that cell is on the board and has
-/// nothing on the layer, or becomes free in the same movement. Nothing else moves: two objects never change places,
-/// no ring of objects turns, and an object that acts stays where it is. (PuzzleScript documentation, collision
-/// layers.)
+/// Each object whose motion is a direction goes one cell on in its layer. That cell has to be on the board, and to have
+/// nothing on the layer or become free in the same movement. Nothing else moves: two objects never change places, no
+/// ring of objects turns, and an object that acts stays where it is. (PuzzleScript documentation, collision layers.)
 ///
 /// `exact` says where everything stands afterwards, and `slid` what that means for each object: it stands where it
 /// stood or in its target, and none is lost or made.
@@ -76,7 +75,7 @@ pub fn slide<B: Board>(board: &mut B) -> Slid
     Slid { passes }
 }
 
-/// The passes of some layers and of one more, in which so many moved an object: as many as the one with the most has.
+/// The passes of some layers and of one more, in which `moved` moved an object: as many as the one with the most has.
 fn most_passes(passes: u32, moved: u32) -> u32
     requires some { 1 ≤ passes }
     requires few { moved + 1 < 2 ^ 32 }
@@ -157,7 +156,7 @@ fn visit<B: Board>(board: &mut B, cell: u32, layer: LayerId) -> u32
 
 /// Lets the object go that enters a cell which another has left, and so on with the cell that it leaves. Answers how
 /// many passes that takes, beside the one in which the first cell was left: the next one comes in the same pass, where
-/// it stands behind, and else in a pass more.
+/// it stands after, and else in a pass more.
 fn follow<B: Board>(board: &mut B, left: u32, layer: LayerId) -> u32
     requires shape { IsGrid (B.grid board.old) }
     requires place { IsPlace (B.grid board.old) left layer.0 }
@@ -177,7 +176,7 @@ fn follow<B: Board>(board: &mut B, left: u32, layer: LayerId) -> u32
 }
 
 /// How many passes later than a cell was left the object comes that enters it: it comes in the same one, if it stands
-/// behind that cell.
+/// after that cell.
 fn passes_more(from: u32, left: u32) -> u32
     ensures { result ≤ 1 }
 {
@@ -203,7 +202,7 @@ fn first_to_enter<B: Board>(board: &B, to: u32, layer: LayerId) -> Option<u32>
     comer(board, to, layer, Direction::Left)
 }
 
-/// The cell whose object enters this one, which was left: the next one behind it whose object wants to, or else the
+/// The cell whose object enters this one, which was left: the next one after it whose object wants to, or else the
 /// first. Where nothing on the layer is about to move there is none.
 fn next_to_enter<B: Board>(board: &B, to: u32, layer: LayerId) -> Option<u32>
     requires shape { IsGrid (B.grid board.now) }

@@ -1,3 +1,3 @@
--- What names stand for, behind synonyms.
+-- What names stand for, after synonyms.
 pub mod MeaningLaws
 pub mod EndLaws

@@ -6,7 +6,7 @@ use Rattle.ps_model.specs.names.Names.{is_among}
 use Rattle.ps_model.specs.names.Meanings.{LegendName, Mention, OfObject, OfLine, same_mention, mentions_of}
 use Rattle.ps_names.specs.Levels.{level, are_below}
 
--- objects, and behind them those of others that aren't among them yet
+-- objects, and after them those of others that aren't among them yet
 abbrev pub merged : List ObjectId → List ObjectId → List ObjectId
 merged known [] = known
 merged known (object ∷ others) = elim (is_among known object) [

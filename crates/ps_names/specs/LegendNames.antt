@@ -43,7 +43,7 @@ abbrev pub with_reached : Reached → model.Mention → Reached
 with_reached reached (OfObject object) = record reached { objects = reached.objects ++ object ∷ [] }
 with_reached reached (OfLine place) = record reached { lines = slice_set reached.lines place true }
 
--- what is reached in so many steps, where these mentions wait
+-- what is reached in `steps` steps, where these mentions wait
 abbrev pub reached_from : List model.LegendName → ℕ → Reached → List model.Mention → Reached
 reached_from legend steps reached [] = reached
 reached_from legend zero reached (mention ∷ others) = reached

@@ -6,7 +6,7 @@ use Rattle.ps_names.specs.declared.legend.RightSide.{RightSide}
 use Rattle.ps_names.specs.declared.legend.Declaration.{Declaration}
 use Rattle.ps_names.specs.Known.{Named, named_as}
 
--- these, and behind them those, if there are those
+-- these, and after them those, if there are those
 abbrev pub behind : {A : Type 0} → List A → Option (List A) → Option (List A)
 behind before after = option_map (λ items. before ++ items) after
 

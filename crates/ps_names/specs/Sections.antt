@@ -18,7 +18,7 @@ use Rattle.ps_names.specs.Known.{Named, mentions_of_names, named_object}
 use Rattle.ps_names.specs.LegendShown.{named_line}
 use Rattle.ps_names.specs.Wholes.{no_layers, missing, faults_of_lines, lines_of_name, shared_layers}
 
--- names that are known, and behind them those that legend lines declare
+-- names that are known, and after them those that legend lines declare
 abbrev pub known_with : List Named → List WrittenLine → List Named
 known_with known lines = known ++ map named_line (enumerate_from 0 (declarations lines))
 
@@ -51,7 +51,7 @@ abbrev pub declaring_faults : List ObjectText → List WrittenLine → List Faul
 declaring_faults objects lines = object_faults 0 [] objects ++
     (form_faults (folded_names objects) lines ++ legend_faults (legend_of objects lines))
 
--- the layer of each of so many objects, if one names it, and how many layers there are
+-- the layer of each of `count` objects, if one names it, and how many layers there are
 abbrev pub layering_of : ℕ → List Layer → List (Option ℕ) × ℕ
 layering_of count layers = (layers_found count layers, length layers)
 

@@ -13,18 +13,18 @@ use crate::mention::Mention;
 use ps_model::Memory;
 use std::alloc::Global;
 
-/// What is known of where the synonyms behind a mention end.
+/// What is known of where the synonyms after a mention end.
 #[derive(Clone, Copy)]
 pub enum End {
     /// Nothing.
     Unknown,
     /// Nowhere, as one of them stands for itself.
     Never,
-    /// Behind so many of them, at a mention that is no synonym.
+    /// After `passed` of them, at a mention that is no synonym.
     At { passed: u32, mention: Mention },
 }
 
-/// The end behind a synonym for what has that end.
+/// The end after a synonym for what has that end.
 fn further(end: End) -> End
     ensures { (legend : List model.LegendName) → (mention next : model.Mention) →
         behind_synonym legend mention ≡ Some next → IsEnd legend next end → IsEnd legend mention result }
@@ -42,7 +42,7 @@ fn further(end: End) -> End
     }
 }
 
-/// What is known of the end behind the line of a place.
+/// What is known of the end after the line of a place.
 pub fn end_at(ends: &[End], place: u32) -> End
     ensures { result ≡ slice_index_or ends.now place End.Unknown }
 {
@@ -53,7 +53,7 @@ pub fn end_at(ends: &[End], place: u32) -> End
     ends[at]
 }
 
-/// What is known of the end behind a mention.
+/// What is known of the end after a mention.
 fn end_of(legend: &[LegendName<'_>], ends: &[End], mention: Mention) -> End
     requires { AreEnds (legend_shown legend.now) ends.now }
     ensures { IsEnd (legend_shown legend.now) (mention_shown mention) result }
@@ -64,7 +64,7 @@ fn end_of(legend: &[LegendName<'_>], ends: &[End], mention: Mention) -> End
     }
 }
 
-/// Walks to the end behind the line of a place, or back to that line.
+/// Walks to the end after the line of a place, or back to that line.
 fn walk(legend: &[LegendName<'_>], place: u32) -> End
     ensures { IsEnd (legend_shown legend.now) (model.OfLine place) result }
 {
@@ -84,7 +84,7 @@ fn walk(legend: &[LegendName<'_>], place: u32) -> End
     End::Unknown
 }
 
-/// The end behind the line of a place, by that behind the next, if this is known; else by a walk.
+/// The end after the line of a place, by that after the next, if this is known; else by a walk.
 fn end_behind(legend: &[LegendName<'_>], ends: &[End], place: u32) -> End
     requires { AreEnds (legend_shown legend.now) ends.now }
     ensures { IsEnd (legend_shown legend.now) (model.OfLine place) result }
@@ -101,7 +101,7 @@ fn end_behind(legend: &[LegendName<'_>], ends: &[End], place: u32) -> End
     }
 }
 
-/// Keeps what is known of the end behind the line of a place.
+/// Keeps what is known of the end after the line of a place.
 fn set_end(ends: &mut Vec<End>, place: u32, end: End)
     ensures { ends.new.items ≡ slice_set ends.old.items place end }
 {
@@ -112,7 +112,7 @@ fn set_end(ends: &mut Vec<End>, place: u32, end: End)
     ends[at] = end;
 }
 
-/// The ends behind the lines of the legend, by their places. Where the lines are looked at behind those that they
+/// The ends after the lines of the legend, by their places. Where the lines are looked at after those that they
 /// mention, each takes one step, but one of those that stand for themselves.
 pub fn ends_of(alloc: Global, legend: &[LegendName<'_>], places: &[u32]) -> Result<Vec<End>, Memory>
     ensures { IfOk result (λ ends. AreEnds (legend_shown legend.now) ends.items) }

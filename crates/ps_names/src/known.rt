@@ -41,7 +41,7 @@ pub struct Known {
     names: IndexMap<String, NameDetails>,
 }
 
-/// Written out, so that who owns known names calls this on each way out, instead of dropping the map's parts there.
+/// Written out: an owner of known names calls this on each return path, and doesn't drop the map's parts there.
 impl Drop for Known {
     fn drop(self) {
         let Known { names: _names } = self;

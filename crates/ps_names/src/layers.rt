@@ -184,7 +184,7 @@ fn place_layer(places: &mut [Option<u32>], number: u32, layer: &Layer<'_>)
     }
 }
 
-/// The layer of each of so many objects, if one names it: the last that does.
+/// The layer of each of `count` objects, if one names it: the last that does.
 pub fn layers_found(
     alloc: Global,
     count: usize,

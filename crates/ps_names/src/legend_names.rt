@@ -29,7 +29,7 @@ pub struct LegendName<'a> {
     pub all_declared: bool,
 }
 
-/// Written out, so that who owns a name calls this on each way out, instead of dropping its parts there.
+/// Written out: an owner of a name calls this on each return path, and doesn't drop its parts there.
 impl Drop for LegendName<'_> {
     fn drop(self) {
         let LegendName {

@@ -168,7 +168,7 @@ fn meaning_behind(
     Ok(object_alone(mention))
 }
 
-/// What the name of a legend line stands for, by the line's place and what is known of the end behind it.
+/// What the name of a legend line stands for, by the line's place and what is known of the end after it.
 fn meaning_by_end(
     alloc: Global,
     legend: &[LegendName<'_>],
@@ -199,7 +199,7 @@ fn meaning_by_end(
 }
 
 /// What each name of the legend stands for, if it stands for anything. The places are those of the lines, in an order
-/// in which each stands behind those that it mentions; any others would only take longer.
+/// in which each stands after those that it mentions; any others would only take longer.
 pub fn legend_meanings(
     alloc: Global,
     legend: &[LegendName<'_>],

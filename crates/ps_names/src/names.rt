@@ -24,7 +24,7 @@ pub struct Names {
     pub(crate) backgrounds: Vec<ObjectId>,
 }
 
-/// Written out, so that who owns names calls this on each way out, instead of dropping their parts there.
+/// Written out: an owner of names calls this on each return path, and doesn't drop their parts there.
 impl Drop for Names {
     fn drop(self) {
         let Names {

@@ -92,8 +92,8 @@ fn lines_below(alloc: Global, source: &Source, lines: &[u32]) -> Result<u32, Mem
     Ok(rows + 1)
 }
 
-/// Goes over the first of the lines, of which so many belong to the object above: keeps the object that it names. Tells
-/// how many of the lines behind it belong to the object above them.
+/// Goes over the first of the lines, of which `above` belong to the object above: keeps the object that it names. Tells
+/// how many of the lines after it belong to the object above them.
 fn over<'a>(
     alloc: Global,
     source: &'a Source,

@@ -1,4 +1,4 @@
-//! In which order the lines of the legend are looked at: each behind those that it mentions.
+//! In which order the lines of the legend are looked at: each after those that it mentions.
 //!
 //! It is Tarjan's search for the parts of a graph that are strongly connected. Nothing is promised of it but that the
 //! levels fall, which is tested; were they other levels, lines would be looked at one by one, which takes longer.
@@ -16,7 +16,7 @@ use std::alloc::Global;
 /// An order of the legend lines.
 #[derive(Drop)]
 pub struct Order {
-    /// The places of the lines, each behind those that it mentions, as far as it doesn't stand for itself.
+    /// The places of the lines, each after those that it mentions, as far as it doesn't stand for itself.
     pub places: Vec<u32>,
     /// The level of each line, by its place, from 1. No line mentions one of a higher level. Those of one level stand
     /// for themselves through one another.
@@ -51,7 +51,7 @@ struct Search {
     places: Vec<u32>,
 }
 
-/// Written out, so that who owns a search calls this on each way out, instead of dropping its parts there.
+/// Written out: an owner of a search calls this on each return path, and doesn't drop its parts there.
 impl Drop for Search {
     fn drop(self) {
         let Search {
@@ -76,7 +76,7 @@ fn set_number(numbers: &mut [u32], place: u32, number: u32) {
     numbers[at] = number;
 }
 
-/// A mention of the legend line of a place, if it has so many.
+/// A mention of the legend line of a place, by its number there, if the line has it.
 fn mention_at(legend: &[LegendName<'_>], place: u32, number: usize) -> Option<Mention> {
     let name = legend.get(place as usize)?;
     let mention = name.mentions.get(number)?;
@@ -84,7 +84,7 @@ fn mention_at(legend: &[LegendName<'_>], place: u32, number: usize) -> Option<Me
 }
 
 impl Search {
-    /// Nothing was met of a legend of so many lines.
+    /// Nothing was met of a legend of `lines` lines.
     fn start(alloc: Global, lines: usize) -> Result<Search, Memory> {
         Ok(Search {
             started: 0,

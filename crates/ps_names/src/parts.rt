@@ -1,5 +1,5 @@
 //! The parts of the names of a game that stand beside their table. They are made by what is lent to them, so that the
-//! table and the legend are dropped on few ways out.
+//! table and the legend are dropped on few return paths.
 
 ghost use Rattle.std.specs.Prelude.{◌≡◌, ◌≤◌, IfOk, length};
 ghost use Rattle.ps_model.specs.declared.limits.TheConstants.{LAYER_LIMIT};

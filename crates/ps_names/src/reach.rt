@@ -60,7 +60,7 @@ fn mentions_of<'a>(legend: &'a [LegendName<'_>], mention: Mention) -> &'a [Menti
 }
 
 impl Reach {
-    /// Nothing of a legend of so many lines was reached, and these mentions wait.
+    /// Nothing of a legend of `lines` lines was reached, and these mentions wait.
     fn start(alloc: Global, lines: usize, mentions: &[Mention]) -> Result<Reach, Memory>
         ensures objects { IfOk result (λ reach. reach.objects.items ≡ []) }
         ensures lines { IfOk result (λ reach. reach.lines.items ≡ replicate lines false) }
@@ -131,7 +131,7 @@ impl Reach {
         Ok(())
     }
 
-    /// Looks at so many mentions that wait, or at all of them if there are fewer.
+    /// Looks at `count` mentions that wait, or at all of them if there are fewer.
     fn steps(&mut self, legend: &[LegendName<'_>], count: usize) -> Result<(), Memory>
         ensures { OnOk result ((rest : ℕ) →
             reached_with legend.now rest self.new ≡ reached_with legend.now (count + rest) self.old) }

@@ -81,8 +81,8 @@ fn read_section<'a>(
     written_lines(alloc, source, &numbers, cut)
 }
 
-/// Reads the names of a game from its sections OBJECTS, LEGEND and COLLISIONLAYERS, each given by the numbers of the
-/// lines right below its header up to the next header, counted from 1; an absent LEGEND by an empty range.
+/// Reads the names of a game from its sections OBJECTS, LEGEND and COLLISIONLAYERS. Each is given by the numbers of the
+/// lines right below its header up to the next header, counted from 1. An absent LEGEND is an empty range.
 ///
 /// `Refused` with the first fault of these sections, if they have one. `Memory` if a growth was refused.
 pub fn read_names(

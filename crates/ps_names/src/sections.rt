@@ -1,4 +1,4 @@
-//! What the sections give, one behind the other.
+//! What the sections give, one after the other.
 
 ghost use Rattle.std.specs.Prelude.{◌≡◌, ◌≤◌, ◌<◌, ◌++◌, [], Some, IfOk, OnOk, IfErr, length, map, List, unwrap_or};
 ghost use Rattle.ps_model.specs.names.DeclarationFaults.{form_faults, layer_faults};

@@ -12,7 +12,7 @@ use ps_model::{Memory, ObjectId};
 use ps_text::List;
 use std::alloc::Global;
 
-/// Puts an object behind those that are known, if it isn't one of them. These are few, as a game has at most
+/// Puts an object after those that are known, if it isn't one of them. These are few, as a game has at most
 /// `OBJECT_LIMIT`.
 fn merge_object(objects: &mut Vec<ObjectId>, object: ObjectId) -> Result<(), Memory>
     ensures { OnOk result (objects.new.items ≡ merged objects.old.items (object ∷ [])) }
@@ -24,7 +24,7 @@ fn merge_object(objects: &mut Vec<ObjectId>, object: ObjectId) -> Result<(), Mem
     Ok(())
 }
 
-/// Puts objects behind those that are known, without those that are.
+/// Puts objects after those that are known, without those that are.
 fn merge_objects(objects: &mut Vec<ObjectId>, others: &[ObjectId]) -> Result<(), Memory>
     ensures { OnOk result (objects.new.items ≡ merged objects.old.items others.now) }
 {
@@ -34,7 +34,7 @@ fn merge_objects(objects: &mut Vec<ObjectId>, others: &[ObjectId]) -> Result<(),
     Ok(())
 }
 
-/// Puts the objects that a mention speaks of behind those that are known, where the lines speak of these.
+/// Puts the objects that a mention speaks of after those that are known, where the lines speak of these.
 fn merge_mention(
     objects: &mut Vec<ObjectId>,
     lists: &[List<ObjectId>],

@@ -30,7 +30,7 @@ pub struct Table {
     meanings: Vec<Option<Meaning>>,
 }
 
-/// Written out, so that who owns a table calls this on each way out, instead of dropping its parts there.
+/// Written out: an owner of a table calls this on each return path, and doesn't drop its parts there.
 impl Drop for Table {
     fn drop(self) {
         let Table {

@@ -15,7 +15,7 @@ use Rattle.ps_board.proofs.ColumnLaws.{column_at-beyond, column_at-where}
 use Rattle.ps_program.specs.declared.cells.CompiledCell.{CompiledCell}
 use Rattle.ps_program.specs.declared.rows.Axis.{Axis}
 use Rattle.ps_program.specs.declared.rows.CompiledRow.{CompiledRow}
-use Rattle.ps_places.specs.Room.{Room}
+use Rattle.ps_places.specs.Scratch.{Scratch}
 use Rattle.ps_places.specs.Forgetting.{HaveForgotten, IsAmong, IsPlaceOf, IsWayOf, first_position}
 use Rattle.ps_places.specs.RowPlaces.{all_places, part_sizes, places_behind, places_on, places_on_lines, sets_on}
 use Rattle.ps_places.specs.RowPlaces.{way_cells, way_of}
@@ -358,7 +358,7 @@ without-fewer lines others x is = elim (cases_lt x SIDE_LIMIT) [
       (λ y. column_at lines y && not (column_at others y)) x far) ∙ is in absurd (cc)
 ]
 
-pub forgotten : (height : ℕ) (row : CompiledRow) (old new : Room) (set : List Bool) → IsAmong row old →
+pub forgotten : (height : ℕ) (row : CompiledRow) (old new : Scratch) (set : List Bool) → IsAmong row old →
     set_columns set ≡ positions_from (slice_index_or (sets_on old.starts.items (length row.parts) old.line) 0 [])
     (first_position (way_of row old)) →
     new.lines ≡ columns_without old.lines (columns_below old.line) →

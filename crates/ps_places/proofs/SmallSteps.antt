@@ -51,5 +51,5 @@ no_some clash = absurd (cc)
 pub has_room : (n : ℕ) → n ≡ SIDE_LIMIT → SIDE_LIMIT ≤ n
 has_room n e = omega arith
 
-pub has_rooms : (n : ℕ) → n ≡ PART_LIMIT * SIDE_LIMIT → SIDE_LIMIT ≤ n
-has_rooms n e = omega arith
+pub has_scratch : (n : ℕ) → n ≡ PART_LIMIT * SIDE_LIMIT → SIDE_LIMIT ≤ n
+has_scratch n e = omega arith

@@ -4,7 +4,7 @@ use Rattle.ps_model.specs.declared.limits.TheConstants.{SIDE_LIMIT}
 use Rattle.ps_board.specs.ColumnSets.{column_at}
 use Rattle.ps_program.specs.declared.cells.CompiledCell.{CompiledCell}
 use Rattle.ps_program.specs.declared.rows.CompiledRow.{CompiledRow}
-use Rattle.ps_places.specs.Room.{Room}
+use Rattle.ps_places.specs.Scratch.{Scratch}
 use Rattle.ps_places.specs.RowPlaces.{all_places, part_sizes, place_at, places_behind, sets_on, way_of}
 use Rattle.ps_places.specs.Ways.{from_first, ways_behind, ways_from}
 
@@ -25,12 +25,12 @@ pub record IsPlaceOf (lines : List Bool) (starts : List (List Bool)) (parts : Li
   pub among : IsWayOf (sets_on starts (length parts) line) (part_sizes parts) way
 
 -- the place that is chosen for a row is one of its places
-abbrev pub IsAmong : CompiledRow → Room → Type 0
-IsAmong row room = IsPlaceOf room.lines room.starts.items row.parts room.line (way_of row room)
+abbrev pub IsAmong : CompiledRow → Scratch → Type 0
+IsAmong row scratch = IsPlaceOf scratch.lines scratch.starts.items row.parts scratch.line (way_of row scratch)
 
 -- places are forgotten: the same one is chosen, and the same ones are behind it. Those that are left are the same for
 -- each kind of which the one that is chosen is the first.
-pub record HaveForgotten (height : ℕ) (row : CompiledRow) (old new : Room) : Type 0 where
+pub record HaveForgotten (height : ℕ) (row : CompiledRow) (old new : Scratch) : Type 0 where
   pub at : place_at height row new ≡ place_at height row old
   pub later : places_behind height row new ≡ places_behind height row old
   pub line : new.line ≡ old.line

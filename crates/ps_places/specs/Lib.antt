@@ -14,5 +14,5 @@ pub mod RowsFound
 pub mod LeavingAlone
 pub mod WrittenTogether
 pub mod PartTargets
-pub mod Room
+pub mod Scratch
 pub mod InTurn

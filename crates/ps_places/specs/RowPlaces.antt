@@ -9,7 +9,7 @@ use Rattle.ps_board.specs.ColumnSets.{set_columns}
 use Rattle.ps_program.specs.declared.cells.CompiledCell.{CompiledCell}
 use Rattle.ps_program.specs.declared.rows.Axis.{Axis}
 use Rattle.ps_program.specs.declared.rows.CompiledRow.{CompiledRow}
-use Rattle.ps_places.specs.Room.{Room}
+use Rattle.ps_places.specs.Scratch.{Scratch}
 use Rattle.ps_places.specs.Lines.{line_cells, part_meaning}
 use Rattle.ps_places.specs.Ways.{positions_from, ways_behind, ways_from}
 
@@ -48,20 +48,20 @@ abbrev pub places_on_lines : Axis → ℕ → List (List CompiledCell) → List 
 places_on_lines axis height parts starts lines = flat_map (places_on axis height parts starts) lines
 
 -- the places of a row, the one that is chosen, and those behind it
-abbrev pub all_places : ℕ → CompiledRow → Room → List (List ℕ)
-all_places height row room = places_on_lines row.axis height row.parts room.starts.items (set_columns room.lines)
+abbrev pub all_places : ℕ → CompiledRow → Scratch → List (List ℕ)
+all_places height row scratch = places_on_lines row.axis height row.parts scratch.starts.items (set_columns scratch.lines)
 
-abbrev pub way_of : CompiledRow → Room → List ℕ
-way_of row room = take (length row.parts) room.way
+abbrev pub way_of : CompiledRow → Scratch → List ℕ
+way_of row scratch = take (length row.parts) scratch.way
 
-abbrev pub place_at : ℕ → CompiledRow → Room → List ℕ
-place_at height row room = way_cells row.axis height room.line (part_sizes row.parts) (way_of row room)
+abbrev pub place_at : ℕ → CompiledRow → Scratch → List ℕ
+place_at height row scratch = way_cells row.axis height scratch.line (part_sizes row.parts) (way_of row scratch)
 
-abbrev pub places_behind : ℕ → CompiledRow → Room → List (List ℕ)
-places_behind height row room =
-    map (way_cells row.axis height room.line (part_sizes row.parts))
-    (ways_behind (sets_on room.starts.items (length row.parts) room.line) (part_sizes row.parts) (way_of row room))
-    ++ places_on_lines row.axis height row.parts room.starts.items (positions_from room.lines (room.line + 1))
+abbrev pub places_behind : ℕ → CompiledRow → Scratch → List (List ℕ)
+places_behind height row scratch =
+    map (way_cells row.axis height scratch.line (part_sizes row.parts))
+    (ways_behind (sets_on scratch.starts.items (length row.parts) scratch.line) (part_sizes row.parts) (way_of row scratch))
+    ++ places_on_lines row.axis height row.parts scratch.starts.items (positions_from scratch.lines (scratch.line + 1))
 
 -- the row fits at a place
 abbrev pub place_fits : Grid → Option (List ℕ) → List (List CompiledCell) → List ℕ → Bool

@@ -6,7 +6,7 @@ use Rattle.ps_board.specs.ColumnSets.{column_at}
 use Rattle.ps_program.specs.declared.cells.CompiledCell.{CompiledCell}
 use Rattle.ps_program.specs.declared.rows.Axis.TheVariants.{Down}
 use Rattle.ps_program.specs.declared.rows.CompiledRow.{CompiledRow}
-use Rattle.ps_places.specs.Room.{Room}
+use Rattle.ps_places.specs.Scratch.{Scratch}
 use Rattle.ps_places.specs.Lines.{line_count, part_fits}
 
 -- the numbers of which something holds, as a set
@@ -19,13 +19,13 @@ begins_down g table part row x =
     nat_lt x g.width && (nat_le (row + length part) g.height && part_fits g table Down x part row)
 
 -- the lines of a row's room are lines of the board, and so is that of its place
-pub record HasLinesOf (g : Grid) (row : CompiledRow) (room : Room) : Type 0 where
-  pub at : (line : ℕ) → column_at room.lines line ≡ true → line < line_count row.axis g
+pub record HasLinesOf (g : Grid) (row : CompiledRow) (scratch : Scratch) : Type 0 where
+  pub at : (line : ℕ) → column_at scratch.lines line ≡ true → line < line_count row.axis g
 
-abbrev pub IsOnLine : Grid → CompiledRow → Room → Type 0
-IsOnLine g row room = room.line < line_count row.axis g
+abbrev pub IsOnLine : Grid → CompiledRow → Scratch → Type 0
+IsOnLine g row scratch = scratch.line < line_count row.axis g
 
--- two rooms have the same lines with the same positions, whatever place is chosen
-pub record HaveSameStarts (old new : Room) : Type 0 where
+-- two scratch have the same lines with the same positions, whatever place is chosen
+pub record HaveSameStarts (old new : Scratch) : Type 0 where
   pub lines : new.lines ≡ old.lines
   pub starts : new.starts ≡ old.starts

@@ -4,7 +4,7 @@
 ghost use Rattle.std.specs.Prelude.{◌≡◌, ℕ, ◌*◌, ◌<◌, ◌∷◌, [], IfSome, None, false, length, true};
 ghost use Rattle.ps_model.specs.board.Attempts.{Rewritten, rewritten_along};
 ghost use Rattle.ps_model.specs.declared.limits.TheConstants.{SIDE_LIMIT};
-ghost use Rattle.ps_match.specs.InRoom.{sides_of};
+ghost use Rattle.ps_match.specs.FixedParts.{fixed_part};
 ghost use Rattle.ps_program.specs.declared.rows.TheConstants.{PART_LIMIT};
 ghost use Rattle.ps_places.specs.Forgetting.{HaveForgotten, IsAmong, IsPlaceOf};
 ghost use Rattle.ps_places.specs.Lines.{line_count};
@@ -16,7 +16,7 @@ ghost use Rattle.ps_places.specs.Starts.{HasLinesOf, HaveSameStarts, IsOnLine};
 ghost use Rattle.ps_places.specs.Ways.{from_first, positions_from};
 
 use crate::parts::{behind_position, part_fits, rewrite_fitting_part, rewrite_part};
-use crate::room::RowRoom;
+use crate::scratch::RowScratch;
 use crate::ways::{first_way, next_way};
 use ps_match::{ColumnWords, Columns, Scan, recall_shape};
 use ps_program::CompiledRow;
@@ -103,7 +103,7 @@ fn seek_on<B: Scan>(
     seek(board, row, lines, starts, usize::from(line) + 1, way)
 }
 
-impl<W: ColumnWords> RowRoom<Columns<W>> {
+impl<W: ColumnWords> RowScratch<Columns<W>> {
     /// Chooses the first place of a row at which it fits. Answers whether there is one; if not, any place is chosen.
     pub fn first_place<B: Scan<Words = W>>(&mut self, board: &B, row: &CompiledRow) -> bool
         requires { HasLinesOf (B.grid board.now) row.now self.old }
@@ -203,9 +203,7 @@ impl<W: ColumnWords> RowRoom<Columns<W>> {
             let place = place_at (B.grid board.old).height row.now self.now in
             record { grid = B.grid board.new; changed = result }
             ≡ rewritten_along before (cells_meaning (B.table board.old) row.now.parts) place }
-        ensures table { B.table board.new ≡ B.table board.old }
-        ensures origin { B.origin board.new ≡ B.origin board.old }
-        ensures sides { sides_of (B.grid board.new) ≡ sides_of (B.grid board.old) }
+        ensures fixed { fixed_part B.Board board.new ≡ fixed_part B.Board board.old }
     {
         let parts = row.parts.as_slice();
         let mut any = changed;
@@ -238,9 +236,7 @@ impl<W: ColumnWords> RowRoom<Columns<W>> {
             let place = place_at (B.grid board.old).height row.now self.now in
             record { grid = B.grid board.new; changed = result }
             ≡ rewritten_along before (cells_meaning (B.table board.old) row.now.parts) place }
-        ensures table { B.table board.new ≡ B.table board.old }
-        ensures origin { B.origin board.new ≡ B.origin board.old }
-        ensures sides { sides_of (B.grid board.new) ≡ sides_of (B.grid board.old) }
+        ensures fixed { fixed_part B.Board board.new ≡ fixed_part B.Board board.old }
     {
         recall_shape(board);
         let parts = row.parts.as_slice();

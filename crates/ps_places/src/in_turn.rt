@@ -5,7 +5,7 @@ ghost use Rattle.std.specs.Prelude.{◌≡◌, ◌+◌, ◌≤◌, ◌∷◌, []
 ghost use Rattle.ps_model.specs.declared.limits.TheConstants.{SIDE_LIMIT};
 ghost use Rattle.ps_model.specs.board.Attempts.{Rewritten, applied, combinations};
 ghost use Rattle.ps_model.specs.board.Places.{places};
-ghost use Rattle.ps_match.specs.InRoom.{sides_of};
+ghost use Rattle.ps_match.specs.FixedParts.{fixed_part};
 ghost use Rattle.ps_program.specs.Axes.{direction_of};
 ghost use Rattle.ps_program.specs.declared.rows.Axis.TheVariants.{Down};
 ghost use Rattle.ps_laws.specs.WholeRows.{HasCells};
@@ -15,7 +15,7 @@ ghost use Rattle.ps_places.specs.PartStarts.{AreStarts};
 
 use crate::columns::columns_down;
 use crate::rewriting::rewrite_row;
-use crate::room::RowRoom;
+use crate::scratch::RowScratch;
 use ps_match::{ColumnWords, Columns, Scan, recall_shape};
 use ps_program::{Axis, CompiledCell};
 
@@ -33,9 +33,7 @@ fn rewrite_fitting<B: Scan>(
         let grid = B.grid board.old in
         record { grid = B.grid board.new; changed = result }
         ≡ row_in_turn grid.width grid.height (part_meaning (B.table board.old) part.now) row columns before }
-    ensures table { B.table board.new ≡ B.table board.old }
-    ensures origin { B.origin board.new ≡ B.origin board.old }
-    ensures sides { sides_of (B.grid board.new) ≡ sides_of (B.grid board.old) }
+    ensures fixed { fixed_part B.Board board.new ≡ fixed_part B.Board board.old }
 {
     recall_shape(board);
     let fitting = columns_down(board, part, row).both(columns);
@@ -60,9 +58,7 @@ fn rewrite_downwards<B: Scan>(
         let all = places (B.grid board.old) (direction_of Down) (meant ∷ []) in
         record { grid = B.grid board.new; changed = result }
         ≡ fold (applied ((meant ∷ []) ∷ [])) before (combinations (all ∷ [])) }
-    ensures table { B.table board.new ≡ B.table board.old }
-    ensures origin { B.origin board.new ≡ B.origin board.old }
-    ensures sides { sides_of (B.grid board.new) ≡ sides_of (B.grid board.old) }
+    ensures fixed { fixed_part B.Board board.new ≡ fixed_part B.Board board.old }
 {
     recall_shape(board);
     let mut changed = false;
@@ -73,7 +69,7 @@ fn rewrite_downwards<B: Scan>(
     changed
 }
 
-impl<W: ColumnWords> RowRoom<Columns<W>> {
+impl<W: ColumnWords> RowScratch<Columns<W>> {
     /// Rewrites the places of a part that goes down, which are kept for these rows of the board: each of them if it
     /// still fits when its turn comes. Answers whether a cell changed. No memory is taken.
     pub fn rewrite_in_turn<B: Scan<Words = W>>(
@@ -90,9 +86,7 @@ impl<W: ColumnWords> RowRoom<Columns<W>> {
             let all = places (B.grid board.old) (direction_of Down) (meant ∷ []) in
             record { grid = B.grid board.new; changed = result }
             ≡ fold (applied ((meant ∷ []) ∷ [])) before (combinations (all ∷ [])) }
-        ensures table { B.table board.new ≡ B.table board.old }
-        ensures origin { B.origin board.new ≡ B.origin board.old }
-        ensures sides { sides_of (B.grid board.new) ≡ sides_of (B.grid board.old) }
+        ensures fixed { fixed_part B.Board board.new ≡ fixed_part B.Board board.old }
     {
         rewrite_downwards(board, part, rows, self.starts.as_slice())
     }

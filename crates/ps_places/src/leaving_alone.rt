@@ -8,7 +8,7 @@ ghost use Rattle.ps_places.specs.LeavingAlone.{ApartLieAlone, AreNotApart, LieAl
 ghost use Rattle.ps_places.specs.LeavingAlone.{starts_behind};
 ghost use Rattle.ps_places.specs.PartStarts.{is_start};
 
-use crate::room::RowRoom;
+use crate::scratch::RowScratch;
 use ps_match::{ColumnWords, Columns, Scan};
 use ps_model::SIDE_LIMIT;
 use ps_program::{Axis, CompiledCell, write_keeps};
@@ -25,7 +25,7 @@ fn leave_alone(first: &CompiledCell, second: &CompiledCell) -> bool
 }
 
 /// Whether all cells of a part that lie so many cells apart leave each other alone.
-fn lie_alone(part: &[CompiledCell], distance: usize) -> bool
+fn are_independent(part: &[CompiledCell], distance: usize) -> bool
     ensures { result ≡ true → LieAlone part.now distance }
 {
     for number in distance..part.len() {
@@ -88,7 +88,7 @@ fn are_apart<W: ColumnWords>(
 }
 
 /// Whether places of a part leave each other alone that begin so many cells apart.
-fn apart_lie_alone<W: ColumnWords>(
+fn apart_are_independent<W: ColumnWords>(
     axis: Axis,
     part: &[CompiledCell],
     rows: Columns<W>,
@@ -101,11 +101,11 @@ fn apart_lie_alone<W: ColumnWords>(
     if !are_apart(axis, rows, starts, distance as u32) {
         return true;
     }
-    lie_alone(part, distance)
+    are_independent(part, distance)
 }
 
 /// Whether places of a part that share a cell of the board leave each other alone there.
-fn places_lie_alone<W: ColumnWords>(
+fn independent_places<W: ColumnWords>(
     axis: Axis,
     part: &[CompiledCell],
     rows: Columns<W>,
@@ -117,19 +117,19 @@ fn places_lie_alone<W: ColumnWords>(
         return false;
     }
     for distance in 1..part.len() {
-        if !apart_lie_alone(axis, part, rows, starts, distance) {
+        if !apart_are_independent(axis, part, rows, starts, distance) {
             return false;
         }
     }
     true
 }
 
-impl<W: ColumnWords> RowRoom<Columns<W>> {
+impl<W: ColumnWords> RowScratch<Columns<W>> {
     /// Whether the places of a part that are kept for these rows of the board leave each other alone: those that share
     /// a cell don't both change it, and what one asks for there stays where the other changes it.
-    pub fn lie_alone(&self, axis: Axis, part: &[CompiledCell], rows: Columns<W>) -> bool
+    pub fn are_independent(&self, axis: Axis, part: &[CompiledCell], rows: Columns<W>) -> bool
         ensures { result ≡ true → PlacesLieAlone axis part.now rows self.now.starts.items }
     {
-        places_lie_alone(axis, part, rows, self.starts.as_slice())
+        independent_places(axis, part, rows, self.starts.as_slice())
     }
 }

@@ -10,11 +10,11 @@ mod lines;
 mod part_starts;
 mod parts;
 mod rewriting;
-mod room;
+mod scratch;
 mod starts;
 mod targets;
 mod ways;
 
 pub use part_starts::begins_nowhere;
-pub use room::{RoomFor, RowRoom};
+pub use scratch::{RowScratch, ScratchFor};
 pub use starts::find_starts;

@@ -17,7 +17,7 @@ ghost use Rattle.ps_places.specs.RowsFound.{rows_with_room};
 
 use crate::candidates::rows_of_part;
 use crate::columns::{columns_across, columns_down};
-use crate::room::RowRoom;
+use crate::scratch::RowScratch;
 use ps_match::{ColumnWords, Columns, Scan, recall_shape};
 use ps_model::SIDE_LIMIT;
 use ps_program::{Axis, CompiledCell};
@@ -359,7 +359,7 @@ pub fn find_rows<B: Scan>(
     find_rows_in_line(board, axis, part, starts, scanned)
 }
 
-impl<W: ColumnWords> RowRoom<Columns<W>> {
+impl<W: ColumnWords> RowScratch<Columns<W>> {
     /// Finds where the only part of a row begins as the board is, and answers the rows of the board that have a place:
     /// for each of them its columns are kept. No memory is taken.
     #[inline(always)]

@@ -7,7 +7,7 @@ ghost use Rattle.ps_model.specs.board.Places.{fits_there};
 ghost use Rattle.ps_model.specs.declared.limits.TheConstants.{SIDE_LIMIT};
 ghost use Rattle.ps_laws.specs.WholeRows.{HasCells};
 ghost use Rattle.ps_program.specs.declared.rows.Axis.TheVariants.{Down, Right};
-ghost use Rattle.ps_match.specs.InRoom.{sides_of};
+ghost use Rattle.ps_match.specs.FixedParts.{fixed_part};
 ghost use Rattle.ps_board.specs.ColumnSets.{set_columns};
 ghost use Rattle.ps_places.specs.Lines.{cell_meaning, line_cells, line_count, part_fits, part_meaning};
 ghost use Rattle.ps_places.specs.Ways.{from_first, positions_from};
@@ -60,9 +60,7 @@ pub fn rewrite_part<B: Scan>(
         let cells = line_cells axis (B.grid board.old).height line position (length part.now) in
         record { grid = B.grid board.new; changed = result }
         ≡ rewritten_along before (part_meaning (B.table board.old) part.now) cells }
-    ensures table { B.table board.new ≡ B.table board.old }
-    ensures origin { B.origin board.new ≡ B.origin board.old }
-    ensures sides { sides_of (B.grid board.new) ≡ sides_of (B.grid board.old) }
+    ensures fixed { fixed_part B.Board board.new ≡ fixed_part B.Board board.old }
 {
     let (_width, height) = board.size();
     let step = step_along(axis, height);
@@ -87,9 +85,7 @@ fn write_fitting<B: Scan>(board: &mut B, cell: &CompiledCell, number: u32, chang
         let found = slice_get (B.grid board.old).cells number in
         record { grid = B.grid board.new; changed = result }
         ≡ rewritten_cell before (cell_meaning (B.table board.old) cell.now) number found }
-    ensures table { B.table board.new ≡ B.table board.old }
-    ensures origin { B.origin board.new ≡ B.origin board.old }
-    ensures sides { sides_of (B.grid board.new) ≡ sides_of (B.grid board.old) }
+    ensures fixed { fixed_part B.Board board.new ≡ fixed_part B.Board board.old }
 {
     if cell.changes {
         board.write(&cell.write, number, changed)
@@ -113,9 +109,7 @@ pub fn rewrite_fitting_part<B: Scan>(
         let cells = line_cells axis (B.grid board.old).height line position (length part.now) in
         record { grid = B.grid board.new; changed = result }
         ≡ rewritten_along before (part_meaning (B.table board.old) part.now) cells }
-    ensures table { B.table board.new ≡ B.table board.old }
-    ensures origin { B.origin board.new ≡ B.origin board.old }
-    ensures sides { sides_of (B.grid board.new) ≡ sides_of (B.grid board.old) }
+    ensures fixed { fixed_part B.Board board.new ≡ fixed_part B.Board board.old }
 {
     let (_width, height) = board.size();
     let step = step_along(axis, height);

@@ -4,7 +4,7 @@ ghost use Rattle.std.specs.Prelude.{◌≡◌, ◌<◌, ◌≤◌, ◌∷◌, []
 ghost use Rattle.ps_model.specs.declared.limits.TheConstants.{SIDE_LIMIT};
 ghost use Rattle.ps_model.specs.board.Attempts.{Rewritten, applied, combinations};
 ghost use Rattle.ps_model.specs.board.Places.{places};
-ghost use Rattle.ps_match.specs.InRoom.{sides_of};
+ghost use Rattle.ps_match.specs.FixedParts.{fixed_part};
 ghost use Rattle.ps_program.specs.Axes.{direction_of};
 ghost use Rattle.ps_laws.specs.WholeRows.{HasCells};
 ghost use Rattle.ps_places.specs.Lines.{part_meaning};
@@ -12,7 +12,7 @@ ghost use Rattle.ps_places.specs.LeavingAlone.{PlacesLieAlone};
 ghost use Rattle.ps_places.specs.PartStarts.{AreStarts};
 ghost use Rattle.ps_places.specs.WrittenTogether.{cell_changed, cells_changed, row_at};
 
-use crate::room::RowRoom;
+use crate::scratch::RowScratch;
 use ps_match::{ColumnWords, Columns, Scan, recall_shape, rewrite_ahead};
 use ps_program::{Axis, CompiledCell};
 
@@ -31,9 +31,7 @@ fn rewrite_cell<B: Scan>(
     ensures rewritten { let before : Rewritten = record { grid = B.grid board.old; changed = changed } in
         record { grid = B.grid board.new; changed = result }
         ≡ cell_changed before (B.table board.old) axis row columns steps cell.now }
-    ensures table { B.table board.new ≡ B.table board.old }
-    ensures origin { B.origin board.new ≡ B.origin board.old }
-    ensures sides { sides_of (B.grid board.new) ≡ sides_of (B.grid board.old) }
+    ensures fixed { fixed_part B.Board board.new ≡ fixed_part B.Board board.old }
 {
     recall_shape(board);
     if !cell.changes {
@@ -60,9 +58,7 @@ pub fn rewrite_row<B: Scan>(
     ensures rewritten { let before : Rewritten = record { grid = B.grid board.old; changed = changed } in
         record { grid = B.grid board.new; changed = result }
         ≡ cells_changed before (B.table board.old) axis row columns 0 part.now }
-    ensures table { B.table board.new ≡ B.table board.old }
-    ensures origin { B.origin board.new ≡ B.origin board.old }
-    ensures sides { sides_of (B.grid board.new) ≡ sides_of (B.grid board.old) }
+    ensures fixed { fixed_part B.Board board.new ≡ fixed_part B.Board board.old }
 {
     let mut any = changed;
     let mut steps = 0;
@@ -90,9 +86,7 @@ fn rewrite_rows<B: Scan>(
         let all = places (B.grid board.old) (direction_of axis) (meant ∷ []) in
         record { grid = B.grid board.new; changed = result }
         ≡ fold (applied ((meant ∷ []) ∷ [])) before (combinations (all ∷ [])) }
-    ensures table { B.table board.new ≡ B.table board.old }
-    ensures origin { B.origin board.new ≡ B.origin board.old }
-    ensures sides { sides_of (B.grid board.new) ≡ sides_of (B.grid board.old) }
+    ensures fixed { fixed_part B.Board board.new ≡ fixed_part B.Board board.old }
 {
     recall_shape(board);
     let mut changed = false;
@@ -103,7 +97,7 @@ fn rewrite_rows<B: Scan>(
     changed
 }
 
-impl<W: ColumnWords> RowRoom<Columns<W>> {
+impl<W: ColumnWords> RowScratch<Columns<W>> {
     /// Rewrites all places of a part that are kept for these rows of the board: each comes to the same as in its turn,
     /// since they leave each other alone. Answers whether a cell changed. No memory is taken.
     pub fn rewrite_places<B: Scan<Words = W>>(
@@ -122,9 +116,7 @@ impl<W: ColumnWords> RowRoom<Columns<W>> {
             let all = places (B.grid board.old) (direction_of axis) (meant ∷ []) in
             record { grid = B.grid board.new; changed = result }
             ≡ fold (applied ((meant ∷ []) ∷ [])) before (combinations (all ∷ [])) }
-        ensures table { B.table board.new ≡ B.table board.old }
-        ensures origin { B.origin board.new ≡ B.origin board.old }
-        ensures sides { sides_of (B.grid board.new) ≡ sides_of (B.grid board.old) }
+        ensures fixed { fixed_part B.Board board.new ≡ fixed_part B.Board board.old }
     {
         rewrite_rows(board, axis, part, rows, self.starts.as_slice())
     }

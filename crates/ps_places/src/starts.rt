@@ -16,7 +16,7 @@ ghost use Rattle.ps_places.specs.Starts.{HasLinesOf};
 
 use crate::leaving_alone::kept_on_row;
 use crate::part_starts::{PartStarts, find_rows};
-use crate::room::RoomFor;
+use crate::scratch::ScratchFor;
 use ps_match::{ColumnWords, Columns, Scan, recall_shape};
 use ps_program::{Axis, CompiledCell, CompiledRow};
 use ps_text::List;
@@ -206,20 +206,20 @@ fn find_lines<B: Scan>(
 }
 
 /// Finds where the parts of a row fit on a board, all lines of it. No memory is taken.
-pub fn find_starts<B: Scan>(board: &B, row: &CompiledRow, room: &mut RoomFor<B>)
+pub fn find_starts<B: Scan>(board: &B, row: &CompiledRow, scratch: &mut ScratchFor<B>)
     ensures places { let meant = row_meaning (B.table board.now) row.now in
         let all = places (B.grid board.now) (direction_of row.now.axis) meant in
-        all ≡ all_places (B.grid board.now).height row.now room.new }
-    ensures lines { HasLinesOf (B.grid board.now) row.now room.new }
+        all ≡ all_places (B.grid board.now).height row.now scratch.new }
+    ensures lines { HasLinesOf (B.grid board.now) row.now scratch.new }
 {
     recall_shape(board);
     let parts = row.parts.as_slice();
-    room.lines = find_lines(
+    scratch.lines = find_lines(
         board,
         row.axis,
         parts,
-        room.starts.as_mut_slice(),
-        room.fronts.as_mut_slice(),
-        room.scanned.as_mut_slice(),
+        scratch.starts.as_mut_slice(),
+        scratch.fronts.as_mut_slice(),
+        scratch.scanned.as_mut_slice(),
     );
 }

@@ -12,7 +12,7 @@ ghost use Rattle.ps_places.specs.Starts.{AreWhere, begins_down};
 
 use crate::leaving_alone::kept_on_row;
 use crate::part_starts::{PartStarts, find_rows};
-use crate::room::RowRoom;
+use crate::scratch::RowScratch;
 use ps_match::{ColumnWords, Columns, Scan, recall_shape};
 use ps_model::SIDE_LIMIT;
 use ps_program::{Axis, CompiledCell, CompiledRow};
@@ -210,7 +210,7 @@ fn find_above<B: Scan>(
     rows
 }
 
-impl<W: ColumnWords> RowRoom<Columns<W>> {
+impl<W: ColumnWords> RowScratch<Columns<W>> {
     /// Finds where one of a row's two parts begins and has a partner as the board is, the first part if it `leads`,
     /// else the second: a set of columns for each row of the board. Answers the rows that have one. What the room
     /// kept before is forgotten. No memory is taken.
@@ -258,7 +258,7 @@ impl<W: ColumnWords> RowRoom<Columns<W>> {
         }
     }
 
-    /// The columns of a row of the board that [`find_targets`](RowRoom::find_targets) found.
+    /// The columns of a row of the board that [`find_targets`](RowScratch::find_targets) found.
     pub fn targets_on(&self, row: u32) -> Columns<W>
         requires { row < SIDE_LIMIT }
         ensures { result ≡ slice_index_or self.now.starts.items row [] }

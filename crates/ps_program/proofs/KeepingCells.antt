@@ -30,9 +30,9 @@ use Rattle.ps_program.specs.Keeping.{gives_not, motion_comes_not, lets_sleep}
 use Rattle.ps_program.specs.KeepingCells.{KeepsWhatFits, LetsSleep}
 use Rattle.ps_program.proofs.FittingMasks.{held-alike, Fit, fit}
 
--- slots behind a write ------------------------------------------------------------------------------------------------
+-- slots after a write ------------------------------------------------------------------------------------------------
 
--- a slot behind a write, or both of a layer that there isn't
+-- a slot after a write, or both of a layer that there isn't
 abbrev Behind : CellWrite → ℕ → Slot → Slot → Type 0
 Behind write layer before after =
     (after ≡ slot_written (write_on layer write.layers) (slot_freed write.gone layer before)) ⊎
@@ -94,7 +94,7 @@ leave-held : (object : ObjectId) (motion : Option Motion) (slot : Slot) → slot
 leave-held object motion Bare held = absurd (cc)
 leave-held object motion (Holds there moving) held = held
 
--- one of the objects is held in a slot behind a layer's write that keeps it
+-- one of the objects is held in a slot after a layer's write that keeps it
 held-by : (objects : List LayeredObject) (one : LayeredObject) (layer : LayerId) (object : ObjectWrite)
     (motion : Option Motion) (slot : Slot) → layer.0 ≡ (one.layer).0 → keeps_object objects layer object ≡ true →
     is_listed objects one ≡ true → slot_holds one.object slot ≡ true →
@@ -439,7 +439,7 @@ back-not : (before after : Bool) → (before ≡ true → after ≡ true) → af
 back-not true after stays e = absurd (let all : after ≡ true = stays refl in cc)
 back-not false after stays e = refl
 
--- a cell that fits behind a write that lets a mask sleep fitted before
+-- a cell that fits after a write that lets a mask sleep fitted before
 fitted-before : (write : CellWrite) (mask : CellMask) (cell : List Slot) → lets_sleep write mask ≡ true →
     mask_fits mask (cell_written write cell) ≡ true → mask_fits mask cell ≡ true
 fitted-before write mask cell sleeps fits =

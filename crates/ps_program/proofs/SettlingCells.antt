@@ -1,4 +1,4 @@
--- A write that puts nothing that goes changes nothing behind itself.
+-- A write that puts nothing that goes changes nothing after itself.
 use Rattle.std.proofs.Common.{◌≡◌, ◌∙◌, ℕ, suc, Bool, true, false, not, Option, Some, None, List, [], ◌∷◌, refl, sym}
 use Rattle.std.proofs.Common.{ap, ap₂}
 use Rattle.std.specs.Prelude.{nat_eq, cond, find, unwrap_or}

@@ -1,5 +1,5 @@
 -- What a write can do to a mask's fit, as the two tell at once: a write keeps a mask where each cell that fits it fits
--- it afterwards, and wakes it where a cell that doesn't fit it may fit it afterwards.
+-- it afterwards. It wakes it where a cell that doesn't fit it may fit it afterwards.
 use Rattle.std.specs.Prelude.{nat_eq, Bool, true, false, ◌&&◌, ◌||◌, not, Option, Some, None, List, [], ◌∷◌}
 use Rattle.std.specs.List.{list_all, list_any}
 use Rattle.ps_model.specs.declared.pieces.LayerId.{LayerId}

@@ -1,5 +1,5 @@
--- What a compiled rule asks of a board: where one of the objects that it needs is nowhere, or one of the motions is
--- that it asks for, one of the rule's cells fits nowhere.
+-- What a compiled rule asks of a board: where one of the objects that it needs, or of the motions that it asks for, is
+-- nowhere, one of the rule's cells fits nowhere.
 use Rattle.std.specs.Prelude.{List}
 use Rattle.std.specs.List.{flat_map}
 use Rattle.ps_model.specs.declared.compiled.LayeredObject.{LayeredObject}

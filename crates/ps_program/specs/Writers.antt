@@ -1,5 +1,5 @@
 -- Rules of one row of two parts of which one cell alone changes anything, and what it writes keeps the masks of all
--- others: wherever the row fits, it is written and nothing else, and it is written once, as the same write behind it
+-- others: wherever the row fits, it is written and nothing else, and it is written once, as the same write after it
 -- makes the same.
 use Rattle.std.specs.Prelude.{◌≡◌, ℕ, ◌+◌, nat_lt, if◌then◌else◌, Bool, true, false, ◌&&◌, not, Option, Some, None}
 use Rattle.std.specs.Prelude.{List, [], ◌∷◌}
@@ -32,7 +32,7 @@ layer_lasts gone write = object_lasts gone write.layer write.object
 abbrev pub settles : CellWrite → Bool
 settles write = list_all (layer_lasts write.gone) write.layers
 
--- behind such a write the same write changes nothing
+-- after such a write the same write changes nothing
 abbrev pub SettlesAtOnce : Type 0
 SettlesAtOnce =
     (write : CellWrite) → settles write ≡ true →
@@ -42,7 +42,7 @@ SettlesAtOnce =
 abbrev pub stands_aside : CellWrite → CompiledCell → Bool
 stands_aside write cell = not cell.changes && write_keeps write (mask_shown cell.mask)
 
--- so do those before and behind a cell of a part, and those of the other part, and the cell's write settles
+-- so do those before and after a cell of a part, and those of the other part, and the cell's write settles
 abbrev pub cell_writes_alone : Option CompiledCell → List CompiledCell → List CompiledCell → List CompiledCell → Bool
 cell_writes_alone None before behind other = false
 cell_writes_alone (Some cell) before behind other =

@@ -38,7 +38,7 @@ fn all_keep_one(writes: &[LayerWrite], objects: &[LayeredObject], one: LayeredOb
     writes.iter().all(|write| keeps_one(objects, one, write))
 }
 
-/// Whether one of these objects stands behind the write where this one stood.
+/// Whether one of these objects stands after the write where this one stood.
 fn stays_among(write: &CellWrite, objects: &[LayeredObject], one: LayeredObject) -> bool
     ensures { result ≡ stays_among (write_shown write.now) objects.now one }
 {
@@ -46,7 +46,7 @@ fn stays_among(write: &CellWrite, objects: &[LayeredObject], one: LayeredObject)
         && all_keep_one(write.layers.as_slice(), objects, one)
 }
 
-/// Whether the object stands behind the write where it stood.
+/// Whether the object stands after the write where it stood.
 fn stays(write: &CellWrite, one: LayeredObject) -> bool
     ensures { result ≡ stays (write_shown write.now) one }
 {
@@ -54,21 +54,21 @@ fn stays(write: &CellWrite, one: LayeredObject) -> bool
     stays_among(write, &alone, one)
 }
 
-/// Whether each of these objects stays behind the write.
+/// Whether each of these objects stays after the write.
 fn all_stay(write: &CellWrite, objects: &[LayeredObject]) -> bool
     ensures { result ≡ list_all (stays (write_shown write.now)) objects.now }
 {
     objects.iter().all(|one| stays(write, *one))
 }
 
-/// Whether one of these objects stands behind the write where one of them stood.
+/// Whether one of these objects stands after the write where one of them stood.
 fn stay_among(write: &CellWrite, objects: &[LayeredObject]) -> bool
     ensures { result ≡ stay_among (write_shown write.now) objects.now }
 {
     objects.iter().all(|one| stays_among(write, objects, *one))
 }
 
-/// Whether of each of these lists one object stands behind the write where one stood.
+/// Whether of each of these lists one object stands after the write where one stood.
 fn lists_stay(write: &CellWrite, lists: &[List<LayeredObject>]) -> bool
     ensures { result ≡ list_all (stay_among (write_shown write.now)) lists.now }
 {
@@ -95,7 +95,7 @@ fn puts_not(one: LayeredObject, write: &LayerWrite) -> bool
     !(write.layer.0 == one.layer.0) || puts_other(one.object, write.object)
 }
 
-/// Whether the object stands nowhere behind the write where it didn't stand.
+/// Whether the object stands nowhere after the write where it didn't stand.
 fn comes_not(write: &CellWrite, one: LayeredObject) -> bool
     ensures { result ≡ comes_not (write_shown write.now) one }
 {
@@ -182,7 +182,7 @@ fn all_keep_asked(writes: &[LayerWrite], test: MotionTest) -> bool
     writes.iter().all(|write| keeps_asked(test, write))
 }
 
-/// Whether a layer has the motion that is asked for behind the write, where it had it.
+/// Whether a layer has the motion that is asked for after the write, where it had it.
 fn motion_stays(write: &CellWrite, test: MotionTest) -> bool
     ensures { result ≡ motion_stays (write_shown write.now) test }
 {
@@ -190,7 +190,7 @@ fn motion_stays(write: &CellWrite, test: MotionTest) -> bool
         && all_keep_asked(write.layers.as_slice(), test)
 }
 
-/// Whether each of these tests' motions stays behind the write.
+/// Whether each of these tests' motions stays after the write.
 fn motions_stay(write: &CellWrite, tests: &[MotionTest]) -> bool
     ensures { result ≡ list_all (motion_stays (write_shown write.now)) tests.now }
 {
@@ -213,7 +213,7 @@ fn none_gives(writes: &[LayerWrite], test: MotionTest) -> bool
     writes.iter().all(|write| gives_not(test, write))
 }
 
-/// Whether a layer hasn't the motion that is asked for behind the write, where it hadn't it.
+/// Whether a layer hasn't the motion that is asked for after the write, where it hadn't it.
 fn motion_comes_not(write: &CellWrite, test: MotionTest) -> bool
     ensures { result ≡ motion_comes_not (write_shown write.now) test }
 {
@@ -228,7 +228,7 @@ fn no_motion_comes(write: &CellWrite, tests: &[MotionTest]) -> bool
     tests.iter().all(|test| motion_comes_not(write, *test))
 }
 
-/// Whether the write keeps the mask: a cell that fits it fits it behind the write ([`keeping_cells`]).
+/// Whether the write keeps the mask: a cell that fits it fits it after the write ([`keeping_cells`]).
 pub fn write_keeps(write: &CellWrite, mask: &CellMask) -> bool
     ensures { result ≡ write_keeps (write_shown write.now) (mask_shown mask.now) }
 {
@@ -248,7 +248,7 @@ fn lets_sleep(write: &CellWrite, mask: &CellMask) -> bool
         && no_motion_comes(write, mask.motions.as_slice())
 }
 
-/// Whether the write may wake the mask. Where it doesn't, a cell that doesn't fit the mask doesn't fit it behind the
+/// Whether the write may wake the mask. Where it doesn't, a cell that doesn't fit the mask doesn't fit it after the
 /// write ([`sleeping_cells`]).
 pub fn write_wakes(write: &CellWrite, mask: &CellMask) -> bool
     ensures { result ≡ write_wakes (write_shown write.now) (mask_shown mask.now) }
@@ -256,13 +256,13 @@ pub fn write_wakes(write: &CellWrite, mask: &CellMask) -> bool
     !lets_sleep(write, mask)
 }
 
-/// What [`write_keeps`] means: a cell that fits a mask fits it behind a write that keeps it. A law: it has no body, and
+/// What [`write_keeps`] means: a cell that fits a mask fits it after a write that keeps it. A law: it has no body, and
 /// its contract is proved.
 pub fn keeping_cells()
     ensures { KeepsWhatFits }
 {}
 
-/// What [`write_wakes`] means: a cell that doesn't fit a mask doesn't fit it behind a write that doesn't wake it. A
+/// What [`write_wakes`] means: a cell that doesn't fit a mask doesn't fit it after a write that doesn't wake it. A
 /// law: it has no body, and its contract is proved.
 pub fn sleeping_cells()
     ensures { LetsSleep }

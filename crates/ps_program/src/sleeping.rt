@@ -59,7 +59,7 @@ fn rows_sleep(rows: &[CompiledRow]) -> bool
     rows.iter().all(|row| row_lets_sleep(rows, row))
 }
 
-/// How many cells are left of so many behind those of a row; nothing, where the row has more.
+/// How many cells are left of `most` after those of a row; nothing, where the row has more.
 fn left_behind(row: &CompiledRow, most: usize) -> Option<usize> {
     let mut left = most;
     for part in row.parts.as_slice() {
@@ -80,7 +80,7 @@ fn are_few(rows: &[CompiledRow]) -> bool {
     true
 }
 
-/// Whether it is told of rows that no write of theirs wakes a mask of theirs. It is asked only where there are two rows
+/// Whether it is known of rows that no write of theirs wakes a mask of theirs. It is asked only of two rows
 /// or more, of few cells: of one row alone no place is passed twice.
 pub fn told_to_sleep(rows: &[CompiledRow]) -> bool
     ensures { result ≡ true → rows_sleep rows.now ≡ true }

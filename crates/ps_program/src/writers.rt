@@ -41,7 +41,7 @@ fn all_last(gone: &[LayeredObject], writes: &[LayerWrite]) -> bool
         .all(|write| object_lasts(gone, write.layer, write.object))
 }
 
-/// Whether the write settles: it puts nothing that goes, so that behind it the same write changes nothing
+/// Whether the write settles: it puts nothing that goes, so that after it the same write changes nothing
 /// ([`settling_cells`]).
 fn settles(write: &CellWrite) -> bool
     ensures { result ≡ settles (write_shown write.now) }
@@ -63,8 +63,8 @@ fn all_stand_aside(write: &CellWrite, cells: &[CompiledCell]) -> bool
     cells.iter().all(|cell| stands_aside(write, cell))
 }
 
-/// Whether the cell of a part with a number alone changes anything, and keeps the masks of the others, in this part and
-/// in the other one.
+/// Whether the cell of a part with a number alone changes anything, and keeps the masks of the others. They are in this
+/// part and in the other one.
 fn writes_alone(part: &[CompiledCell], number: usize, other: &[CompiledCell]) -> bool
     requires { number < length part.now }
     ensures { result ≡ writes_alone part.now number other.now }
@@ -100,8 +100,9 @@ fn writer_in(part: &[CompiledCell], other: &[CompiledCell]) -> Option<u32>
     }
 }
 
-/// The writer of rows that are one row of two parts; nothing, where there are more or less of either, where more cells
-/// change anything or none does, or where what is written may make a cell that fits another one's mask fit it no more.
+/// The writer of rows that are one row of two parts. Nothing, where there are more or less of either, where more cells
+/// change anything, or where none does. Nothing, too, where after the write a cell that fitted another one's mask may
+/// no longer fit it.
 pub fn writer_of(rows: &[CompiledRow]) -> Option<Writer>
     ensures { rows_writer rows.now result ≡ true }
 {
@@ -121,7 +122,7 @@ pub fn writer_of(rows: &[CompiledRow]) -> Option<Writer>
     Some(Writer { leads: false, cell })
 }
 
-/// What it means of a write that it settles: behind it, the same write changes nothing. A law: it has no body, and its
+/// What it means of a write that it settles: after it, the same write changes nothing. A law: it has no body, and its
 /// contract is proved.
 pub fn settling_cells()
     ensures { SettlesAtOnce }

@@ -36,7 +36,7 @@ pub no-readings : (turns : List Reading) → flat_map (readings_of_turn []) turn
 no-readings [] = refl
 no-readings (turn ∷ turns) = no-readings turns
 
--- the turns of a direction and of those behind it
+-- the turns of a direction and of those after it
 pub faced : (rule : SourceRule) (directions : List Direction) (place : ℕ) (direction : Direction)
     (ways lists : List (List (ℕ × Motion))) → place < length directions →
     direction ≡ get_or directions place direction → ways ≡ one_of_each lists → lists ≡ all_move_choices rule direction →

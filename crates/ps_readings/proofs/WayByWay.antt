@@ -1,4 +1,4 @@
--- The way that wheels show is the first of those from it on, and what is left behind it is what their next turn shows.
+-- The way that wheels show is the first of those from it on, and what is left after it is what their next turn shows.
 use Rattle.std.proofs.Common.{◌≡◌, ℕ, zero, suc, ◌+◌, ◌<◌, ◌≤◌, ◌||◌, Bool, true, false, cond, Option, Some, None, List}
 use Rattle.std.proofs.Common.{[], ◌∷◌, ◌++◌, length, map, take, drop, set, get_or, refl, sym, ap, ◌∙◌, arith, add-one}
 use Rattle.std.specs.Prelude.{slice_get, nat_lt, nat_eq, not, ⊤}

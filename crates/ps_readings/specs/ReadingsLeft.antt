@@ -12,7 +12,7 @@ use Rattle.ps_readings.specs.Wheels.{ways_left, lists_of}
 abbrev pub made_last : Readings → Reading
 made_last readings = reading_shown readings.reading
 
--- those of the turn in which it was made, and those of the turns behind it
+-- those of the turn in which it was made, and those of the turns after it
 abbrev pub readings_left : Readings → List Reading
 readings_left readings =
     map (with_members (made_last readings)) (ways_left readings.members.ended readings.members.wheels.items)

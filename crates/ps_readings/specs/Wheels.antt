@@ -48,7 +48,7 @@ abbrev pub next_wheels : {A : Type 0} → List (Wheel A) → Option (List (Wheel
 next_wheels [] = None
 next_wheels (wheel ∷ wheels) = carried wheel wheels (next_wheels wheels)
 
--- the ways that are left behind a way
+-- the ways that are left after a way
 abbrev pub ways_behind : {A : Type 0} → Option (List (Wheel A)) → List (List A)
 ways_behind None = []
 ways_behind (Some wheels) = ways_from wheels

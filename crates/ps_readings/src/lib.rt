@@ -1,5 +1,5 @@
-//! What a rule may mean: how many readings it has, its readings in their one order, what each item asks under a
-//! reading, what is claimed of layers, and whether a reading is possible.
+//! What a rule may mean: how many readings it has, its readings in their one order, and whether a reading is possible.
+//! What each item asks under a reading, and what is claimed of layers.
 #![tactic(auto)]
 
 mod choices;

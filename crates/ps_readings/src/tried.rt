@@ -12,9 +12,9 @@ use ps_names::Names;
 use ps_rules::Occurrences;
 use std::alloc::Global;
 
-/// Whether some reading of a rule is possible. Directions and moves make no difference to that, so that of each choice
-/// of members one reading is tried, up to the first that is possible. One of them is held at a time. `Memory` if there
-/// is no room for the members or for what a cell claims.
+/// Whether some reading of a rule is possible. Directions and moves make no difference to that. So of each choice of
+/// members one reading is tried, up to the first that is possible. One of them is held at a time. `Memory` if there is
+/// no room for the members or for what a cell claims.
 pub fn has_possible(
     alloc: Global,
     names: &Names,

@@ -56,7 +56,7 @@ fn turn_to_first<T>(wheels: &mut Vec<Wheel<T>>)
     }
 }
 
-/// Makes the wheels show the next way: the last one that has one more item shows that, and those behind it their
+/// Makes the wheels show the next way: the last one that has one more item shows that, and those after it their
 /// first. If none has, all show their first ones, and the answer is `false`.
 fn turn_to_next<T>(wheels: &mut Vec<Wheel<T>>) -> bool
     ensures next { result ≡ true → next_wheels wheels.old.items ≡ Some wheels.new.items }

@@ -3,7 +3,7 @@
 ghost use Rattle.std.specs.Prelude.{◌≡◌, IfOk};
 
 use crate::queues::{lent, owned};
-use ps_engine::{KeptBoards, RoomFor, Scan, WatchedProgram, rooms_for, run_program};
+use ps_engine::{KeptBoards, QuietGroups, Scan, ScratchFor, run_program, scratch_for};
 use ps_model::Memory;
 use ps_program::CompiledSection;
 use ps_turn::{Queue, Rules};
@@ -17,9 +17,9 @@ use std::marker::Model;
 pub struct GameRules<'p, 'r, B: Scan> {
     /// Where the message of a run takes memory from.
     alloc: Global,
-    program: WatchedProgram<'p, 'r, B>,
+    program: QuietGroups<'p, 'r, B>,
     /// Room for the rows of a rule.
-    rooms: Vec<RoomFor<B>>,
+    scratch: Vec<ScratchFor<B>>,
     /// For rounds and passes that come back.
     kept: KeptBoards<B>,
 }
@@ -30,7 +30,7 @@ impl<'p, 'r, B: Scan> Drop for GameRules<'p, 'r, B> {
         let GameRules {
             alloc: _,
             program: _program,
-            rooms: _rooms,
+            scratch: _scratch,
             kept: _kept,
         } = self;
     }
@@ -38,14 +38,14 @@ impl<'p, 'r, B: Scan> Drop for GameRules<'p, 'r, B> {
 
 impl<'p, 'r, B: Scan> Model for GameRules<'p, 'r, B> {
     ghost use Rattle.std.specs.Prelude.{List, vec_len};
-    ghost use Rattle.ps_engine.specs.Rooms.{SectionsHaveRooms};
+    ghost use Rattle.ps_engine.specs.Scratch.{SectionsHaveScratch};
     ghost use Rattle.ps_program.specs.declared.program.CompiledSection.{CompiledSection};
 
     ghost Value = { List CompiledSection };
 
     ghost view = { λ r. r.program.sections };
 
-    ghost invariant = { λ r. SectionsHaveRooms (vec_len r.rooms) r.program.sections };
+    ghost invariant = { λ r. SectionsHaveScratch (vec_len r.scratch) r.program.sections };
 }
 
 impl<'p, 'r, B: Scan> GameRules<'p, 'r, B> {
@@ -56,12 +56,12 @@ impl<'p, 'r, B: Scan> GameRules<'p, 'r, B> {
     ) -> Result<GameRules<'p, 'r, B>, Memory>
         ensures { IfOk result (λ rules. rules ≡ sections.entry.now) }
     {
-        let rooms = rooms_for(alloc, sections)?;
-        let program = WatchedProgram::try_new(alloc, sections)?;
+        let scratch = scratch_for(alloc, sections)?;
+        let program = QuietGroups::try_new(alloc, sections)?;
         Ok(GameRules {
             alloc,
             program,
-            rooms,
+            scratch,
             kept: KeptBoards::new(alloc),
         })
     }
@@ -78,8 +78,14 @@ impl<'p, 'r, B: Scan> Rules<B> for GameRules<'p, 'r, B> {
         }
         let after = {
             let mut during = lent(queue);
-            let rooms = self.rooms.as_mut_slice();
-            run_program(&mut self.program, board, &mut during, rooms, &mut self.kept)?;
+            let scratch = self.scratch.as_mut_slice();
+            run_program(
+                &mut self.program,
+                board,
+                &mut during,
+                scratch,
+                &mut self.kept,
+            )?;
             owned(self.alloc, during)?
         };
         *queue = after;

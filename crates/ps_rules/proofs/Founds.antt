@@ -1,4 +1,4 @@
--- What is found among items and among those behind them.
+-- What is found among items and among those after them.
 use Rattle.std.proofs.Common.{◌≡◌, ℕ, Bool, List, [], ◌∷◌, ◌++◌, Some, None, refl, ap, sym, ◌∙◌, filter}
 use Rattle.std.proofs.lemmas.List.Elements.{filter-append, filter_map-append}
 use Rattle.ps_model.specs.meaning.Occurrences.{numbers, number_of, here_or_only}

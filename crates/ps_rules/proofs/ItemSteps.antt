@@ -35,7 +35,7 @@ properties-from items k item less e =
     (drop-at item items k (k + 1) less e (add-one k))
     ∙ option-first (property_named (item_shown item)) (filter_map property_named (items_shown (drop (k + 1) items)))
 
--- the numbers of the objects from a place on, with others behind
+-- the numbers of the objects from a place on, with others after
 pub numbers-from : (objects : List ObjectId) (k : ℕ) (d : ObjectId) (rest : List ℕ) → k < length objects →
     object_numbers (drop k objects) ++ rest
     ≡ (get_or objects k d).0 ∷ (object_numbers (drop (k + 1) objects) ++ rest)

@@ -40,7 +40,7 @@ pub nothing-here : (text : List ℕ) (line : ℕ) (rest : List Line) → (line_a
     → here text line ++ rest ≡ rest
 nothing-here text line rest t = rw t refl
 
--- a blank line is passed over
+-- a blank line is skipped
 pub blank-here : (text : List ℕ) (line : ℕ) (rest : List Line) → (line_at text line).is_there ≡ true
     → is_blank_line (line_at text line) ≡ true → lines_with_words (here text line ++ rest) ≡ lines_with_words rest
 blank-here text line rest t b = rw (t, b) refl
@@ -56,7 +56,7 @@ pub rules-step : (text : List ℕ) (line : ℕ) (names : Names) (rest : List Lin
     → rules_read names (here text line ++ rest) ≡ made ∷ rules_read names rest
 rules-step text line names rest made t b e = rw (t, b, e) refl
 
--- a line that is kept stands behind those before
+-- a line that is kept stands after those before
 pub line-kept : (lines : List CodeLine) (line : CodeLine) (others : List RuleLine) →
     lines_shown (lines ++ line ∷ []) ++ others ≡ lines_shown lines ++ (line_shown line ∷ others)
 line-kept lines line others =

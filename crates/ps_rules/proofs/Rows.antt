@@ -27,7 +27,7 @@ rows-more rows rows' row first others f e =
     ap (λ (made : List WrittenRow). behind made (all_there others)) e ∙ behind-more rows row (all_there others)
     ∙ ap (λ (o : Option WrittenRow). behind rows (all_there (o ∷ others))) (sym f)
 
--- the cells of the rows behind the first
+-- the cells of the rows after the first
 pub cells-behind : (rows : List CodeRow) → cells_of_rows (rows_shown (drop 1 rows)) ≡ drop 1
     (cells_of_rows (rows_shown rows))
 cells-behind [] = refl

@@ -19,6 +19,6 @@ side_shown side = record { ahead = tokens_shown side.ahead.now; rows = rows_show
 abbrev pub shape_shown : RuleShape → model.RuleShape
 shape_shown shape = record { left = side_shown shape.left; right = side_shown shape.right }
 
--- what may be found, behind what was
+-- what may be found, after what was
 abbrev pub behind : {A : Type 0} → List A → Option (List A) → Option (List A)
 behind before after = option_map (λ found. before ++ found) after

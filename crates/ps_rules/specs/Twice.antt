@@ -3,7 +3,7 @@ use Rattle.std.specs.Prelude.{ℕ, nat_eq, Bool, false, ◌||◌, List, [], ◌�
 use Rattle.std.specs.List.{list_any}
 use Rattle.ps_model.specs.declared.pieces.ObjectId.{ObjectId}
 
--- behind numbers that were seen stands one of them, or one twice
+-- after numbers that were seen stands one of them, or one twice
 abbrev pub twice_behind : List ℕ → List ℕ → Bool
 twice_behind seen [] = false
 twice_behind seen (number ∷ numbers) = list_any (nat_eq number) seen || twice_behind (seen ++ number ∷ []) numbers

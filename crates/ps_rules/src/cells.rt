@@ -22,7 +22,7 @@ pub struct WrittenCell<'a, 'n> {
     pub right: &'a [Token<'n>],
 }
 
-/// The items behind the first.
+/// The items after the first.
 pub fn without_first<T>(items: &[T]) -> &[T]
     ensures { result.now ≡ drop 1 items.entry.now }
 {

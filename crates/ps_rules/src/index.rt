@@ -29,7 +29,7 @@ pub struct Index {
     words: Tally,
 }
 
-/// Written out, so that who owns an index calls this on each way out, instead of dropping its tallies there.
+/// Written out: an owner of an index calls this on each return path, and doesn't drop its tallies there.
 impl Drop for Index {
     fn drop(self) {
         let Index {

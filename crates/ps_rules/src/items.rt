@@ -14,7 +14,7 @@ use ps_names::Meaning;
 use smallvec::SmallVec;
 use std::alloc::Global;
 
-/// The item of a name at a byte of the text, right behind a word.
+/// The item of a name at a byte of the text, right after a word.
 fn item_behind(before: Symbol<'_>, at: u32, meaning: Meaning) -> Item
     ensures { item_shown result ∷ [] ≡ named_item (symbol_shown before.entry) at (Called (meaning_shown meaning)) }
 {
@@ -33,7 +33,7 @@ fn item_behind(before: Symbol<'_>, at: u32, meaning: Meaning) -> Item
     }
 }
 
-/// Puts the item of a word last, if it is a name. It stands right behind another word.
+/// Puts the item of a word last, if it is a name. It stands right after another word.
 fn push_named(
     alloc: Global,
     items: &mut SmallVec<Item, 2>,

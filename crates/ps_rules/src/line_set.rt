@@ -14,7 +14,7 @@ pub struct LineSet {
     lines: IndexSet<u32>,
 }
 
-/// Written out, so that who owns a set calls this on each way out, instead of dropping the map's parts there.
+/// Written out: an owner of a set calls this on each return path, and doesn't drop the map's parts there.
 impl Drop for LineSet {
     fn drop(self) {
         let LineSet { lines: _lines } = self;

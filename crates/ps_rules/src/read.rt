@@ -52,11 +52,11 @@ fn over(
     Ok(next)
 }
 
-/// Reads the rules of a game from its section RULES, given by the numbers of the lines right below its header up to the
-/// next header, counted from 1; an absent section by an empty range.
+/// Reads the rules of a game from its section RULES. It is given by the numbers of the lines right below its header up
+/// to the next header, counted from 1. An absent section is an empty range.
 ///
 /// `Refused` with the first fault of these lines, if they have one; a loop without its end is told at the line of its
-/// start, behind all others. `Memory` if a growth was refused.
+/// start, after all others. `Memory` if a growth was refused.
 pub fn read_rules(
     alloc: Global,
     source: &Source,

@@ -78,7 +78,7 @@ fn name_fault(alloc: Global, rule: &SourceRule) -> Result<Option<FaultKind>, Mem
     fault_of_occurrences(alloc, &occurrences)
 }
 
-/// The first fault of a rule among those told behind those of its names.
+/// The first fault of a rule among those told after those of its names.
 fn last_fault(
     shape: &RuleShape<'_, '_>,
     cells: &[Vec<WrittenCell<'_, '_>>],

@@ -18,7 +18,7 @@ use crate::sides::{
     has_wrong_cell,
 };
 
-/// Whether outside brackets, behind the first `[` of the rule, stands a word of that kind.
+/// Whether outside brackets, after the first `[` of the rule, stands a word of that kind.
 #[tactic(auto, using(crate::proofs::Words::has_kind_append))]
 fn has_outside(kind: Kind, shape: &RuleShape<'_, '_>) -> bool
     ensures { result ≡ has_kind (is_kind kind) (words_outside (shape_shown shape.now)) }
@@ -36,7 +36,7 @@ fn has_bar_outside(shape: &RuleShape<'_, '_>) -> bool
     has_kind(Kind::Bar, shape.left.ahead) || has_outside(Kind::Bar, shape)
 }
 
-/// Whether there is no row on the left, or outside brackets a `|`, or a word of a cell behind the first `[`.
+/// Whether there is no row on the left, or outside brackets a `|`, or a word of a cell after the first `[`.
 pub fn has_bad_bracket(shape: &RuleShape<'_, '_>) -> bool
     ensures { result ≡ has_bad_bracket (shape_shown shape.now) }
 {
@@ -44,8 +44,8 @@ pub fn has_bad_bracket(shape: &RuleShape<'_, '_>) -> bool
 }
 
 /// Whether a word means nothing, or stands where it can't: before the rows something else than `+`, `late` and
-/// direction words; behind a row of the left anything; on the right anything before the last row, and something else
-/// than commands behind it.
+/// direction words; after a row of the left anything; on the right anything before the last row, and something else
+/// than commands after it.
 pub fn has_unknown_word(shape: &RuleShape<'_, '_>) -> bool
     ensures { result ≡ has_unknown_word (shape_shown shape.now) }
 {

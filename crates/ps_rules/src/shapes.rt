@@ -1,5 +1,5 @@
-//! The shape of a rule: `->` parts its line in a left and a right side, brackets part a side in rows and what stands
-//! outside them, and bars part a row in cells.
+//! The shape of a rule: `->` parts its line in a left and a right side. Brackets part a side in rows and what stands
+//! outside them. Bars part a row in cells.
 
 ghost use Rattle.std.specs.Prelude.{◌≡◌, IfOk, option_map, map};
 ghost use Rattle.ps_model.specs.text.OptionSteps.{all_there};
@@ -13,7 +13,7 @@ use crate::symbols::Token;
 use ps_model::Memory;
 use std::alloc::Global;
 
-/// A row as it is written: the words of each cell, and those behind its `]` up to the next row or the side's end.
+/// A row as it is written: the words of each cell, and those after its `]` up to the next row or the side's end.
 #[derive(Drop)]
 pub struct WrittenRow<'a, 'n> {
     pub cells: Vec<&'a [Token<'n>]>,
@@ -34,7 +34,7 @@ pub struct RuleShape<'a, 'n> {
     pub right: WrittenSide<'a, 'n>,
 }
 
-/// The row of what stands behind a `[`, up to the next one.
+/// The row of what stands after a `[`, up to the next one.
 fn row_of<'a, 'n>(
     alloc: Global,
     tokens: &'a [Token<'n>],
@@ -52,7 +52,7 @@ fn row_of<'a, 'n>(
     }))
 }
 
-/// The rows of what stands behind each `[`, if each is one.
+/// The rows of what stands after each `[`, if each is one.
 fn rows_of<'a, 'n>(
     alloc: Global,
     parts: &[&'a [Token<'n>]],
@@ -91,7 +91,7 @@ fn side_of<'a, 'n>(
 }
 
 /// The shape of a rule by the parts between its arrows, if these are its two sides. The parts are lent, so that none of
-/// the ways out gives them back.
+/// the return paths gives them back.
 fn shape_of_parts<'a, 'n>(
     alloc: Global,
     parts: &[&'a [Token<'n>]],

@@ -20,7 +20,7 @@ pub fn has_rows(side: &WrittenSide<'_, '_>) -> bool
     !side.rows.is_empty()
 }
 
-/// What stands behind the last row of a side, or all of it where it has no row.
+/// What stands after the last row of a side, or all of it where it has no row.
 pub fn at_end<'a, 'n>(side: &WrittenSide<'a, 'n>) -> &'a [Token<'n>]
     ensures { tokens_shown result.now ≡ at_end (side_shown side.now) }
 {
@@ -31,7 +31,7 @@ pub fn at_end<'a, 'n>(side: &WrittenSide<'a, 'n>) -> &'a [Token<'n>]
     words
 }
 
-/// Whether behind a row stands a word of that kind.
+/// Whether after a row stands a word of that kind.
 pub fn has_behind(kind: Kind, side: &WrittenSide<'_, '_>) -> bool
     ensures { result ≡ has_kind (is_kind kind) (words_behind (side_shown side.now)) }
 {
@@ -50,7 +50,7 @@ fn are_there(tokens: &[Token<'_>]) -> bool
     !tokens.is_empty()
 }
 
-/// Whether there are words behind rows.
+/// Whether there are words after rows.
 #[tactic(auto, using(crate::proofs::Words::are_there_append))]
 pub fn are_there_behind(side: &WrittenSide<'_, '_>) -> bool
     ensures { result ≡ are_there (words_behind (side_shown side.now)) }
@@ -116,7 +116,7 @@ fn is_name(symbol: Symbol<'_>) -> bool
     matches!(symbol, Symbol::Called(_))
 }
 
-/// Whether in a cell a movement word or `no` has no name right behind it.
+/// Whether in a cell a movement word or `no` has no name right after it.
 fn misses_name(cell: &[Token<'_>]) -> bool
     ensures { result ≡ misses_name (tokens_shown cell.now) }
 {
@@ -130,7 +130,7 @@ fn misses_name(cell: &[Token<'_>]) -> bool
     asks_for_name(before)
 }
 
-/// Whether in one of the cells a movement word or `no` has no name right behind it.
+/// Whether in one of the cells a movement word or `no` has no name right after it.
 fn some_misses_name(cells: &[&[Token<'_>]]) -> bool
     ensures { result ≡ list_any misses_name (parts_shown cells.now) }
 {
@@ -142,7 +142,7 @@ fn some_misses_name(cells: &[&[Token<'_>]]) -> bool
     false
 }
 
-/// Whether in a cell of the side a movement word or `no` has no name right behind it.
+/// Whether in a cell of the side a movement word or `no` has no name right after it.
 fn misses_name_in_cells(side: &WrittenSide<'_, '_>) -> bool
     ensures { result ≡ list_any misses_name (cells_of_side (side_shown side.now)) }
 {

@@ -14,7 +14,7 @@ pub struct Tally {
     found: IndexMap<u32, Found>,
 }
 
-/// Written out, so that who owns a tally calls this on each way out, instead of dropping the map's parts there.
+/// Written out: an owner of a tally calls this on each return path, and doesn't drop the map's parts there.
 impl Drop for Tally {
     fn drop(self) {
         let Tally { found: _found } = self;

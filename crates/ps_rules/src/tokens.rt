@@ -23,7 +23,7 @@ fn first_token<'n>(alloc: Global, names: &'n Names, word: &Word<'_>) -> Result<T
     })
 }
 
-/// A word of a line behind the first.
+/// A word of a line after the first.
 fn next_token<'n>(alloc: Global, names: &'n Names, word: &Word<'_>) -> Result<Token<'n>, Memory>
     ensures { IfOk result (λ token. token_shown token ≡ token_of_word (symbol_of names.entry.now) word.now) }
 {
@@ -49,7 +49,7 @@ fn push_first<'n>(
     Ok(())
 }
 
-/// Puts words of a line behind the first last.
+/// Puts words of a line after the first last.
 fn push_next<'n>(
     alloc: Global,
     names: &'n Names,

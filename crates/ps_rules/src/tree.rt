@@ -60,7 +60,7 @@ pub struct SourceRule {
     pub commands: Commands,
 }
 
-/// Written out, so that who owns a rule calls this on each way out, instead of dropping its parts there.
+/// Written out: an owner of a rule calls this on each return path, and doesn't drop its parts there.
 impl Drop for SourceRule {
     fn drop(self) {
         let SourceRule {

@@ -29,7 +29,7 @@ module _ (names : Names) (rows : List Bool) (g h : Grid) (wide : h.width ≡ g.w
     | inr off ↦ same_plain names g h row (row_start g.width row) text wide high (back_outside row under off) (kept off)
   ]
 
-  -- the text that has these rows as the first one's frame has them, and the others as the second one's, is that of the
+  -- a text has these rows as the first one's frame has them, and the others as the second one's: it is that of the
   -- first one's frame
   pub text_patched : (text : FrameText) → IsPatched names rows g h text → IsTextOf names g text
   text_patched (Whole text) patched =

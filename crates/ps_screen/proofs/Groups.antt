@@ -41,14 +41,14 @@ drawn_by true true h = inr refl
 drawn_by true false h = absurd (false≢true (sym h))
 drawn_by false group h = inl refl
 
--- a column that isn't left behind a group is one of it, or wasn't left before
+-- a column that isn't left after a group is one of it, or wasn't left before
 pub gone_or_drawn : (left group : List Bool) (x : ℕ) → x < SIDE_LIMIT →
     column_at (columns_without left group) x ≡ false → (column_at left x ≡ false) ⊎ (column_at group x ≡ true)
 gone_or_drawn left group x low none =
     drawn_by (column_at left x) (column_at group x)
     (sym (column_at-where (λ y. column_at left y && not (column_at group y)) x low) ∙ none)
 
--- a column that is left behind a group was left before
+-- a column that is left after a group was left before
 pub was_left : (left group : List Bool) (x : ℕ) → x < SIDE_LIMIT → column_at (columns_without left group) x ≡ true →
     column_at left x ≡ true
 was_left left group x low has = (and_parts (column_at left x) (not (column_at group x))
@@ -92,7 +92,7 @@ group_within columns left alike column width taken under within x low has =
       | inr both ↦ within x low (was_in columns left column x taken low both.0)
     ]
 
--- behind a group, all columns are drawn that aren't left
+-- after a group, all columns are drawn that aren't left
 pub record Group (names : Names) (g : Grid) (row column byte : ℕ) (columns left alike : List Bool) (start : ℕ)
     (text drawn : List ℕ) : Type 0 where
   pub narrow : g.width ≤ SIDE_LIMIT

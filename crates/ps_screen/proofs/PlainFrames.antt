@@ -137,7 +137,7 @@ next_row names g row text drawn wrote plain above other low = elim (cases_eq oth
 
 -- a frame of blanks ---------------------------------------------------------------------------------------------------
 
--- a text of so many rows of so many bytes, which end with line feeds
+-- a text of `rows` rows of `width` bytes, which end with line feeds
 pub record RowsEnd (width rows : ℕ) (text : List ℕ) : Type 0 where
   pub long : length text ≡ row_start width rows
   pub each : (row : ℕ) → row < rows → get_or text (row_start width row + width) 0 ≡ 10

@@ -85,7 +85,7 @@ from_each f a (suc n) (b ∷ text) long each =
     (from_each f (a + 1) n text (omega (arith, long)) (λ k low. let there : a + 1 + k ≡ a + suc k = omega arith in
     ap f there ∙ each (suc k) (omega arith)))
 
--- the byte behind a text, and a text without its last byte
+-- the byte after a text, and a text without its last byte
 pub at_end : (xs ys : List ℕ) (n : ℕ) → length xs ≡ n → get_or (xs ++ ys) n 0 ≡ get_or ys 0 0
 at_end [] ys zero e = refl
 at_end [] ys (suc n) e = absurd (omega arith)

@@ -19,7 +19,7 @@ use Rattle.ps_model.specs.session.Frames.{character_of, first_of_three, glyph_fo
 use Rattle.ps_screen.specs.Glyphs.{AreCovering, AreLookedUp, AreThinned, Covers, character_for, single_place}
 use Rattle.ps_screen.proofs.LookedUp.{place_of_member, place_of_one}
 
--- an object behind others is among them, and the topmost one
+-- an object after others is among them, and the topmost one
 pub last_among : (objects : List ObjectId) (object : ObjectId) → is_among (objects ++ object ∷ []) object ≡ true
 last_among objects object =
     list_any-append (same_object object) objects (object ∷ [])

@@ -1,4 +1,4 @@
--- The text of a frame, as who has the board keeps it.
+-- The text of a frame, as the owner of the board keeps it.
 use Rattle.ps_model.specs.board.Grid.{Grid}
 use Rattle.ps_model.specs.names.Names.{Names}
 use Rattle.std.specs.Prelude.{IfSome, Bool, List, Option}

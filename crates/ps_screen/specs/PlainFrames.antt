@@ -10,7 +10,7 @@ use Rattle.ps_screen.specs.PlainRows.{IsPlainRow}
 abbrev pub row_start : ℕ → ℕ → ℕ
 row_start width row = row * (width + 1)
 
--- the text has the plain rows of a grid's frame, from the top, and a line feed behind the last one
+-- the text has the plain rows of a grid's frame, from the top, and a line feed after the last one
 pub record IsPlainFrame (names : Names) (g : Grid) (text : List ℕ) : Type 0 where
   pub long : length text ≡ row_start g.width g.height + 1
   pub each : (row : ℕ) → row < g.height → IsPlainRow names g row (row_start g.width row) text

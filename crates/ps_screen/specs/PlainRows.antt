@@ -13,7 +13,7 @@ use Rattle.ps_board.specs.Rows.{AreAlike}
 abbrev pub column_bytes : Names → Grid → ℕ → ℕ → List ℕ
 column_bytes names g row x = encode_utf8 (shown_character names (cell_at g (x * g.height + row)))
 
--- a place of a text before a row's first column or behind its last one, where the row begins at `start`
+-- a place of a text before a row's first column or after its last one, where the row begins at `start`
 abbrev pub IsOutside : ℕ → ℕ → ℕ → Type 0
 IsOutside start width at = (at < start) ⊎ (start + width ≤ at)
 
@@ -31,8 +31,8 @@ pub record AreDrawn (names : Names) (g : Grid) (row : ℕ) (columns : List Bool)
         column_bytes names g row x ≡ slice_index text (start + x) ∷ []
     pub end : slice_index text (start + g.width) ≡ 10
 
--- from a place on, a byte is written in a text for a column of a row, and for those of some left that are in a set of
--- columns which show the same as that one; the rest is left still
+-- from a place on, a byte is written in a text for a column of a row, and for others: those that are left and in a set
+-- of columns which show the same as that one; the rest is left still
 pub record IsGroupWritten (g : Grid) (row column : ℕ) (left rest : List Bool) (start byte : ℕ)
     (before after : List ℕ) : Type 0 where
   pub others : List Bool

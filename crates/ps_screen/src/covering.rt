@@ -1,7 +1,8 @@
 //! Objects that show each cell in which they are the topmost one.
 //!
-//! Where a glyph shows an object alone, none shows it among others, and it doesn't lie on the layer of the ground, that
-//! glyph shows each cell in which the object is the topmost one. What stands below it needn't be looked up there.
+//! Take an object that a glyph shows alone, that none shows among others, and that doesn't lie on the layer of the
+//! ground. That glyph shows each cell in which the object is the topmost one. What stands below it needn't be looked up
+//! there.
 
 ghost use Rattle.std.specs.Prelude.{◌≡◌, ℕ, IfOk, Some, false, length, map};
 ghost use Rattle.ps_model.specs.names.Names.{is_among, object_count, same_object};

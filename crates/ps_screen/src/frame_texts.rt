@@ -1,4 +1,4 @@
-//! The text of a frame, as who has the board keeps it.
+//! The text of a frame, as the owner of the board keeps it.
 
 ghost use Rattle.std.specs.Prelude.{◌≡◌, ◌++◌, IfOk, OnErr, OnOk, true};
 ghost use Rattle.ps_model.specs.session.Frames.{frame};
@@ -13,7 +13,7 @@ use ps_board::{Board, Columns};
 use ps_model::Memory;
 use std::alloc::Global;
 
-/// The text of a frame. It belongs to who has the board, and a [`Picture`](crate::Picture) draws it.
+/// The text of a frame. It belongs to the owner of the board, and a [`Picture`](crate::Picture) draws it.
 #[derive(Drop)]
 pub enum FrameText {
     /// All of it, where each of its characters is of one byte.

@@ -1,7 +1,7 @@
 //! What a player sees: lines and frames, appended to an output.
 //!
 //! An [`OutputText`] is the text so far. A [`Picture`] makes the frames of one game; the text of a board's frame, a
-//! [`FrameText`], is kept by who has the board.
+//! [`FrameText`], is kept by the owner of the board.
 #![tactic(auto)]
 
 mod cells;

@@ -15,7 +15,7 @@ use std::alloc::Global;
 use std::marker::Model;
 
 /// The names of a game as frames look them up: the layer of the ground, and the glyphs. A cell shows most often one
-/// object beside the ground, so that glyphs of one object are found by its number, and the others one after the other.
+/// object beside the ground. So glyphs of one object are found by its number, and the others one after the other.
 /// Contracts see the names.
 #[derive(Drop)]
 pub struct Look<'g> {

@@ -97,7 +97,7 @@ impl OutputText {
         self.append_behind(other)
     }
 
-    /// Copies the bytes of another text behind those of this one, and leaves that one without any. This is a call of
+    /// Copies the bytes of another text after those of this one, and leaves that one without any. This is a call of
     /// its own, as texts change places far more often.
     ///
     /// # Errors

@@ -1,5 +1,5 @@
 //! Plain rows of a frame, patched: where each character is of one byte, byte `x` of a row is the character of column
-//! `x`, and the columns that differ are written in place. A row may stand anywhere in a text.
+//! `x`. The columns that differ are written in place. A row may stand anywhere in a text.
 
 ghost use Rattle.std.specs.Prelude.{◌≡◌, ◌≢◌, ◌+◌, ◌<◌, ◌∷◌, [], ◌++◌, IfOk, IfSome, OnOk, ℕ, codes, encode_utf8};
 ghost use Rattle.std.specs.Prelude.{length, replicate, slice_index, true};
@@ -13,7 +13,7 @@ use crate::output_text::OutputText;
 use ps_board::{Board, ColumnWords, Columns};
 use ps_model::Memory;
 
-/// Adds a row of so many blanks, and a line feed.
+/// Adds a row of `width` blanks, and a line feed.
 ///
 /// # Errors
 ///
@@ -53,8 +53,8 @@ fn put_columns<W: ColumnWords>(text: &mut OutputText, start: u32, columns: Colum
     }
 }
 
-/// Writes a byte at a column of the row that begins at byte `start`, and where many columns are left, at those of them
-/// too that show the same. Few are sooner looked up one by one. Answers the columns that are left then.
+/// Writes a byte at a column of the row that begins at byte `start`. Where many columns are left, it is written at
+/// those of them too that show the same. Few are sooner looked up one by one. Answers the columns that are left then.
 #[inline(always)]
 fn put_alike<B: Board>(
     board: &B,
@@ -83,9 +83,9 @@ fn put_alike<B: Board>(
     left.without(group)
 }
 
-/// Draws the columns of a set of a plain row anew, which begins at byte `start`, and answers whether each of them has
-/// a character of one byte. Where not, the row is of no use. Where many are left, cells with the same objects are
-/// looked up once.
+/// Draws the columns of a set of a plain row anew, which begins at byte `start`. Answers whether each of them has a
+/// character of one byte. Where not, the row is of no use. Where many are left, cells with the same objects are looked
+/// up once.
 ///
 /// # Errors
 ///

@@ -19,8 +19,8 @@ use std::marker::Model;
 
 /// The frames of a game: what they need of its names, made ready once. Contracts see the names.
 ///
-/// The text of a board's frame belongs to who has the board. It is drawn when the board is first shown, and behind a
-/// change drawn anew only where the board shows other objects.
+/// The text of a board's frame belongs to the owner of the board. It is drawn when the board is first shown. After a
+/// change it is drawn anew only where the board shows other objects.
 #[derive(Drop)]
 pub struct Picture<'g> {
     alloc: Global,

@@ -1,5 +1,5 @@
 //! Plain frames: those whose characters are all of one byte. A row takes one byte for each column and one for its line
-//! feed, so that a cell's byte is found by its row and its column, and what differs is written in place.
+//! feed. So row and column give a cell's byte, and what differs is written in place.
 
 ghost use Rattle.std.specs.Prelude.{◌≡◌, IfOk, OnOk, true};
 ghost use Rattle.ps_screen.specs.PlainFrames.{IsBlankFrame, IsPatchedFrame, IsPlainFrame};
@@ -38,7 +38,7 @@ pub fn draw_frame<B: Board>(
     Ok(true)
 }
 
-/// Makes these rows of a text, the plain frame of one board, those of another board alike, and answers whether each
+/// Makes these rows of a text, the plain frame of one board, those of another board alike. Answers whether each
 /// character of them is of one byte. Where not, the text is of no use.
 ///
 /// # Errors
@@ -74,7 +74,7 @@ pub fn patch_frame<B: Board>(
     Ok(true)
 }
 
-/// Makes a text a frame of blanks: so many rows of so many, and an empty line.
+/// Makes a text a frame of blanks: `height` rows of `width` blanks, and an empty line.
 ///
 /// # Errors
 ///

@@ -25,7 +25,7 @@ pub fn room_of<B: Board>(game: &TurnGame<'_>, board: &B, size: RoomSize, last: R
     }
 }
 
-/// Where the part of a number begins of a side in parts of a size, and how long it is, as far as the side goes.
+/// A side is cut in parts of a size. Where the part of a number begins, and how long it is, as far as the side goes.
 fn part_of(side: u32, size: u32, number: u32) -> (u32, u32)
     ensures start { result.0 ≡ part_start side size number }
     ensures length { result.1 ≡ part_length side size number }

@@ -20,7 +20,7 @@ use crate::output_text::OutputText;
 use ps_board::{Board, recall_shape};
 use ps_model::{Memory, Window};
 
-/// So many bytes of a text, from a place on.
+/// `count` bytes of a text, from a place on.
 fn stretch(text: &[u8], start: usize, count: usize) -> &[u8]
     requires { start + count ≤ length text.now }
     ensures { result.now ≡ take count (drop start text.now) }

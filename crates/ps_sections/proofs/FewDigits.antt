@@ -24,7 +24,7 @@ digits = numerals_by_value AreDigits tells_all_ascii_digits
 pub digit-range : (bytes : List ℕ) (i : ℕ) → AreDigits bytes → i < length bytes → IsInRange 48 57 (get_or bytes i 0)
 digit-range bytes i all within = digit_at bytes i (digits.to bytes all) within
 
--- digits behind a number write none that is less
+-- digits after a number write none that is less
 no_less : (number : ℕ) (bytes : List ℕ) → number ≤ digits_value_after 10 number bytes
 no_less number [] = omega arith
 no_less number (byte ∷ bytes) = omega (arith, no_less (number * 10 + digit_value byte) bytes)

@@ -113,7 +113,7 @@ late_by above number section seen line lines s o =
     and_by line.is_header (is_out_of_order (seen ++ header_lines (line ∷ lines)) line)
     (nat_le (rank line.section) above) (late_is above number section seen line lines s o)
 
--- the first of a line's faults, or else of those behind
+-- the first of a line's faults, or else of those after
 first_of : (late real sizeless : Bool) (number : ℕ) (others : List Fault) →
     first_fault ((when late SectionOrder number ++ (when real Realtime number ++ when sizeless BadFlickscreen number))
     ++ others) ≡ option_or (fault_by late real sizeless number) (first_fault others)
@@ -215,7 +215,7 @@ told_here text line above (Some fault) one within e some =
     ∙ ap (λ (first : Option Fault). option_or first
     (headings_told (place_below above here) (drop (line - 1 + 1) lines))) (sym e))
 
--- behind the last line no fault is told
+-- after the last line no fault is told
 pub told_past : (text : List ℕ) (line above : ℕ) → length (lines_of text) + 1 ≤ line →
     headings_told above (drop (line - 1) (lines_of text)) ≡ None
 told_past text line above past = at_drop_all (headings_told above) (lines_of text) (line - 1) (omega arith)

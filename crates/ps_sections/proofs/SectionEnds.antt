@@ -97,6 +97,6 @@ all_before_end : (lines : List Line) → prefix_len (stands_above (suc (rank Lev
 all_before_end [] = refl
 all_before_end (x ∷ xs) = rw (before_end x.section) (omega (arith, all_before_end xs))
 
--- the last section ends behind the last line
+-- the last section ends after the last line
 pub boundary_end : (text : List ℕ) → boundary text (suc (rank Levels)) ≡ length (lines_of text) + 1
 boundary_end text = omega (arith, all_before_end (lines_of text))

@@ -10,8 +10,8 @@ use Rattle.ps_model.specs.text.Sections.{rank, is_real_time, is_without_size}
 abbrev pub is_late_header : ℕ → Line → Bool
 is_late_header above line = line.is_header && nat_le (rank line.section) above
 
--- the fault of the line of a number, which is a late header, or asks for real time, or for rooms without a size, or
--- does none of these
+-- the fault of the line of a number: a late header, or a line that asks for real time, or for rooms without a size; or
+-- none
 abbrev pub fault_by : Bool → Bool → Bool → ℕ → Option Fault
 fault_by true real sizeless number = Some (record { kind = SectionOrder; line = number })
 fault_by false true sizeless number = Some (record { kind = Realtime; line = number })

@@ -20,7 +20,7 @@ fn is_x(byte: u8) -> bool
     byte == b'x' || byte == b'X'
 }
 
-/// What stands before the first `x`, and what stands behind it; without an `x` all, and nothing.
+/// What stands before the first `x`, and what stands after it; without an `x` all, and nothing.
 fn cut_at_x(bytes: &[u8]) -> (&[u8], &[u8])
     ensures before { result.0.now ≡ before_first is_x bytes.now }
     ensures behind { result.1.now ≡ after_first is_x bytes.now }

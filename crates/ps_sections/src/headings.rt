@@ -142,7 +142,7 @@ fn section_below(source: &Source, line: u32, above: Section) -> Section
     above
 }
 
-/// The first fault of headers and prelude, line by line: a header that repeats or follows a later section's, or a line
+/// The first fault of headers and prelude, line by line: a header that repeats or follows a later section's; or a line
 /// of the prelude that asks for real time, or for rooms without a size.
 pub fn first_heading_fault(alloc: Global, source: &Source) -> Result<Option<Fault>, Memory>
     ensures { IfOk result (λ fault. fault ≡ headings_told 0 (lines_of source.now)) }

@@ -27,7 +27,7 @@ pub struct Sections {
     pub levels: Range<u32>,
 }
 
-/// The first line from `from` on that stands in the section or in a later one, or else one behind the last line.
+/// The first line from `from` on that stands in the section or in a later one, or else one after the last line.
 fn boundary(source: &Source, from: u32, section: Section) -> u32
     requires from_one { 1 ≤ from }
     requires near { from ≤ boundary source.now (rank section) }
@@ -66,9 +66,9 @@ fn is_without_section(objects: bool, layers: bool, levels: bool) -> bool
 
 /// Where the lines of each section stand.
 ///
-/// `Refused` with the first fault of headers and prelude: by line, a header that repeats or follows a later section's,
-/// and a line of the prelude that asks for real time, or for rooms without a size; then, at the last line, that
-/// OBJECTS, COLLISIONLAYERS or LEVELS is missing. `Memory` if a growth was refused.
+/// `Refused` with the first fault of headers and prelude: by line, a header that repeats or follows a later section's;
+/// a line of the prelude that asks for real time, or for rooms without a size. Then, at the last line, that OBJECTS,
+/// COLLISIONLAYERS or LEVELS is missing. `Memory` if a growth was refused.
 pub fn read_sections(alloc: Global, source: &Source) -> Result<Sections, Refusal>
     ensures told { IfOk result (λ sections. AreSections source.now sections) }
     ensures refused { IfErr result (λ e. (fault : TheFault) → e ≡ Refusal.Refused fault

@@ -211,7 +211,7 @@ const PLAYS: [(Told, &[Line]); 11] = [
             (&["ps_play", "--level=2", "two.game"], "two.game\n"),
         ],
     ),
-    // A level that the game doesn't have is told of, and no key is asked for.
+    // A level that the game doesn't have is reported, and no key is asked for.
     (
         Told {
             input: b"d",
@@ -294,7 +294,7 @@ const PLAYS: [(Told, &[Line]); 11] = [
         },
         &[(&["ps_play", "-"], "")],
     ),
-    // Where a file has the keys, nothing behind the game is read.
+    // Where a file has the keys, nothing after the game is read.
     (
         Told {
             input: PUSHING,
@@ -370,7 +370,7 @@ const CHECKS: [(Told, &[Line]); 8] = [
             "a.game\nlong.game\n",
         )],
     ),
-    // So they are behind one that holds no game.
+    // So they are after one that holds no game.
     (
         Told {
             input: b"d",
@@ -387,7 +387,7 @@ const CHECKS: [(Told, &[Line]); 8] = [
             "a.game\ncut.game\nb.game\n",
         )],
     ),
-    // So they are behind one that can't be read.
+    // So they are after one that can't be read.
     (
         Told {
             input: b"d",
@@ -414,7 +414,7 @@ const CHECKS: [(Told, &[Line]); 8] = [
         },
         &[(&["ps_play", "--check", "-"], "")],
     ),
-    // It is checked behind another one.
+    // It is checked after another one.
     (
         Told {
             input: PUSHING,
@@ -429,14 +429,14 @@ const CHECKS: [(Told, &[Line]); 8] = [
     ),
 ];
 
-/// What a front end is told of the game.
+/// What a front end learns of the game.
 const DESCRIBED: &str =
     "{\"glyphs\":[{\"glyph\":\".\",\"objects\":[\"Background\"]},{\"glyph\":\"#\",\"objects\":[\"Wall\"]},\
     {\"glyph\":\"P\",\"objects\":[\"Player\"]},{\"glyph\":\"*\",\"objects\":[\"Crate\"]},\
     {\"glyph\":\"O\",\"objects\":[\"Target\"]},{\"glyph\":\"A\",\"objects\":[\"A\"]},\
     {\"glyph\":\"B\",\"objects\":[\"B\"]},{\"glyph\":\"C\",\"objects\":[\"C\"]},{\"glyph\":\"D\",\"objects\":[\"D\"]},\
     {\"glyph\":\"@\",\"objects\":[\"Crate\",\"Target\"]}],\
-    \"ignored_keys\":[],\"levels\":1,\"player_glyphs\":\"P\",\"title\":\"T\"}\n";
+    \"ignored_keys\":[],\"levels\":1,\"player_glyphs\":\"P\",\"title\":\"T\",\"without_glyph\":[]}\n";
 
 /// Command lines of a front end, and what must come of each.
 const FRONT_END: [(Told, &[Line]); 3] = [

@@ -64,7 +64,7 @@ fn counts_of(alloc: Global, rules: &str) -> Option<Counts> {
 }
 
 /// How much is compiled of the rules of a text. What is read is lent to a function that reads on, so that it is dropped
-/// on few ways out.
+/// on few return paths.
 fn counts_of_source(alloc: Global, source: &Source) -> Option<Counts> {
     let names = names_of_game(alloc, source).ok()?;
     counts_by_names(alloc, source, &names)

@@ -127,7 +127,7 @@ fn interrupted_calls_have_failed(rt: HostRuntime) {
     }
 }
 
-/// A stream that gives one byte at its first read, two at its second and so on, or takes at most as many as a pipe
+/// A stream that gives one byte at its first read, two at its second and so on. Or it takes at most as many as a pipe
 /// does.
 #[derive(Drop)]
 struct Pipe {

@@ -17,7 +17,7 @@ const BEGUN: &str = "= T\n# level 1\nP..\n\n";
 
 const WALKED: &str = "= T\n# level 1\nP..\n\n.P.\n\n..P\n\n";
 
-/// The devices of a run: the most bytes that a call of the reader gives, where it fails, if it does, the most bytes
+/// The devices of a run: the most bytes that a call of the reader gives, and where it fails, if it does; the most bytes
 /// that a call of the writer takes, and for how many it has room.
 #[derive(Clone, Copy)]
 struct Setting {
@@ -36,7 +36,7 @@ struct Seen {
     writes: u32,
 }
 
-/// Plays a game and compares what is written with `wanted`. No device is called behind its end or its failure, and no
+/// Plays a game and compares what is written with `wanted`. No device is called after its end or its failure, and no
 /// read asks for too much.
 fn watch(
     rt: &(impl Abort + AllocGlobal),

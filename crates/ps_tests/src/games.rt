@@ -42,7 +42,7 @@ pub fn joined(rt: &(impl Abort + AllocGlobal), parts: &[&str]) -> String {
     text
 }
 
-/// A text that has `part` so many times between its front and its back.
+/// A text that has `part` several times between its front and its back.
 pub fn repeated(
     rt: &(impl Abort + AllocGlobal),
     front: &str,

@@ -1,4 +1,4 @@
-//! Boards as a list of slots: what one shows behind each call.
+//! Boards as a list of slots: what one shows after each call.
 
 use crate::boards::{BARE, Slot, differing_in, expect_set, slot_of};
 use ps_board::{Board, LayerId, ListBoard, Motion, ObjectId};

@@ -68,7 +68,7 @@ fn refuses_a_text_by_its_length(rt: HostRuntime) -> Result<(), Fail> {
     Ok(())
 }
 
-/// What stands behind OBJECTS in a game that takes objects away: each of its names may mean objects of several layers.
+/// What stands after OBJECTS in a game that takes objects away: each of its names may mean objects of several layers.
 const LAYERS: &str =
     "COLLISIONLAYERS\nBackground\nTarget\nPlayer, Wall, Crate\nA\nB\nC\nD\nRULES\n";
 
@@ -106,8 +106,8 @@ fn declare(rt: &(impl Abort + AllocGlobal), legend: &mut String, name: (&str, u3
         .expect(rt, "memory for a legend");
 }
 
-/// Adds a line to a legend, which declares the name of a letter and a number by that of the next number, and what
-/// stands behind it.
+/// Adds a line to a legend, and what stands after it. It declares the name of a letter and a number by that of the next
+/// number.
 fn declare_by_next(
     rt: &(impl Abort + AllocGlobal),
     legend: &mut String,

@@ -21,8 +21,8 @@ const SIZE: &[u8] = b"10x20\n";
 
 /// A machine with the words of a command line. Each file whose name ends with `.keys` has the same keys, and one with
 /// `.size` the same size; `cut.game` has a text that ends before its levels, `two.game` the game [`TWO_LEVELS`], and
-/// each other one the game [`PUSHING`], with line feeds before it in `long.game` and `too-long.game`: so many that it
-/// has as many bytes as a text may have, and one more. There is neither a `lost.game` nor a `lost.size`.
+/// each other one the game [`PUSHING`]. In `long.game` and `too-long.game` line feeds stand before it. With them it has
+/// as many bytes as a text may have, and one more. There is neither a `lost.game` nor a `lost.size`.
 #[derive(Drop)]
 pub struct Machine<'w> {
     alloc: Global,
@@ -70,7 +70,7 @@ impl<'w> Machine<'w> {
         self.add(&self.opened, name, "\n")
     }
 
-    /// Writes a value and an end behind what a text has.
+    /// Writes a value and an end after what a text has.
     fn add<D: Display + Drop>(
         &self,
         text: &RefCell<String>,

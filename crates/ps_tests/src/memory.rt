@@ -22,8 +22,8 @@ fn whole_texts(written: &[u8], texts: &[&str]) -> Option<usize> {
 }
 
 /// Plays a game of which the opening and then each key writes one of the texts: it writes them all, or memory is
-/// refused, and then it has written the opening and the whole texts of all keys that were read before the last one,
-/// or nothing at all.
+/// refused. Then it has written the opening and the whole texts of all keys that were read before the last one, or
+/// nothing at all.
 fn expect_whole_texts(rt: &(impl Abort + AllocGlobal), lines: &str, keys: &str, texts: &[&str]) {
     let Ok(text) = format!(in rt.alloc(); "title T\n{NAMES}{lines}") else {
         return;

@@ -1,5 +1,5 @@
-//! Texts with a fault: a run answers the fault, and calls neither device. What is promised of a run lets want of memory
-//! stand in place of a refusal, and here it is seen that memory isn't wanting.
+//! Texts with a fault: a run answers the fault, and calls neither device. What is promised of a run lets `Memory` stand
+//! in place of a refusal. Here it is seen that memory isn't lacking.
 
 use crate::games::{NAMES, repeated};
 use crate::watched::Watched;

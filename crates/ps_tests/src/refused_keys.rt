@@ -1,5 +1,5 @@
-//! Sessions of which a key is refused a growth: session and output are as before the key then, and the same key does,
-//! when it is tried again, what it does where nothing is refused. As the tests run by themselves nothing is refused;
+//! Sessions of which a key is refused a growth: session and output are as before the key then. The same key, tried
+//! again, does what it does where nothing is refused. As the tests run by themselves nothing is refused;
 //! `tools/refuse_growths` plays them with each growth refused in turn.
 
 ghost use Rattle.ps_model.specs.session.RoomSizes.{HasRoomSize};
@@ -22,7 +22,7 @@ const RIGHT: Key = Key::Move(Input::Right);
 
 const ACTION: Key = Key::Move(Input::Action);
 
-/// A key, what it writes, and what the player may do behind it.
+/// A key, what it writes, and what the player may do after it.
 type Step<'a> = (Key, &'a str, Phase);
 
 /// Whether bytes are an opening and the texts of these steps, and nothing else.
@@ -117,7 +117,8 @@ fn expect_programs_again(
 }
 
 /// Plays a game by keys, each of which is tried again where it was refused a growth. Nothing is looked at where memory
-/// is refused before the first key. Who lends a game and its programs has few ways out, each of which drops them.
+/// is refused before the first key. A function that lends a game and its programs has few return paths, each of which
+/// drops them.
 fn expect_keys_again(
     rt: &(impl Abort + AllocGlobal),
     lines: &str,

@@ -1,5 +1,5 @@
 //! Boards of rows: on which rows an object stands, and something moves. A board may tell more rows than that. This one
-//! does so where an object is asked for on a layer that isn't its own, as no rule does, and tells those that have it.
+//! does so where an object is asked for on a layer that isn't its own, as no rule does. It tells those that have it.
 
 use crate::boards::expect_set;
 use ps_board::{Board, OneWord};

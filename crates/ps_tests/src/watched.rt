@@ -1,4 +1,4 @@
-//! Devices that are watched: how often they are called, and whether behind an end or a failure.
+//! Devices that are watched: how often they are called, and whether after an end or a failure.
 
 ghost use Rattle.std.specs.Prelude.{◌≡◌};
 
@@ -13,7 +13,7 @@ pub struct Watched<D> {
     pub most: usize,
     /// Whether a call has failed, or moved nothing.
     is_over: bool,
-    /// The calls behind that.
+    /// The calls after that.
     pub late: u32,
 }
 
@@ -31,7 +31,7 @@ impl<D: Drop> Watched<D> {
         }
     }
 
-    /// Counts a call of so many bytes.
+    /// Counts a call of `bytes` bytes.
     fn count(&mut self, bytes: usize)
         ensures { self.new.device ≡ self.old.device }
     {

@@ -69,7 +69,7 @@ fn mask_of(
     })
 }
 
-/// A cell of a rule: the object that must stand on the lowest layer, if there is one, and whether a beam is put above
+/// A cell of a rule: the object that must stand on the lowest layer, if there is one; and whether a beam is put above
 /// it, where there is none yet.
 fn cell(alloc: Global, ground: Option<LayeredObject>, beams: bool) -> Result<CompiledCell, Memory> {
     let (barred, put) = if beams {

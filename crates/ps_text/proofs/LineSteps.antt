@@ -24,7 +24,7 @@ use Rattle.ps_text.specs.Rows.{shown, raw_at, line_below, next_line_start, lines
 abbrev pub feed_place : List ℕ → ℕ
 feed_place bytes = position_or_len is_line_feed bytes
 
--- a piece with others behind it is a line
+-- a piece with others after it is a line
 kept : (piece : List ℕ) (pieces : List (List ℕ)) → 0 < length pieces →
     without_empty_end (piece ∷ pieces) ≡ piece ∷ without_empty_end pieces
 kept piece [] h = absurd (omega arith)
@@ -85,7 +85,7 @@ raw_behind text start h =
     let long : length (raw_at text start) ≡ feed_place (drop start text) = grind (arith, common_steps) in
     drop-drop (feed_place (drop start text) + 1) start text ∙ ap (λ (n : ℕ). drop n text) (omega (arith, long))
 
--- the line below, and those behind it
+-- the line below, and those after it
 from_pieces : (text : List ℕ) (above : LineStart) (pieces : List (List ℕ)) → above.start ≤ length text →
     pieces ≡ take (feed_place (drop above.start text)) (drop above.start text) ∷ without_empty_end
     (slice_split is_line_feed (drop (feed_place (drop above.start text) + 1) (drop above.start text))) →
@@ -103,7 +103,7 @@ next_line text above l =
 pub no_line_behind : (text : List ℕ) (above : LineStart) → length text ≤ above.start → lines_behind text above ≡ []
 no_line_behind text above h = let gone : drop above.start text ≡ [] = drop_all above.start text h in rw gone refl
 
--- behind a byte order mark the text may be cut
+-- after a byte order mark the text may be cut
 pub behind_mark : (text : List ℕ) → IsUtf8 text → starts_with nat_eq text (239 ∷ 187 ∷ 191 ∷ []) ≡ true →
     IsCharBoundary text 3
 unfolding encode

@@ -65,7 +65,7 @@ any_low line start end (name ∷ names) a h l m =
       | inr later ↦ any_low line start end names parts.1 later l m
     ]
 
--- a text may begin behind a word that is one of these
+-- a text may begin after a word that is one of these
 pub text_behind_word : (line : List ℕ) (from : ℕ) (names : List (List ℕ)) (range : ByteRange) →
     IsWordRange line from range → list_all (list_all is_ascii_byte) names ≡ true →
     list_any (bytes_eq (folded (slice_range line range.start range.end))) names ≡ true → IsTextStart line range.end
@@ -77,7 +77,7 @@ text_behind_word line from names range word a h =
       solid = word.solid (range.end - 1) (omega (arith, word.holds)) (omega (arith, word.holds));
     }
 
--- a word behind a place is one behind the line's start
+-- a word after a place is one after the line's start
 pub from_start : (line : List ℕ) (from : ℕ) (range : ByteRange) → IsWordRange line from range → IsWordRange line 0 range
 from_start line from range word = record {
   behind = omega arith;

@@ -49,7 +49,7 @@ own_here own place byte bytes h o =
     own_split place byte bytes None (suc own) h o some
     ∙ rw less (ap (λ (ws : List (ℕ × ℕ)). (place, place + suc own) ∷ ws) behind)
 
--- a word by itself, and those behind it
+-- a word by itself, and those after it
 pub own_word : (line : List ℕ) (at own : ℕ) → at < length line → is_blank (get_or line at 0) ≡ false →
     own_length false (drop at line) ≡ own → 0 < own →
     rule_words_behind line at ≡ (at, at + own) ∷ rule_words_behind line (at + own)

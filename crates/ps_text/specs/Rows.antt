@@ -74,7 +74,7 @@ next_line_start above raw =
 abbrev pub raw_at : List ℕ → ℕ → List ℕ
 raw_at text start = take (position_or_len is_line_feed (drop start text)) (drop start text)
 
--- the lines from a place behind a line feed on
+-- the lines from a place after a line feed on
 abbrev pub lines_behind : List ℕ → LineStart → List Line
 lines_behind text above = lines_from above.number above.start above.depth above.section
     (without_empty_end (slice_split is_line_feed (drop above.start text)))

@@ -13,7 +13,7 @@ abbrev pub words_past : List ℕ → Option ℕ → List (ℕ × ℕ)
 words_past line None = []
 words_past line (Some place) = rule_words_behind line place
 
--- a text may begin there: right behind an ASCII byte that is no blank
+-- a text may begin there: right after an ASCII byte that is no blank
 pub record IsTextStart (line : List ℕ) (place : ℕ) : Type 0 where
   pub some : 0 < place
   pub within : place ≤ length line

@@ -32,7 +32,7 @@ texts_under cut line = map (bytes_at line) (words_under cut line)
 abbrev pub IsSliceOf : List ℕ → Word → Type 0
 IsSliceOf text word = word.text.now ≡ slice_range text word.span.start word.span.end
 
--- places from a place on and up to another, each holding a byte at least, and each behind the one before it
+-- places from a place on and up to another, each holding a byte at least, and each after the one before it
 abbrev pub AreRising : ℕ → ℕ → List (ℕ × ℕ) → Type 0
 AreRising low high [] = low ≤ high
 AreRising low high (place ∷ places) = (low ≤ place.0) × (place.0 < place.1) × AreRising place.1 high places

@@ -8,7 +8,7 @@ ghost use Rattle.ps_text.specs.PlainLines.{IsPlain};
 use ps_model::Memory;
 use std::alloc::Global;
 
-/// Whether the byte stands in a comment, its parentheses among it, where so many comments are open before it.
+/// Whether the byte stands in a comment, its parentheses among it, where `depth` comments are open before it.
 fn is_in_comment(depth: u32, byte: u8) -> bool
     ensures { result ≡ lines.in_comment depth byte }
 {
@@ -25,7 +25,7 @@ fn plain_byte(depth: u32, byte: u8) -> u8
     byte
 }
 
-/// How many comments are open behind the byte, where so many are before it.
+/// How many comments are open after the byte, where `depth` are before it.
 fn depth_after(depth: u32, byte: u8) -> u32
     requires { depth ≤ TEXT_LIMIT }
     ensures depth { result ≡ lines.depth_behind depth byte }
@@ -40,7 +40,7 @@ fn depth_after(depth: u32, byte: u8) -> u32
     depth
 }
 
-/// How many comments are open behind the line, where so many are before it.
+/// How many comments are open after the line, where `depth` are before it.
 pub fn depth_after_line(line: &[u8], depth: u32) -> u32
     requires { depth + length line.now ≤ TEXT_LIMIT }
     ensures depth { result ≡ fold lines.depth_behind depth line.now }
@@ -53,7 +53,7 @@ pub fn depth_after_line(line: &[u8], depth: u32) -> u32
     open
 }
 
-/// The line's bytes with a blank for each that stands in a comment, where so many comments are open before it.
+/// The line's bytes with a blank for each that stands in a comment, where `depth` comments are open before it.
 fn plain_bytes(alloc: Global, line: &[u8], depth: u32) -> Result<Vec<u8>, Memory>
     requires { depth + length line.now ≤ TEXT_LIMIT }
     ensures { IfOk result (λ plain. plain.items ≡ lines.without_comments depth line.now) }
@@ -67,7 +67,7 @@ fn plain_bytes(alloc: Global, line: &[u8], depth: u32) -> Result<Vec<u8>, Memory
     Ok(plain)
 }
 
-/// The line with a blank for each byte that stands in a comment, where so many comments are open before it.
+/// The line with a blank for each byte that stands in a comment, where `depth` comments are open before it.
 pub fn plain_line(alloc: Global, line: &str, depth: u32) -> Result<String, Memory>
     requires { depth + length line.now ≤ TEXT_LIMIT }
     ensures bytes { IfOk result (λ plain. string_bytes plain ≡ lines.without_comments depth line.now) }

@@ -70,7 +70,7 @@ fn first_under(line: &[u8], cut: Cut) -> Option<ByteRange>
     }
 }
 
-/// The first word behind a place, where a word ends.
+/// The first word after a place, where a word ends.
 fn next_under(line: &[u8], cut: Cut, from: usize) -> Option<ByteRange>
     requires utf8 { IsUtf8 line.now }
     requires cuttable { IsCharBoundary line.now from }

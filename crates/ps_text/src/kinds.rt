@@ -43,7 +43,7 @@ pub fn is_blank_text(line: &[u8]) -> bool
     line.iter().all(|byte| is_blank_byte(*byte))
 }
 
-/// Whether the line lies partly or wholly in a comment and has only blanks besides: so many comments are open before
+/// Whether the line lies partly or wholly in a comment and has only blanks besides: `depth` comments are open before
 /// it, and `plain` is the line without them.
 fn is_comment_line(depth: u32, raw: &[u8], plain: &[u8]) -> bool
     ensures { result ≡ is_comment depth raw.now plain.now }

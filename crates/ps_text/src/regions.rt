@@ -122,7 +122,7 @@ pub fn taken_in(raw: &str, region: Option<ByteRange>) -> Option<ByteRange>
     Some(trimmed(raw, region))
 }
 
-/// Adds so many blanks to a text.
+/// Adds `count` blanks to a text.
 fn push_blanks(text: &mut String, count: usize) -> Result<(), Memory>
     ensures { OnOk result (string_bytes text.new ≡ string_bytes text.old ++ replicate count 32) }
 {

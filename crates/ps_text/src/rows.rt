@@ -74,7 +74,7 @@ fn line_end(text: &[u8], start: usize) -> usize
     text.len()
 }
 
-/// How many comments are open below a line of that section before which so many are: none where a text ends the line.
+/// How many comments are open below a line of that section before which `depth` are: none where a text ends the line.
 fn depth_below_line(section: Section, region: Option<ByteRange>, depth: u32, raw: &[u8]) -> u32
     requires { depth + length raw.now ≤ TEXT_LIMIT }
     ensures depth { result ≡ lines.depth_below section (option_map start_of region) depth raw.now }

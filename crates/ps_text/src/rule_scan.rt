@@ -76,7 +76,7 @@ fn rule_run_end(line: &[u8], start: usize) -> usize
     line.len()
 }
 
-/// The first word from `from` on, which stands between words, behind the `+` of the line.
+/// The first word from `from` on, which stands between words, after the `+` of the line.
 pub fn next_rule_word(line: &[u8], from: usize) -> Option<ByteRange>
     requires utf8 { IsUtf8 line.now }
     requires cuttable { IsCharBoundary line.now from }

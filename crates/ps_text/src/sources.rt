@@ -109,8 +109,8 @@ impl Source {
         self.rows.len() as u32
     }
 
-    /// Whether the line, from 1 to `lines()`, is there: a line that lies in a comment and has only blanks besides is
-    /// read past, and so is a line made of `=` and blanks alone.
+    /// Whether the line, from 1 to `lines()`, is there. A line that lies in a comment and has only blanks besides
+    /// isn't, and neither is a line made of `=` and blanks alone.
     pub fn is_there(&self, line: u32) -> bool
         requires { HasLine self.now line }
         ensures { result ≡ (line_at self.now line).is_there }
@@ -143,10 +143,10 @@ impl Source {
         self.row(line).is_header
     }
 
-    /// The text of the line, from 1 to `lines()`, that is taken as it stands, without the blanks at its ends, if the
-    /// line has one: behind `title`, `author` or `homepage` as the first word of a line above all sections, up to the
-    /// first `(`; behind `message` as the first word of a line of LEVELS; and behind the first `message` behind the
-    /// `->` of a line of RULES. It may be empty.
+    /// The text of the line, from 1 to `lines()`, that is taken as it stands, if it has one, without the blanks at its
+    /// ends. It stands after `title`, `author` or `homepage` as the first word of a line above all sections, up to the
+    /// first `(`. It stands after `message` as the first word of a line of LEVELS. It stands after the first `message`
+    /// after the `->` of a line of RULES. It may be empty.
     pub fn rest(&self, line: u32) -> Option<Word<'_>>
         requires { HasLine self.now line }
         ensures taken { option_map taken_of result ≡ (line_at self.now line).taken }

@@ -82,7 +82,7 @@ fn arrow_end(plain: &[u8]) -> Option<usize>
     None
 }
 
-/// Where the first `message` behind a place of a line of RULES ends.
+/// Where the first `message` after a place of a line of RULES ends.
 fn message_end_behind(plain: &[u8], from: usize) -> Option<usize>
     requires utf8 { IsUtf8 plain.now }
     requires cuttable { IsCharBoundary plain.now from }

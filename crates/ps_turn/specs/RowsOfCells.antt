@@ -10,7 +10,7 @@ use Rattle.ps_model.specs.board.Winning.{is_in, is_place}
 use Rattle.ps_model.specs.session.Frames.{objects_in}
 use Rattle.ps_board.specs.ColumnSets.{column_at, columns_where}
 
--- of so many columns those of which something holds
+-- of `width` columns those of which something holds
 abbrev pub columns_within : ℕ → (ℕ → Bool) → List Bool
 columns_within width holds = columns_where (λ x. nat_lt x width && holds x)
 

@@ -1,6 +1,6 @@
 //! One turn of a game: the moves of Player, the rules, the movement, the late rules, and what comes of them.
 //!
-//! What runs the rules stands behind [`Rules`]. A turn works on a second board, lent and equal to the first, so that it
+//! What runs the rules stands after [`Rules`]. A turn works on a second board, lent and equal to the first, so that it
 //! takes no memory for boards; without memory, and where a turn is blocked or restarts, both are equal again.
 #![tactic(auto)]
 

@@ -61,7 +61,7 @@ pub fn rows_meant<B: Board>(board: &B, meaning: &Meaning) -> Columns<B::Words>
     }
 }
 
-/// The columns of a row whose cells have what the name behind `on` stands for; without such a name every column.
+/// The columns of a row whose cells have what the name after `on` stands for; without such a name every column.
 pub fn columns_of_place<B: Board>(board: &B, place: &Option<Meaning>, row: u32) -> Columns<B::Words>
     requires { row < (B.grid board.now).height }
     ensures { result ≡ row_cells (is_place (option_map meaning_shown place.now)) (B.grid board.now) row }

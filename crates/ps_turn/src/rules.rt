@@ -29,13 +29,13 @@ pub trait Rules<B: Board> {
         ensures origin { B.origin board.new ≡ B.origin board.old };
 }
 
-/// The rules of a game's turns: those before the movement, and those behind it.
+/// The rules of a game's turns: those before the movement, and those after it.
 pub struct TurnRules<R> {
     pub plain: R,
     pub late: R,
 }
 
-/// Written out, so that who owns rules calls this on each way out, instead of dropping their parts there.
+/// Written out: an owner of rules calls this on each return path, and doesn't drop their parts there.
 impl<R: Drop> Drop for TurnRules<R> {
     fn drop(self) {
         let TurnRules {

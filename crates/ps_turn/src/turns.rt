@@ -192,9 +192,9 @@ fn outcome<B: Board>(
     Turned::Done(done(game, before, after, queue))
 }
 
-/// Takes a turn with an input, or without one. It works on a second board, equal to the first, which shows the new
-/// board behind a done turn, and is equal to the first again behind any other. What the first shows is the origin of
-/// the second, and stays so.
+/// Takes a turn with an input, or without one. It works on a second board, equal to the first. That shows the new board
+/// after a done turn, and is equal to the first again after any other. What the first shows is the origin of the
+/// second, and stays so.
 ///
 /// # Errors
 ///

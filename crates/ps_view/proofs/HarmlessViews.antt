@@ -14,7 +14,7 @@ use Rattle.ps_view.specs.RowShares.{has_lines, most_news}
 use Rattle.ps_view.specs.Corners.{frame_part}
 use Rattle.ps_view.specs.Games.{KnownGame}
 use Rattle.ps_view.specs.Screens.{LinesBelow, level_line, keys_line, line_rows, news_rows, rows_below, screen_of}
-use Rattle.ps_view.specs.Views.{View, Step, blank_view, quietly, drawn, with_news}
+use Rattle.ps_view.specs.Views.{View, Step, blank_view, corner_drawn, quietly, rows_left, drawn, with_news}
 use Rattle.ps_view.specs.Views.{with_frame}
 use Rattle.ps_view.specs.Views.{with_byte, go_on, text_of, line_told, byte_step, view_behind}
 use Rattle.ps_view.specs.Views.{is_size, with_size, anew, size_step, told_step, piece_step}
@@ -78,7 +78,7 @@ drawn_is_harmless : (view : View) → AreHarmlessRows view.frame → AreHarmless
 drawn_is_harmless view frame begun = record {
   frame = frame;
   begun = begun;
-  screen = screen_is_harmless view.size view.corner view.frame view.told frame;
+  screen = screen_is_harmless view.size (corner_drawn view (rows_left view)) view.frame view.told frame;
 }
 
 no_rows : AreHarmlessRows []

@@ -11,7 +11,8 @@ use Rattle.ps_view.specs.declared.corners.Corner.{Corner}
 use Rattle.ps_view.specs.Players.{shows_player, player_place, cell_at, first_cell_of, first_player_from, first_player}
 use Rattle.ps_view.specs.Corners.{corner_keeping, corner_showing, kept_in, moved, room_across, row_in}
 use Rattle.ps_view.specs.Corners.{shown_in}
-use Rattle.ps_view.specs.Sight.{IsShown, IsInPart, PlayersAreInSight}
+use Rattle.ps_view.specs.Sight.{IsShown, IsInPart, PlayersAreDrawn, PlayersAreInSight}
+use Rattle.ps_view.specs.Views.{View, corner_drawn, rows_left}
 use Rattle.ps_view.proofs.Such.{either}
 
 -- a part that keeps an item away from its edges shows it -------------------------------------------------------------
@@ -132,3 +133,8 @@ players_are_in_sight players rows columns before frame changed cell tall wide is
       | None ↦ corner_showing rows columns before frame changed
     ]) frame cell in
     subst motive (sym is) (keeping_shows rows columns before frame cell tall wide there)
+
+pub players_are_drawn : PlayersAreDrawn
+players_are_drawn view cell tall wide is =
+    players_are_in_sight view.game.players (rows_left view) view.size.columns view.corner view.frame view.changed cell
+    tall wide is

@@ -16,7 +16,7 @@ use Rattle.ps_view.specs.Orders.{opening_orders, at_row, closing_orders}
 use Rattle.ps_view.specs.Corners.{corner_following, first_changed, changed_behind}
 use Rattle.ps_view.specs.Games.{KnownGame}
 use Rattle.ps_view.specs.RowShares.{frame_rows}
-use Rattle.ps_view.specs.Screens.{LinesBelow, screen_of, changes}
+use Rattle.ps_view.specs.Screens.{LinesBelow, rows_below, screen_of, changes}
 use Rattle.ps_view.specs.ToldLines.{at_level, last_told, noted, nothing_told, titled}
 
 -- a view: what it knows of the game; the size of the terminal; what is told beside the board; the rows of the last whole frame, as characters,
@@ -80,9 +80,23 @@ opening false = opening_orders
 abbrev pub with_screen : View → List (List ℕ) → View
 with_screen view screen = record view { screen = screen; is_open = true }
 
+-- how many rows are left to the frame
+abbrev pub rows_left : View → ℕ
+rows_left view = view.size.rows - length (rows_below view.size.rows view.size.columns view.told)
+
+-- the corner of the part that is drawn: that of the view, or as near to it as keeps the player in view in the rows that are
+-- left, where what is told last takes more than one
+abbrev pub corner_drawn : View → ℕ → Corner
+corner_drawn view rows =
+    corner_following view.game.players rows view.size.columns view.corner view.frame view.changed
+
+-- what the rows of the terminal show then
+abbrev pub screen_drawn : View → List (List ℕ)
+screen_drawn view = screen_of view.size (corner_drawn view (rows_left view)) view.frame view.told
+
 -- the rows that the view changes are drawn
 abbrev pub drawn : View → Step
-drawn view = let screen : List (List ℕ) = screen_of view.size view.corner view.frame view.told in record {
+drawn view = let screen : List (List ℕ) = screen_drawn view in record {
   view = with_screen view screen;
   bytes = opening view.is_open ++ changes view.screen screen;
 }

@@ -2,7 +2,7 @@
 
 ghost use Rattle.ps_view.specs.Pieces.{OneSizeIsAsTheWhole, PiecesAreAsTheWhole, PiecesLeaveTheSame};
 ghost use Rattle.ps_view.specs.Bounds.{RowsFit, ScreensAreHarmless, ScreensFit, ScreensOfPiecesAreHarmless};
-ghost use Rattle.ps_view.specs.Sight.{PlayersAreInSight};
+ghost use Rattle.ps_view.specs.Sight.{PlayersAreDrawn, PlayersAreInSight};
 
 /// An output that comes in pieces has the view of the whole, however it is cut.
 pub fn pieces_are_as_the_whole()
@@ -29,7 +29,8 @@ pub fn screens_fit()
 {}
 
 /// A player is never out of sight: where a frame has a cell that shows the player, the first one is in the part that is
-/// shown, wherever the part was before.
+/// shown, wherever the part was before, and on each screen that is drawn, whatever is told last.
 pub fn players_are_in_sight()
-    ensures { PlayersAreInSight }
+    ensures part { PlayersAreInSight }
+    ensures drawn { PlayersAreDrawn }
 {}

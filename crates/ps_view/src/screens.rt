@@ -1,10 +1,11 @@
 //! What the rows of a terminal show.
 
-ghost use Rattle.std.specs.Prelude.{◌≡◌, ◌++◌, ◌∷◌, [], IfOk, OnOk};
+ghost use Rattle.std.specs.Prelude.{◌≡◌, ◌-◌, ◌++◌, ◌∷◌, [], length, IfOk, OnOk};
+ghost use Rattle.ps_view.specs.Corners.{frame_part};
 ghost use Rattle.ps_view.specs.Frames.{texts_of};
 ghost use Rattle.ps_view.specs.HarmlessTexts.{harmless_text};
 ghost use Rattle.ps_view.specs.Rows.{cut};
-ghost use Rattle.ps_view.specs.Screens.{keys_line, level_line, line_rows, news_rows, rows_below, screen_of, told_key};
+ghost use Rattle.ps_view.specs.Screens.{keys_line, level_line, line_rows, news_rows, rows_below, told_key};
 
 use crate::corners::Corner;
 use crate::frame_rows::FrameRow;
@@ -132,8 +133,8 @@ pub fn rows_below(alloc: Global, size: Size, told: &ToldLines) -> Result<Vec<Tex
     news_rows(alloc, rows, columns, told.news())
 }
 
-/// What the rows of a terminal show from the top: a frame, and the lines below it. There are at most as many as the
-/// terminal has.
+/// What the rows of a terminal show from the top: the part of a frame at a corner, and the rows below it. There are at
+/// most as many as the terminal has.
 ///
 /// # Errors
 ///
@@ -143,13 +144,12 @@ pub fn screen_of(
     size: Size,
     corner: Corner,
     frame: &[Rc<FrameRow, Global>],
-    told: &mut ToldLines,
+    mut below: Vec<Text>,
 ) -> Result<Vec<Text>, Memory>
-    ensures screen { IfOk result (λ screen.
-        screen.items ≡ screen_of size corner (texts_of frame.now) told.old) }
-    ensures same { told.new ≡ told.old }
+    ensures { IfOk result (λ screen. screen.items
+        ≡ frame_part (size.rows - length below.items) size.columns corner (texts_of frame.now)
+        ++ below.items) }
 {
-    let mut below = told.rows(alloc, size)?;
     let rows = size.rows().saturating_sub(below.len());
     let mut screen = Vec::new(alloc);
     add_frame_part(alloc, rows, size.columns(), corner, frame, &mut screen)?;

@@ -1,12 +1,12 @@
 //! A view in the making: the bytes of an output, one after the other.
 
-ghost use Rattle.std.specs.Prelude.{◌≡◌, ◌++◌, [], ◌∷◌, List, ℕ, OnOk, false, true, ◌==◌, ◌&&◌};
+ghost use Rattle.std.specs.Prelude.{◌≡◌, ◌++◌, [], ◌∷◌, List, ℕ, IfOk, OnOk, false, true, ◌==◌, ◌&&◌};
 ghost use Rattle.ps_view.specs.LineKinds.{kind_of};
 ghost use Rattle.ps_view.specs.LineFeeds.{EndsNoLine};
 ghost use Rattle.ps_view.specs.ToldGames.{known_of};
-ghost use Rattle.ps_view.specs.Views.{anew, blank_view, corner_in, drawn, handed_on, is_size, left};
+ghost use Rattle.ps_view.specs.Views.{anew, blank_view, corner_drawn, corner_in, drawn, handed_on, is_size, left};
 ghost use Rattle.ps_view.specs.Views.{line_told, piece_step, size_step, text_of, told_step, view_behind, with_bytes};
-ghost use Rattle.ps_view.specs.Views.{with_size};
+ghost use Rattle.ps_view.specs.Views.{screen_drawn, with_size};
 ghost use Rattle.ps_view.specs.declared.line_kinds.LineKind.TheVariants.{Title, Level, Message, Note, Question};
 ghost use Rattle.ps_view.specs.declared.line_kinds.LineKind.TheVariants.{Ending, Empty, Row};
 
@@ -327,6 +327,14 @@ impl TerminalView {
         ensures added { OnOk result (orders.new ≡ orders.old ++ (line_told self.old Ending).bytes) }
     {
         self.told.set_news(&mut self.line);
+        self.draw_last(orders)
+    }
+
+    /// Draws for the last time, and leaves the terminal.
+    fn draw_last(&mut self, orders: &mut Line) -> Result<(), Memory>
+        ensures view { OnOk result (self.new ≡ (left (drawn self.old)).view) }
+        ensures added { OnOk result (orders.new ≡ orders.old ++ (left (drawn self.old)).bytes) }
+    {
         self.draw(orders)?;
         add_closing(self.alloc, self.screen.len(), orders)?;
         self.is_over = true;
@@ -356,18 +364,35 @@ impl TerminalView {
         Ok(())
     }
 
+    /// Where the part of the last frame is where so many rows are left to it.
+    fn corner_drawn(&self, rows: usize) -> Corner
+        ensures { result ≡ corner_drawn self.now rows }
+    {
+        corner_following(
+            &self.frames,
+            rows,
+            self.size.columns(),
+            self.corner,
+            self.changed,
+        )
+    }
+
+    /// What the rows of the terminal show then.
+    fn screen_drawn(&mut self) -> Result<Vec<Text>, Memory>
+        ensures screen { IfOk result (λ screen. screen.items ≡ screen_drawn self.old) }
+        ensures same { self.new ≡ self.old }
+    {
+        let below = self.told.rows(self.alloc, self.size)?;
+        let corner = self.corner_drawn(self.size.rows().saturating_sub(below.len()));
+        screen_of(self.alloc, self.size, corner, self.frames.last(), below)
+    }
+
     /// Draws the rows that the view changes.
     fn draw(&mut self, orders: &mut Line) -> Result<(), Memory>
         ensures view { OnOk result (self.new ≡ (drawn self.old).view) }
         ensures added { OnOk result (orders.new ≡ orders.old ++ (drawn self.old).bytes) }
     {
-        let screen = screen_of(
-            self.alloc,
-            self.size,
-            self.corner,
-            self.frames.last(),
-            &mut self.told,
-        )?;
+        let screen = self.screen_drawn()?;
         add_opening(self.is_open, orders)?;
         add_changes(self.alloc, &self.screen, &screen, orders)?;
         self.screen = screen;

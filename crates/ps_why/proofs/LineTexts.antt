@@ -101,7 +101,7 @@ from_place text place =
     omega (arith, end_from place (drop place text)) in
     ap (λ (count : ℕ). take count (drop place text)) long
 
--- behind a byte order mark
+-- after a byte order mark
 marked_place : (feeds : ℕ) (rest : List ℕ) →
     drop (if behind_feeds 0 feeds (239 ∷ 187 ∷ 191 ∷ rest) == 0 then 3
     else behind_feeds 0 feeds (239 ∷ 187 ∷ 191 ∷ rest)) (239 ∷ 187 ∷ 191 ∷ rest)

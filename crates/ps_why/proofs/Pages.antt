@@ -13,7 +13,7 @@ pub whole_front : (bytes : List ℕ) → IsUtf8 bytes → valid_front bytes ≡ 
 whole_front bytes valid =
     ap (λ (n : ℕ). take n bytes) (utf8_valid_len-IsUtf8 bytes valid) ∙ take-length bytes
 
--- behind no line feed lies the place itself
+-- after no line feed lies the place itself
 at_once : (place : ℕ) (bytes : List ℕ) → behind_feeds place 0 bytes ≡ place
 at_once place [] = refl
 at_once place (byte ∷ bytes) = refl
@@ -21,7 +21,7 @@ at_once place (byte ∷ bytes) = refl
 pub none_left : (place left : ℕ) (bytes : List ℕ) → left ≡ 0 → behind_feeds place left bytes ≡ place
 none_left place left bytes none = rw none (at_once place bytes)
 
--- behind the end of the first mark stands nothing
+-- after the end of the first mark stands nothing
 pub none_behind : (marks : Marks) (place : ℕ) (bytes : List ℕ) → nat_le marks.mark.to place ≡ true →
     carets marks place bytes ≡ []
 none_behind marks place [] past = refl

@@ -1,4 +1,4 @@
--- What is told of loops, and of names that the whole game has, in words.
+-- What is said about loops, and of names that the whole game has, in words.
 use Rattle.std.specs.Prelude.{ℕ, Option, Some, None, List, ◌++◌, codes}
 use Rattle.std.specs.Fmt.{decimal}
 use Rattle.ps_causes.specs.declared.causes.LoopCause.{LoopCause}
@@ -15,7 +15,7 @@ abbrev pub unbegun_words : Option ℕ → List ℕ
 unbegun_words None = codes "No loop is open here: no `startloop` stands above."
 unbegun_words (Some line) = codes "No loop is open here: line " ++ (decimal line ++ codes " has ended the last one.")
 
--- what is told of a loop
+-- what is said about a loop
 abbrev pub loop_sentence : LoopCause → List ℕ
 loop_sentence (Nested word line) = nested_words line
 loop_sentence (Unbegun word ended) = unbegun_words ended
@@ -33,7 +33,7 @@ apart_words word layer other other_layer =
     codes "Line " ++ (decimal layer ++ (codes " of COLLISIONLAYERS has `" ++ (word ++ (codes "` and line "
     ++ (decimal other_layer ++ (codes " has `" ++ (other ++ codes "`: a background lies on one layer.")))))))
 
--- what is told of a name that the whole game has
+-- what is said about a name that the whole game has
 abbrev pub whole_sentence : WholeCause → List ℕ
 whole_sentence (AllAtOnce word first) = at_once_words word.text.now first.line
 whole_sentence (OnTwoLayers word layer other other_layer) =

@@ -16,13 +16,13 @@ abbrev pub line_end : ℕ → List ℕ → ℕ
 line_end place [] = place
 line_end place (byte ∷ bytes) = if is_line_feed byte then place else line_end (suc place) bytes
 
--- the place behind so many line feeds of bytes of which the first has this place, or else their end
+-- the place after `feeds` line feeds of bytes of which the first has this place, or else their end
 abbrev pub behind_feeds : ℕ → ℕ → List ℕ → ℕ
 behind_feeds place feeds [] = place
 behind_feeds place feeds (byte ∷ bytes) =
     if feeds == 0 then place else behind_feeds (suc place) (if is_line_feed byte then feeds - 1 else feeds) bytes
 
--- where the line of a number begins, from 1: behind the line feeds before it, and behind a byte order mark
+-- where the line of a number begins, from 1: after the line feeds before it, and after a byte order mark
 abbrev pub line_start : List ℕ → ℕ → ℕ
 line_start text line = let start = behind_feeds 0 (line - 1) text in if start == 0 then mark_length text else start
 
@@ -42,7 +42,7 @@ begins_from place [] = place
 begins_from place (byte ∷ bytes) = if goes_on byte then begins_from (suc place) bytes else place
 
 -- where a line is shown from that the text ends with: from its front where that shows what is marked, else from a place
--- before the mark, at most so many bytes before its end
+-- before the mark, not many bytes before its end
 abbrev pub marked_from : List ℕ → LineBytes → ℕ → ℕ → ℕ
 marked_from text line from to =
     let start = min (max (min from (to - MOST_BEFORE)) line.from) line.to in

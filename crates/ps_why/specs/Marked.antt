@@ -33,7 +33,7 @@ alone mark = Some (record { mark = mark; other = None })
 abbrev pub mark_of_word : Word → Option Marks
 mark_of_word word = alone (below word)
 
--- below the blank behind a word
+-- below the blank after a word
 abbrev pub mark_behind : Word → Option Marks
 mark_behind word = alone (record { from = word.span.end; to = suc word.span.end })
 

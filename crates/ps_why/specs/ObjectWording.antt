@@ -1,4 +1,4 @@
--- What is told of an object, in words.
+-- What is said about an object, in words.
 use Rattle.std.specs.Prelude.{ℕ, Option, Some, None, List, [], ◌++◌, codes, encode_utf8}
 use Rattle.std.specs.Fmt.{decimal}
 use Rattle.ps_causes.specs.declared.causes.NoRow.{NoRow}
@@ -36,7 +36,7 @@ why_no_row_words (Length word count) = length_words word.text.now count
 why_no_row_words (Character word character) = character_words word.text.now character
 why_no_row_words Untold = codes "."
 
--- that a line is none, behind a blank, if there is such a line
+-- that a line is none, after a blank, if there is such a line
 abbrev pub no_row_words : Option NoRow → List ℕ
 no_row_words None = []
 no_row_words (Some below) = codes " Line " ++ (decimal below.line ++ (codes " is none" ++ why_no_row_words below.why))
@@ -47,7 +47,7 @@ short_words name rows below =
     codes "The sprite of `" ++ (name ++ (codes "` has " ++ (decimal rows ++ (codes " of five rows." ++
     no_row_words below))))
 
--- what is told of an object
+-- what is said about an object
 abbrev pub object_sentence : ObjectCause → List ℕ
 object_sentence (RowName word) = row_name_words word.text.now
 object_sentence (Colourless name below) = colourless_words name.text.now below

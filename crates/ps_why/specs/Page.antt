@@ -10,7 +10,7 @@ use Rattle.ps_why.specs.Lines.{goes_on, line_bytes, shown_from}
 use Rattle.ps_why.specs.Marks.{have}
 use Rattle.ps_why.specs.Shown.{shown_text}
 
--- a line's number, at the right of six columns, with two blanks behind it
+-- a line's number, at the right of six columns, with two blanks after it
 abbrev pub number_shown : ℕ → List ℕ
 number_shown line = repeat (6 - length (decimal line)) (codes " ") ++ (decimal line ++ codes "  ")
 
@@ -18,7 +18,7 @@ number_shown line = repeat (6 - length (decimal line)) (codes " ") ++ (decimal l
 abbrev pub valid_front : List ℕ → List ℕ
 valid_front bytes = take (utf8_valid_len bytes) bytes
 
--- bytes of a line, behind two points where they aren't its front, and a line feed
+-- bytes of a line, after two points where they aren't its front, and a line feed
 abbrev pub front_shown : List ℕ → Bool → List ℕ
 front_shown line is_front = (if is_front then [] else codes "..") ++ (shown_text (valid_front line) ++ 10 ∷ [])
 
@@ -39,11 +39,11 @@ marks_shown line start is_front None = []
 marks_shown line start is_front (Some marks) =
     (if is_front then codes "        " else codes "          ") ++ (carets marks start line ++ 10 ∷ [])
 
--- bytes of a line from a place on, as they are shown: at most so many
+-- bytes of a line from a place on, as they are shown, up to a limit
 abbrev pub part_shown : List ℕ → ℕ → Bool → Option Marks → List ℕ
 part_shown line start is_front marks = front_shown line is_front ++ marks_shown line start is_front marks
 
--- a line of a text behind its number, and below it the marks
+-- a line of a text after its number, and below it the marks
 abbrev pub line_shown : List ℕ → ℕ → Option Marks → List ℕ
 line_shown text line marks =
     let bytes = line_bytes text line in

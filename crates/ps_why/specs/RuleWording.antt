@@ -1,4 +1,4 @@
--- What is told of a rule, in words.
+-- What is said about a rule, in words.
 use Rattle.std.specs.Prelude.{ℕ, nat_lt, if◌then◌else◌, List, ◌++◌, codes}
 use Rattle.std.specs.Fmt.{decimal}
 use Rattle.ps_causes.specs.declared.causes.Further.{Further}
@@ -30,7 +30,7 @@ several_words word line =
     codes "Line " ++ (decimal line ++ (codes " makes `" ++ (word ++
     codes "` several objects at once, and `no` can't stand before such a name.")))
 
--- that of so many words two were told
+-- that of `times` words two were told
 abbrev pub further_words : ℕ → List ℕ
 further_words times = if nat_lt 2 times then codes " among them." else codes "."
 
@@ -43,7 +43,7 @@ abbrev pub other_words : List ℕ → ℕ → List ℕ
 other_words name cell =
     codes ". It has another property, `" ++ (name ++ (codes "` in cell " ++ (decimal cell ++ codes ".")))
 
--- what of the left could be meant, where so many of it are like the word
+-- what of the left could be meant, where `times` of it are like the word
 abbrev pub could_words : ℕ → Could → List ℕ
 could_words times Nothing = codes "."
 could_words times (Either first second) =
@@ -79,7 +79,7 @@ abbrev pub going_on_words : Further → List ℕ
 going_on_words further =
     codes "A rule is written in one line, and line " ++ (decimal further.line ++ part_words further.part)
 
--- what is told of a rule
+-- what is said about a rule
 abbrev pub rule_sentence : RuleCause → List ℕ
 rule_sentence (Pair word other shared) = pair_words word.text.now other.text.now shared
 rule_sentence (Several word declared) = several_words word.text.now declared

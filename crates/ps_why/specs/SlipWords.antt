@@ -1,4 +1,4 @@
--- What is told of a word that has a slip: what stands before it, the word, and what stands behind it.
+-- What is said about a word that has a slip: what stands before it, the word, and what stands after it.
 use Rattle.std.specs.Prelude.{ℕ, List, ◌++◌, codes}
 use Rattle.ps_facts.specs.declared.slips.ShapeSlip.{ShapeSlip}
 use Rattle.ps_facts.specs.declared.slips.ShapeSlip.TheVariants.{LikeArrow, LikeBracket, NoArrow, SecondArrow}
@@ -35,7 +35,7 @@ shape_front BarOutside = codes "`"
 shape_front DirectionOutside = codes "`"
 shape_front WordOutside = codes "`"
 
--- what stands behind it
+-- what stands after it
 abbrev pub shape_back : ShapeSlip → List ℕ
 shape_back LikeArrow = codes "` isn't one."
 shape_back LikeBracket = codes "` is neither."
@@ -59,7 +59,7 @@ rule_front Chance = codes "`"
 rule_front Rigid = codes "`"
 rule_front TwiceInCell = codes "`"
 
--- what stands behind it
+-- what stands after it
 abbrev pub rule_back : RuleSlip → List ℕ
 rule_back LoopWords = codes "` has to stand alone in its line."
 rule_back MessageAlone = codes "` stands in a line without `->`: a rule has its message behind that."
@@ -80,7 +80,7 @@ place_front OutsideLeft = codes "`"
 place_front BeforeRow = codes "`"
 place_front NoCommand = codes "`"
 
--- what stands behind it
+-- what stands after it
 abbrev pub place_back : PlaceSlip → List ℕ
 place_back Ahead = codes "` stands before the first `[`, where only `late` and directions do, and `+` first of all."
 place_back CommandInCell = codes "` stands in brackets: a command stands behind the last `]` of the right."
@@ -106,7 +106,7 @@ form_front ThirdName = codes "An object's line has its name, and perhaps a secon
 form_front NameAgain = codes "`"
 form_front RealTime = codes "`"
 
--- what stands behind it
+-- what stands after it
 abbrev pub form_back : FormSlip → List ℕ
 form_back NoEquals = codes "` stands where `=` has to."
 form_back NoJoiner = codes "` stands where `and` or `or` has to."
@@ -129,13 +129,13 @@ slip_front (Rule slip) = rule_front slip
 slip_front (Place slip) = place_front slip
 slip_front (Form slip) = form_front slip
 
--- what stands behind it
+-- what stands after it
 abbrev pub slip_back : Slip → List ℕ
 slip_back (Shape slip) = shape_back slip
 slip_back (Rule slip) = rule_back slip
 slip_back (Place slip) = place_back slip
 slip_back (Form slip) = form_back slip
 
--- what is told of a word that has a slip
+-- what is said about a word that has a slip
 abbrev pub slip_words : Slip → List ℕ → List ℕ
 slip_words slip word = slip_front slip ++ (word ++ slip_back slip)

@@ -1,4 +1,4 @@
--- What is told of a fault: the line that has it, and why it has it.
+-- What is said about a fault: the line that has it, and why it has it.
 use Rattle.std.specs.Prelude.{◌≡◌, ℕ, nat_lt, if◌then◌else◌, List, [], length}
 use Rattle.ps_model.specs.declared.limits.TheConstants.{TEXT_LIMIT}
 use Rattle.ps_causes.specs.declared.causes.Cause.{Cause}

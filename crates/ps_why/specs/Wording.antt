@@ -1,4 +1,4 @@
--- What is told of a fault, in words.
+-- What is said about a fault, in words.
 use Rattle.std.specs.Prelude.{ℕ, nat_eq, nat_lt, true, if◌then◌else◌, List, [], ◌++◌, codes}
 use Rattle.std.specs.Prelude.{encode_utf8}
 use Rattle.std.specs.Fmt.{decimal, digits}
@@ -47,7 +47,7 @@ abbrev pub strange_words : ℕ → List ℕ → List ℕ
 strange_words character like =
     codes " Its character " ++ (code_words character ++ (codes " looks like " ++ (like ++ codes ".")))
 
--- what is told of a word, behind a blank
+-- what is said about a word, after a blank
 abbrev pub hint_words : Hint → List ℕ
 hint_words Nothing = []
 hint_words (Near named) = near_words named.line named.name.now
@@ -87,20 +87,20 @@ late_words section above other =
     else section_name section ++ (codes " has to stand above " ++ (section_name other ++
     (codes ", which begins in line " ++ (decimal above ++ codes "."))))
 
--- that a line isn't a header, behind a blank
+-- that a line isn't a header, after a blank
 abbrev pub like_words : ℕ → List ℕ
 like_words line = codes " Line " ++ (decimal line ++ codes " isn't one: a header is that word alone.")
 
--- that a comment isn't closed, behind a blank
+-- that a comment isn't closed, after a blank
 abbrev pub open_words : ℕ → List ℕ
 open_words line = codes " In line " ++ (decimal line ++ codes " a `(` begins a comment that nothing closes.")
 
--- that lines don't end at line feeds, behind a blank
+-- that lines don't end at line feeds, after a blank
 abbrev pub returns_words : ℕ → List ℕ
 returns_words place =
     codes " No line feed ends a line here: byte " ++ (decimal place ++ codes " is a carriage return, which is a blank.")
 
--- what a section that isn't there may come from, behind a blank
+-- what a section that isn't there may come from, after a blank
 abbrev pub clue_words : Clue → List ℕ
 clue_words clues.Nothing = []
 clue_words (clues.Like line) = like_words line
@@ -140,7 +140,7 @@ like_header_words section =
 abbrev pub commas_words : List ℕ
 commas_words = codes "A line of COLLISIONLAYERS is names, parted by commas or blanks: this one has only commas."
 
--- what is told of a fault
+-- what is said about a fault
 abbrev pub sentence : Cause → List ℕ
 sentence Untold = []
 sentence (Undeclared word hint) = undeclared_words word.text.now hint

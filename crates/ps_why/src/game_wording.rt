@@ -1,4 +1,4 @@
-//! What is told of loops, and of names that the whole game has, in words.
+//! What is said about loops, and of names that the whole game has, in words.
 
 ghost use Rattle.std.specs.Prelude.{◌≡◌, IfOk, string_bytes};
 ghost use Rattle.ps_why.specs.GameWording.{nested_words, unbegun_words, loop_sentence, at_once_words, apart_words};
@@ -28,7 +28,7 @@ fn unbegun_words(alloc: Global, ended: Option<u32>) -> Result<String, Memory>
     Ok(words)
 }
 
-/// What is told of a loop.
+/// What is said about a loop.
 pub fn loop_sentence(alloc: Global, cause: LoopCause<'_>) -> Result<String, Memory>
     ensures { IfOk result (λ words. string_bytes words ≡ loop_sentence cause.entry) }
 {
@@ -69,7 +69,7 @@ fn apart_words(
     Ok(words)
 }
 
-/// What is told of a name that the whole game has.
+/// What is said about a name that the whole game has.
 pub fn whole_sentence(alloc: Global, cause: WholeCause<'_>) -> Result<String, Memory>
     ensures { IfOk result (λ words. string_bytes words ≡ whole_sentence cause.entry) }
 {

@@ -42,7 +42,7 @@ fn line_end(text: &[u8], from: usize) -> usize
     text.len()
 }
 
-/// The place behind so many line feeds, or else the text's end.
+/// The place after `feeds` line feeds, or else the text's end.
 fn behind_feeds(text: &[u8], feeds: usize) -> usize
     ensures place { result ≡ behind_feeds 0 feeds text.now }
     ensures within { result ≤ length text.now }
@@ -70,7 +70,7 @@ fn mark_length(text: &[u8]) -> usize
     0
 }
 
-/// Where the line of a number begins, from 1: behind the line feeds before it, and behind a byte order mark.
+/// Where the line of a number begins, from 1: after the line feeds before it, and after a byte order mark.
 fn line_start(text: &[u8], line: u32) -> usize
     ensures place { result ≡ line_start text.now line }
     ensures within { result ≤ length text.now }

@@ -35,7 +35,7 @@ fn mark_of_word(word: Word<'_>) -> Option<Marks>
     alone(below(word))
 }
 
-/// What stands below the blank behind a word.
+/// What stands below the blank after a word.
 fn mark_behind(word: Word<'_>) -> Option<Marks>
     ensures { result ≡ mark_behind word.entry }
 {
@@ -46,7 +46,7 @@ fn mark_behind(word: Word<'_>) -> Option<Marks>
     })
 }
 
-/// The place of the first byte of a character, counted from 1, if there are so many.
+/// The place of the first byte of a character, counted from 1, if there is that one.
 fn character_place(bytes: &[u8], column: usize) -> Option<usize>
     ensures place { result ≡ character_place 0 column bytes.now }
     ensures within { IfSome result (λ at. at < length bytes.now) }

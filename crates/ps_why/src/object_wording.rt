@@ -1,4 +1,4 @@
-//! What is told of an object, in words.
+//! What is said about an object, in words.
 
 ghost use Rattle.std.specs.Prelude.{◌≡◌, IfOk, string_bytes};
 ghost use Rattle.ps_why.specs.ObjectWording.{row_name_words, colourless_words, why_no_row_words, no_row_words};
@@ -66,7 +66,7 @@ fn why_no_row_words(alloc: Global, why: WhyNoRow<'_>) -> Result<String, Memory>
     }
 }
 
-/// That a line is none, behind a blank, if there is such a line.
+/// That a line is none, after a blank, if there is such a line.
 fn no_row_words(alloc: Global, below: Option<NoRow<'_>>) -> Result<String, Memory>
     ensures { IfOk result (λ words. string_bytes words ≡ no_row_words below.entry) }
 {
@@ -93,7 +93,7 @@ fn short_words(
     Ok(words)
 }
 
-/// What is told of an object.
+/// What is said about an object.
 pub fn object_sentence(alloc: Global, cause: ObjectCause<'_>) -> Result<String, Memory>
     ensures { IfOk result (λ words. string_bytes words ≡ object_sentence cause.entry) }
 {

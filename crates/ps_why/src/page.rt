@@ -34,7 +34,7 @@ fn whole_text(bytes: &[u8]) -> &str
     }
 }
 
-/// A line's number, at the right of six columns, with two blanks behind it.
+/// A line's number, at the right of six columns, with two blanks after it.
 fn number_shown(alloc: Global, line: u32) -> Result<String, Memory>
     ensures { IfOk result (λ shown. string_bytes shown ≡ number_shown line) }
 {
@@ -42,7 +42,7 @@ fn number_shown(alloc: Global, line: u32) -> Result<String, Memory>
     Ok(number)
 }
 
-/// Puts bytes of a line last, as they are shown, as far as they are UTF-8: behind two points, where they aren't the
+/// Puts bytes of a line last, as they are shown, as far as they are UTF-8: after two points, where they aren't the
 /// line's front.
 fn push_front(alloc: Global, page: &mut String, line: &[u8], is_front: bool) -> Result<(), Memory>
     ensures { OnOk result (string_bytes page.new ≡ string_bytes page.old ++ front_shown line.now is_front) }
@@ -113,8 +113,8 @@ fn part_of(text: &[u8], from: usize, to: usize) -> &[u8]
     &line[..MOST_SHOWN.min(line.len())]
 }
 
-/// Puts bytes of a line last, of which the first stands at a place of the text, and below them the marks, if there are
-/// some.
+/// Puts bytes of a line last, the first of which stands at a place of the text. Below them it puts the marks, if there
+/// are some.
 fn push_part(
     alloc: Global,
     page: &mut String,
@@ -134,7 +134,7 @@ fn push_part(
     }
 }
 
-/// A line of a text behind its number, and below it the marks, if there are some. Of a long line a part is shown, which
+/// A line of a text after its number, and below it the marks, if there are some. Of a long line a part is shown, which
 /// begins with `..` where it isn't the front.
 pub fn line_shown(
     alloc: Global,

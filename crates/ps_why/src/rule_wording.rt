@@ -1,4 +1,4 @@
-//! What is told of a rule, in words.
+//! What is said about a rule, in words.
 
 ghost use Rattle.std.specs.Prelude.{◌≡◌, IfOk, string_bytes};
 ghost use Rattle.ps_why.specs.RuleWording.{pair_words, several_words, unbound_words, rows_words, cells_words};
@@ -51,7 +51,7 @@ fn several_words(alloc: Global, word: &str, line: u32) -> Result<String, Memory>
     Ok(words)
 }
 
-/// That of so many words two were told.
+/// That of `times` words two were told.
 fn further_words(times: usize) -> &'static str
     ensures { result.now ≡ further_words times }
 {
@@ -89,7 +89,7 @@ fn other_words(alloc: Global, name: &str, cell: usize) -> Result<String, Memory>
     Ok(words)
 }
 
-/// What of the left could be meant, where so many of it are like the word.
+/// What of the left could be meant, where `times` of it are like the word.
 fn could_words(alloc: Global, times: usize, could: Could<'_>) -> Result<String, Memory>
     ensures { IfOk result (λ words. string_bytes words ≡ could_words times could.entry) }
 {
@@ -160,7 +160,7 @@ fn going_on_words(alloc: Global, further: Further) -> Result<String, Memory>
     Ok(words)
 }
 
-/// What is told of a rule.
+/// What is said about a rule.
 pub fn rule_sentence(alloc: Global, cause: RuleCause<'_>) -> Result<String, Memory>
     ensures { IfOk result (λ words. string_bytes words ≡ rule_sentence cause.entry) }
 {

@@ -1,4 +1,4 @@
-//! Slips in words: what stands before the word that has one, and what behind it.
+//! Slips in words: what stands before the word that has one, and what after it.
 
 ghost use Rattle.std.specs.Prelude.{◌≡◌, IfOk, string_bytes};
 ghost use Rattle.ps_why.specs.SlipWords.{shape_front, shape_back, rule_front, rule_back, form_front, form_back};
@@ -29,7 +29,7 @@ fn shape_front(slip: ShapeSlip) -> &'static str
     }
 }
 
-/// What stands behind it.
+/// What stands after it.
 fn shape_back(slip: ShapeSlip) -> &'static str
     ensures { result.now ≡ shape_back slip }
 {
@@ -64,7 +64,7 @@ fn rule_front(slip: RuleSlip) -> &'static str
     }
 }
 
-/// What stands behind it.
+/// What stands after it.
 fn rule_back(slip: RuleSlip) -> &'static str
     ensures { result.now ≡ rule_back slip }
 {
@@ -97,7 +97,7 @@ fn place_front(slip: PlaceSlip) -> &'static str
     }
 }
 
-/// What stands behind it.
+/// What stands after it.
 fn place_back(slip: PlaceSlip) -> &'static str
     ensures { result.now ≡ place_back slip }
 {
@@ -137,7 +137,7 @@ fn form_front(slip: FormSlip) -> &'static str
     }
 }
 
-/// What stands behind it.
+/// What stands after it.
 fn form_back(slip: FormSlip) -> &'static str
     ensures { result.now ≡ form_back slip }
 {
@@ -169,7 +169,7 @@ fn slip_front(slip: Slip) -> &'static str
     }
 }
 
-/// What stands behind it.
+/// What stands after it.
 fn slip_back(slip: Slip) -> &'static str
     ensures { result.now ≡ slip_back slip }
 {
@@ -181,7 +181,7 @@ fn slip_back(slip: Slip) -> &'static str
     }
 }
 
-/// What is told of a word that has a slip.
+/// What is said about a word that has a slip.
 pub fn slip_words(alloc: Global, slip: Slip, word: &str) -> Result<String, Memory>
     ensures { IfOk result (λ words. string_bytes words ≡ slip_words slip word.now) }
 {

@@ -1,4 +1,4 @@
-//! What is told of a fault of a text.
+//! What is said about a fault of a text.
 
 ghost use Rattle.std.specs.Prelude.{◌≡◌, ◌≤◌, length, IfOk, string_bytes};
 ghost use Rattle.ps_model.specs.declared.limits.TheConstants.{TEXT_LIMIT};
@@ -14,17 +14,17 @@ use ps_model::{Fault, Memory, Refusal, TEXT_LIMIT};
 use ps_text::Source;
 use std::alloc::Global;
 
-/// What is told of a fault.
+/// What is said about a fault.
 #[derive(Drop)]
 pub struct Details {
-    /// The line that has the fault, behind its number, and below it a mark under the words that it is about, if there
+    /// The line that has the fault, after its number, and below it a mark under the words that it is about, if there
     /// are such. Each line ends with a line feed. Of a text that is too long, nothing.
     pub line: String,
     /// A sentence or two, without a line feed. Empty where no more is told than the fault.
     pub sentence: String,
 }
 
-/// What is told of a fault that has that cause.
+/// What is said about a fault that has that cause.
 fn told_by(alloc: Global, text: &[u8], fault: Fault, cause: Cause<'_>) -> Result<Details, Memory>
     requires short { length text.now ≤ TEXT_LIMIT }
     requires cause { IsToldAt text.now fault.line cause }
@@ -37,7 +37,7 @@ fn told_by(alloc: Global, text: &[u8], fault: Fault, cause: Cause<'_>) -> Result
     Ok(Details { line, sentence })
 }
 
-/// What is told of a fault of a text that was read.
+/// What is said about a fault of a text that was read.
 fn told_of(alloc: Global, text: &[u8], source: &Source, fault: Fault) -> Result<Details, Memory>
     requires short { length text.now ≤ TEXT_LIMIT }
     requires source { source.now ≡ text.now }
@@ -48,7 +48,7 @@ fn told_of(alloc: Global, text: &[u8], source: &Source, fault: Fault) -> Result<
     told_by(alloc, text, fault, cause)
 }
 
-/// What is told of a fault of a text. The sentence is that of a cause that is true of the text, and the marks stand
+/// What is said about a fault of a text. The sentence is that of a cause that is true of the text, and the marks stand
 /// below what that cause speaks of.
 ///
 /// # Errors

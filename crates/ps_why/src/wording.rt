@@ -72,7 +72,7 @@ fn strange_words(alloc: Global, character: char, like: &str) -> Result<String, M
     Ok(words)
 }
 
-/// What is told of a word, behind a blank.
+/// What is said about a word, after a blank.
 fn hint_words(alloc: Global, hint: Hint<'_>) -> Result<String, Memory>
     ensures { IfOk result (λ words. string_bytes words ≡ hint_words hint.entry) }
 {
@@ -151,7 +151,7 @@ fn late_words(alloc: Global, section: Section, above: u32, other: Section) -> Re
     Ok(words)
 }
 
-/// That a line isn't a header, behind a blank.
+/// That a line isn't a header, after a blank.
 fn like_words(alloc: Global, line: u32) -> Result<String, Memory>
     ensures { IfOk result (λ words. string_bytes words ≡ like_words line) }
 {
@@ -159,7 +159,7 @@ fn like_words(alloc: Global, line: u32) -> Result<String, Memory>
     Ok(words)
 }
 
-/// That a comment isn't closed, behind a blank.
+/// That a comment isn't closed, after a blank.
 fn open_words(alloc: Global, line: u32) -> Result<String, Memory>
     ensures { IfOk result (λ words. string_bytes words ≡ open_words line) }
 {
@@ -167,7 +167,7 @@ fn open_words(alloc: Global, line: u32) -> Result<String, Memory>
     Ok(words)
 }
 
-/// That lines don't end at line feeds, behind a blank.
+/// That lines don't end at line feeds, after a blank.
 fn returns_words(alloc: Global, place: usize) -> Result<String, Memory>
     ensures { IfOk result (λ words. string_bytes words ≡ returns_words place) }
 {
@@ -177,7 +177,7 @@ fn returns_words(alloc: Global, place: usize) -> Result<String, Memory>
     Ok(words)
 }
 
-/// What a section that isn't there may come from, behind a blank.
+/// What a section that isn't there may come from, after a blank.
 fn clue_words(alloc: Global, clue: Clue) -> Result<String, Memory>
     ensures { IfOk result (λ words. string_bytes words ≡ clue_words clue) }
 {
@@ -258,7 +258,7 @@ fn commas_words(alloc: Global) -> Result<String, Memory>
     Ok(words)
 }
 
-/// What is told of a fault: a sentence or two, and nothing where nothing is told.
+/// What is said about a fault: a sentence or two, and nothing where nothing is told.
 pub fn sentence(alloc: Global, cause: Cause<'_>) -> Result<String, Memory>
     ensures { IfOk result (λ words. string_bytes words ≡ sentence cause.entry) }
 {

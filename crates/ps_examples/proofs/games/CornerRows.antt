@@ -131,7 +131,7 @@ no_takes_the_move : written (base_game (codes "[ Player ] -> [ Player no Player 
 unfolding chars digits is_utf8 utf8_valid_len encode group program_run all_start_turns all_key_turns turn opening_step
 no_takes_the_move = refl
 
--- a property on the right keeps what stands there behind `no`
+-- a property on the right keeps what stands there after `no`
 no_before_a_loose_property : written (with_legend (codes "AC = A or C\n") (codes "[ AC ] -> [ AC no A ]\n") (codes "AC\n")) (codes "x")
     ≡ Some (codes "= T\n# level 1\nAC\n\n.C\n\n* end of keys\n")
 unfolding chars digits is_utf8 utf8_valid_len encode group program_run all_start_turns all_key_turns turn opening_step
@@ -211,26 +211,26 @@ loops_share_their_repeats : written (base_game (codes "startloop\n[ D ] -> [ A ]
 unfolding chars digits is_utf8 utf8_valid_len encode group program_run all_start_turns all_key_turns turn opening_step
 loops_share_their_repeats = refl
 
--- twenty loops, each of which repeats ten times, are within the limit: what stands behind them is run
+-- twenty loops, each of which repeats ten times, are within the limit: what stands after them is run
 two_hundred_repeats : written (base_game (repeat 10 (codes "startloop\n[ C ] -> [ A ]\nright [ A | ] -> [ | C ]\nendloop\nstartloop\n[ C ] -> [ A ]\nleft [ A | ] -> [ | C ]\nendloop\n") ++ codes "[ A ] -> [ B ]\n") [] (codes "A.........\n")) (codes "x")
     ≡ Some (codes "= T\n# level 1\nA.........\n\nB.........\n\n* end of keys\n")
 unfolding chars digits is_utf8 utf8_valid_len encode group program_run all_start_turns all_key_turns turn opening_step
 two_hundred_repeats = refl
 
--- with one repeat before them, the last of these is over the limit: what stands behind them isn't run
+-- with one repeat before them, the last of these is over the limit: what stands after them isn't run
 one_repeat_more : written (base_game (codes "startloop\n[ D ] -> [ A ]\nendloop\n" ++ (repeat 10 (codes "startloop\n[ C ] -> [ A ]\nright [ A | ] -> [ | C ]\nendloop\nstartloop\n[ C ] -> [ A ]\nleft [ A | ] -> [ | C ]\nendloop\n") ++ codes "[ A ] -> [ B ]\n")) [] (codes "D.........\n")) (codes "x")
     ≡ Some (codes "= T\n# level 1\nD.........\n\nA.........\n\n* end of keys\n")
 unfolding chars digits is_utf8 utf8_valid_len encode group program_run all_start_turns all_key_turns turn opening_step
 one_repeat_more = refl
 
--- a cell that is changed and changed back has changed: where no repeat is left, what stands behind such a loop isn't
+-- a cell that is changed and changed back has changed: where no repeat is left, what stands after such a loop isn't
 -- run
 changed_back_counts : written (base_game (repeat 10 (codes "startloop\n[ C ] -> [ A ]\nright [ A | ] -> [ | C ]\nendloop\nstartloop\n[ C ] -> [ A ]\nleft [ A | ] -> [ | C ]\nendloop\n") ++ codes "startloop\n[ A ] [ A ] -> [ B ] [ A ]\nendloop\n[ A ] -> [ B ]\n") [] (codes "A.........\n")) (codes "x")
     ≡ Some (codes "= T\n# level 1\nA.........\n\nA.........\n\n* end of keys\n")
 unfolding chars digits is_utf8 utf8_valid_len encode group program_run all_start_turns all_key_turns turn opening_step
 changed_back_counts = refl
 
--- behind a loop that never ends the turn goes on with the movement and the late rules
+-- after a loop that never ends the turn goes on with the movement and the late rules
 behind_a_stopped_loop : written (base_game (codes "startloop\n[ C ] -> [ A ]\n[ B ] -> [ C ]\n[ A ] -> [ B ]\nendloop\n[ B ] -> [ D ]\nlate [ Player ] [ B ] -> [ Crate ] [ B ]\n") [] (codes "P.A\n")) (codes "d")
     ≡ Some (codes "= T\n# level 1\nP.A\n\n.*B\n\n* end of keys\n")
 unfolding chars digits is_utf8 utf8_valid_len encode group program_run all_start_turns all_key_turns turn opening_step
@@ -238,7 +238,7 @@ behind_a_stopped_loop = refl
 
 -- movement ------------------------------------------------------------------------------------------------------------
 
--- who doesn't get its cell stays, and so do those behind it
+-- who doesn't get its cell stays, and so do those after it
 loser_holds_up_its_row : written (base_game (codes "[ A ] -> [ right A ]\n[ B ] -> [ left B ]\n[ C ] -> [ up C ]\n[ D ] -> [ down D ]\n") [] (codes "A.BB\n")) (codes "x")
     ≡ Some (codes "= T\n# level 1\nA.BB\n\n.ABB\n\n* end of keys\n")
 unfolding chars digits is_utf8 utf8_valid_len encode group program_run all_start_turns all_key_turns turn opening_step
@@ -258,13 +258,13 @@ cancel_empties_the_queue : written (base_game (codes "[ Player ] -> message One\
 unfolding chars digits is_utf8 utf8_valid_len encode group program_run all_start_turns all_key_turns turn opening_step
 cancel_empties_the_queue = refl
 
--- `cancel` comes through behind `restart`, and drops its message
+-- `cancel` comes through after `restart`, and drops its message
 cancel_behind_restart : written (base_game (codes "[ Player ] -> restart message One\n[ Player ] -> cancel message Two\n") [] (codes "P.\n")) (codes "d")
     ≡ Some (codes "= T\n# level 1\nP.\n\nP.\n\n! Two\n* end of keys\n")
 unfolding chars digits is_utf8 utf8_valid_len encode group program_run all_start_turns all_key_turns turn opening_step
 cancel_behind_restart = refl
 
--- behind `restart` neither a win nor a message comes through
+-- after `restart` neither a win nor a message comes through
 nothing_behind_restart : written (base_game (codes "[ action Player ] -> restart\n[ action Player ] -> win message No\n") [] (codes "P.\n")) (codes "dx")
     ≡ Some (codes "= T\n# level 1\nP.\n\n.P\n\nP.\n\n* end of keys\n")
 unfolding chars digits is_utf8 utf8_valid_len encode group program_run all_start_turns all_key_turns turn opening_step
@@ -288,13 +288,13 @@ message_without_text : written (base_game (codes "[ Player ] -> message\n") [] (
 unfolding chars digits is_utf8 utf8_valid_len encode group program_run all_start_turns all_key_turns turn opening_step
 message_without_text = refl
 
--- again turns come behind the message of the key that asks for them, and one that wins counts though nothing changes
+-- again turns come after the message of the key that asks for them, and one that wins counts though nothing changes
 message_before_again_turns : written (base_game (codes "[ B ] -> win\n[ action Player ] [ A ] -> [ Player ] [ B ] again message Wait\n") [] (codes "PA\n")) (codes "xdx")
     ≡ Some (codes "= T\n# level 1\nPA\n\nPB\n\n! Wait\nPB\n\n* level 1 done\n* the end\n")
 unfolding chars digits is_utf8 utf8_valid_len encode group program_run all_start_turns all_key_turns turn opening_step
 message_before_again_turns = refl
 
--- behind a win no again turn follows
+-- after a win no again turn follows
 win_before_again : written (base_game (codes "[ B ] -> [ C ]\n[ action Player ] [ A ] -> [ Player ] [ B ] again win\n") [] (codes "PA\n\nP\n")) (codes "x")
     ≡ Some (codes "= T\n# level 1\nPA\n\nPB\n\n* level 1 done\n# level 2\nP\n\n* end of keys\n")
 unfolding chars digits is_utf8 utf8_valid_len encode group program_run all_start_turns all_key_turns turn opening_step
@@ -356,7 +356,7 @@ no_win_at_the_start : written (with_option (codes "run_rules_on_level_start") (c
 unfolding chars digits is_utf8 utf8_valid_len encode group program_run all_start_turns all_key_turns turn opening_step
 no_win_at_the_start = refl
 
--- behind the message of a start its again turns go on as those of a start: a restart doesn't count
+-- after the message of a start its again turns go on as those of a start: a restart doesn't count
 start_behind_its_message : written (with_option (codes "run_rules_on_level_start") (codes "[ B ] -> restart message Back\n[ A ] -> [ B ] again message Go\n") (codes "A\n")) (codes "xq")
     ≡ Some (codes "= T\n# level 1\nB\n\n! Go\n* quit\n")
 unfolding chars digits is_utf8 utf8_valid_len encode group program_run all_start_turns all_key_turns turn opening_step
@@ -368,7 +368,7 @@ restart_at_the_start : written (with_option (codes "run_rules_on_level_start") (
 unfolding chars digits is_utf8 utf8_valid_len encode group program_run all_start_turns all_key_turns turn opening_step
 restart_at_the_start = refl
 
--- where a restart and the start behind it both have a message, that of the start is shown
+-- where a restart and the start after it both have a message, that of the start is shown
 message_of_the_start : written (with_option (codes "run_rules_on_level_start") (codes "[ action Player ] -> restart message Back\n[ A ] -> message Go\n") (codes "PA\n")) (codes "xx")
     ≡ Some (codes "= T\n# level 1\nPA\n\n! Go\nPA\n\n! Go\n* end of keys\n")
 unfolding chars digits is_utf8 utf8_valid_len encode group program_run all_start_turns all_key_turns turn opening_step
@@ -406,7 +406,7 @@ level_forgets_the_last : written (base_game [] (codes "All Player on Target\n") 
 unfolding chars digits is_utf8 utf8_valid_len encode group program_run all_start_turns all_key_turns turn opening_step
 level_forgets_the_last = refl
 
--- behind the end keys mean nothing
+-- after the end keys mean nothing
 keys_behind_the_end : written (base_game [] (codes "All Player on Target\n") (codes "PO\n")) (codes "ddzrxq")
     ≡ Some (codes "= T\n# level 1\nPO\n\n.P\n\n* level 1 done\n* the end\n")
 unfolding chars digits is_utf8 utf8_valid_len encode group program_run all_start_turns all_key_turns turn opening_step

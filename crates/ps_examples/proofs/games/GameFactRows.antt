@@ -32,7 +32,7 @@ no_objects = record { entries = []; layers = []; layer_count = 0; glyphs = [] }
 
 -- levels -----------------------------------------------------------------------------------------------------------------
 
--- a level of one cell with these objects, with so many columns
+-- a level of one cell with these objects, `width` columns wide
 abbrev one_cell : ℕ → List ObjectId → Level
 one_cell width objects = record { width = width; height = 1; cells = objects ∷ [] }
 

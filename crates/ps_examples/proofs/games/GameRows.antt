@@ -123,7 +123,7 @@ hidden : first (base_head ++ codes "RULES (\nWINCONDITIONS\nLEVELS\nP.\n") ≡ a
 unfolding chars is_utf8 encode utf8_valid_len
 hidden = refl
 
--- a text that is cut off: within the last header, behind it, behind the first character of a level
+-- a text that is cut off: within the last header, after it, after the first character of a level
 cut_off : map (λ end. first (base_head ++ codes "WINCONDITIONS\n" ++ end)) (codes "LEVEL" ∷ codes "LEVELS" ∷ codes "LEVELS\n#" ∷ [])
     ≡ at_line 30 NoSection ∷ at_line 30 NoLevel ∷ None ∷ []
 unfolding chars is_utf8 encode utf8_valid_len
@@ -184,7 +184,7 @@ rules_second : first (base_game (codes "[ A ] ->\n") (codes "No Q\n") (codes "P?
 unfolding chars digits is_utf8 encode utf8_valid_len
 rules_second = refl
 
--- a rule of which every reading is impossible comes behind them all
+-- a rule of which every reading is impossible comes after them all
 abbrev impossible_rule : List ℕ
 impossible_rule = codes "[ Player Wall ] -> [ Player ]\n"
 

@@ -25,7 +25,7 @@ behind_a_whole_one = refl
 bracket_alone : held (91 ∷ []) ≡ []
 bracket_alone = refl
 
--- `wESC[` has the key of `w`, and with `C` behind it an arrow too
+-- `wESC[` has the key of `w`, and with `C` after it an arrow too
 first_piece : keys_of (before_held (119 ∷ 27 ∷ 91 ∷ [])) ≡ Move Up ∷ []
 first_piece = refl
 

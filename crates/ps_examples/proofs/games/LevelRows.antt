@@ -50,7 +50,7 @@ level width height cells = LevelEntry (record { width = width; height = height; 
 
 -- cells ------------------------------------------------------------------------------------------------------------------
 
--- columns from the left, each from the top; a cell without background gets it behind its own objects; an aggregate
+-- columns from the left, each from the top; a cell without background gets it after its own objects; an aggregate
 -- shows all its objects, a synonym its object
 cells_in_columns : entries (codes "P@\n.#\n") ≡ level 2 2 ((1 ∷ 0 ∷ []) ∷ (0 ∷ []) ∷ (2 ∷ 3 ∷ 0 ∷ []) ∷ (2 ∷ 0 ∷ []) ∷ []) ∷ []
 unfolding chars encode
@@ -141,7 +141,7 @@ unfolding chars encode
 comment_beside = refl
 
 -- the text of a message is taken as it stands, but for the blanks at its ends; the word is known in any case of
--- letters, and a comment may stand before it; a message may be empty, and `(` right behind the word begins its text
+-- letters, and a comment may stand before it; a message may be empty, and `(` right after the word begins its text
 messages : entries (codes "message Hello (World)\nMESSAGE  Two  words \n(x) Message (y\nmessage(a) b\nmessage")
     ≡ map MessageEntry (codes "Hello (World)" ∷ codes "Two  words" ∷ codes "(y" ∷ codes "(a) b" ∷ [] ∷ [])
 unfolding chars encode
@@ -217,7 +217,7 @@ property_before_wide : first (codes "q" ++ replicate 64 46) ≡ at_line 2 Proper
 unfolding chars encode
 property_before_wide = refl
 
--- so many rows, each a point
+-- `count` rows, each a point
 abbrev points : ℕ → List ℕ
 points count = flat_map (λ row. codes ".\n") (range_with_len 0 count)
 
@@ -256,7 +256,7 @@ too_many : first (many 999 ++ codes "P\nP") ≡ at_line 1001 TooManyEntries
 unfolding chars encode
 too_many = refl
 
--- the first fault of entries behind so many others
+-- the first fault of entries after `place` others
 abbrev first_behind : ℕ → List ℕ → Option Fault
 first_behind place rows = first_fault (entries_faults names place (entry_lines (section_lines (lines_of (codes "LEVELS\n" ++ rows)) Levels)))
 

@@ -107,7 +107,7 @@ no_layer : refused (changed 28 1 (codes "A B C\n") (base_game ([]) ([]) (codes "
 unfolding chars digits is_utf8 utf8_valid_len encode group program_run all_start_turns all_key_turns turn opening_step
 no_layer = refl
 
--- the base text with so many more objects, all on its last layer
+-- the base text with `count` more objects, all on its last layer
 abbrev with_objects : ℕ → List ℕ
 with_objects count = changed 21 0 (objects count) (changed 28 1 (codes "A B C D" ++ (names_of_objects count ++ codes "\n")) (base_game ([]) ([]) (codes "P\n")))
 
@@ -152,7 +152,7 @@ two_grounds = refl
 
 -- texts that are cut off -----------------------------------------------------------------------------------------------------
 
--- so many bytes of the text of a game that pushes; it has 327
+-- the first `count` bytes of the text of a game that pushes; it has 327
 abbrev cut : ℕ → List ℕ
 cut count = take count (base_game (codes "[ > Player | Crate ] -> [ > Player | > Crate ]\n") (codes "All Target on Crate\n") (codes "#P*O#\n"))
 

@@ -49,13 +49,13 @@ next_level : by_two (codes "[ action Player ] -> win\n") (codes "...P\n\n...A\n"
 unfolding chars digits is_utf8 utf8_valid_len encode group program_run all_start_turns all_key_turns turn opening_step
 next_level = refl
 
--- a blocked turn shows the board once more, in the same room; the message behind it leaves the room
+-- a blocked turn shows the board once more, in the same room; the message after it leaves the room
 blocked : by_two (codes "[ > Player | Wall ] -> cancel message Stop\n") (codes "..P#.\n") (codes "dxa")
     ≡ Some (codes "= T\n# level 1\nP#\n\nP#\n\n! Stop\n.P\n\n* end of keys\n")
 unfolding chars digits is_utf8 utf8_valid_len encode group program_run all_start_turns all_key_turns turn opening_step
 blocked = refl
 
--- each again turn shows its own room, and the first frame that of the board behind the turn of the start
+-- each again turn shows its own room, and the first frame that of the board after the turn of the start
 again_turns : by_two (codes "[ action Player ] -> [ right Player ] again\n[ stationary Player ] -> [ right Player ] again\n") (codes "P...\n") (codes "x")
     ≡ Some (codes "= T\n# level 1\nP.\n\n.P\n\nP.\n\n.P\n\n* end of keys\n")
 unfolding chars digits is_utf8 utf8_valid_len encode group program_run all_start_turns all_key_turns turn opening_step

@@ -1,5 +1,5 @@
 -- Whole runs that are right, worked by hand: the reader gives a byte at a call, or all that it has; the writer takes all,
--- or fails within a frame; memory is refused before anything is written, or behind a frame.
+-- or fails within a frame; memory is refused before anything is written, or after a frame.
 use Rattle.std.proofs.Common.{◌<◌, ◌≤◌, ◌≡◌, ℕ, inl, inr, List, [], ◌∷◌, refl, Some, true, false, arith}
 use Rattle.std.specs.Prelude.{codes}
 use Rattle.std.specs.Str.{chars, is_utf8}
@@ -35,7 +35,7 @@ has_game = refl
 a_byte : (byte : ℕ) → IsPiece (byte ∷ [])
 a_byte byte = record { some = omega arith; few = omega arith }
 
--- a byte at a call, and a byte that isn't read behind the ending
+-- a byte at a call, and a byte that isn't read after the ending
 byte_by_byte : Answers walk (record { reading = Asked ((100 ∷ []) ∷ (100 ∷ []) ∷ []) (Gives (codes "q")); left = codes "d"; wrote = codes "= T\n# level 1\nP..\n\n.P.\n\n..P\n\n* quit\n"; writer_failed = false; writes = 4; short_writes = 0 }) (Ends Quit)
 unfolding chars digits is_utf8 utf8_valid_len encode group program_run all_start_turns all_key_turns turn opening_step
 byte_by_byte = (
@@ -147,7 +147,7 @@ end_cut_off = (
   },
 )
 
--- the reader fails behind two keys
+-- the reader fails after two keys
 reading_fails : Answers walk (record { reading = Asked ((100 ∷ []) ∷ (100 ∷ []) ∷ []) Fails; left = []; wrote = codes "= T\n# level 1\nP..\n\n.P.\n\n..P\n\n"; writer_failed = false; writes = 3; short_writes = 0 }) CannotRead
 unfolding chars digits is_utf8 utf8_valid_len encode group program_run all_start_turns all_key_turns turn opening_step
 reading_fails = (

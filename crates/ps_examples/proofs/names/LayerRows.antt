@@ -1,6 +1,6 @@
 -- Texts with layers, good and bad, and what is wrong with the names as a whole, worked by hand. The lines of
--- COLLISIONLAYERS are those from line 13 on, or from line 15 on where there is a LEGEND of one line, from line 16 on
--- where it has two.
+-- COLLISIONLAYERS are those from line 13 on. They are those from line 15 on where there is a LEGEND of one line, from
+-- line 16 on where it has two.
 use Rattle.std.proofs.Common.{◌≡◌, ℕ, List, [], ◌∷◌, ◌++◌, map, refl, Option, Some, None}
 use Rattle.std.specs.Prelude.{codes, flat_map}
 use Rattle.std.specs.List.{range_with_len}

@@ -46,7 +46,7 @@ has_names objects legend layers = is_none (first_fault
 abbrev two_objects : List ℕ
 two_objects = codes "Background\nx\nPlayer p\ny\n00000\n.1234\n00000\n00000\n00000\n00000\nz\n"
 
--- behind five sprite rows a further row of that kind names an object; a line of `=` isn't there
+-- after five sprite rows a further row of that kind names an object; a line of `=` isn't there
 objects_good : has_names two_objects (codes "q = Player") (codes "Background, 00000\n===\nPlayer") ≡ true
 unfolding chars
 objects_good = refl
@@ -76,7 +76,7 @@ twice : has_names (codes "Background\nx\nPlayer P\ny\np\nz\n") [] (codes "Backgr
 unfolding chars
 twice = refl
 
--- a property on a layer line stands for its members, the last line that names an object counts, and an aggregate needs
+-- a property on a layer line stands for its members, and the last line that names an object counts; an aggregate needs
 -- layers of their own for its objects
 abbrev with_crates : List ℕ → List ℕ → Bool
 with_crates legend layers = has_names (codes "Background\nx\nPlayer p\ny\nA\nz\nB\nz") legend layers

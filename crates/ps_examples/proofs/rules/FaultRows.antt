@@ -25,7 +25,7 @@ fine : text_fault (codes "title" ++ 195 ∷ 169 ∷ []) ≡ None
 unfolding utf8_valid_len is_utf8 chars encode
 fine = refl
 
--- what hides behind others --------------------------------------------------------------------------------------------
+-- what hides after others --------------------------------------------------------------------------------------------
 
 -- the faults of lines of RULES, and those that the list leaves out
 abbrev listed : List ℕ → List Fault

@@ -1,4 +1,4 @@
--- Odd rules in whole texts, worked by hand: what is told of them first, and at which line; or what they do.
+-- Odd rules in whole texts, worked by hand: what is said about them first, and at which line; or what they do.
 use Rattle.std.proofs.Common.{◌≡◌, ℕ, List, [], ◌∷◌, ◌++◌, map, refl, Option, Some, None}
 use Rattle.std.specs.Prelude.{codes, replicate}
 use Rattle.std.specs.List.{flat_map}
@@ -21,15 +21,15 @@ use Rattle.ps_examples.proofs.games.WholeRuns.{written, refused}
 abbrev at_line : ℕ → FaultKind → Option Fault
 at_line line kind = Some (record { kind = kind; line = line })
 
--- what is told of the base text with these lines of RULES, the first of which is line 30
+-- what is said about the base text with these lines of RULES, the first of which is line 30
 abbrev told : List ℕ → Option Fault
 told rules = refused (base_game (rules ++ codes "\n") [] (codes "P\n"))
 
--- the same is told of all these rules
+-- all these rules have the same answer
 abbrev AllTold : Option Fault → List (List ℕ) → Type 0
 AllTold fault rules = map told rules ≡ map (λ rule. fault) rules
 
--- what is told of these lines of RULES, the first of which is line 30, below a legend of synonyms, properties and
+-- what is said about these lines of RULES, the first of which is line 30, below a legend of synonyms, properties and
 -- aggregates: A and B lie on one layer, C and D on one each
 abbrev told_with_legend : List ℕ → Option Fault
 told_with_legend rules =
@@ -41,8 +41,8 @@ AllToldWithLegend fault rules = map told_with_legend rules ≡ map (λ rule. fau
 
 -- words ---------------------------------------------------------------------------------------------------------------
 
--- signs are cut off at the start of a word alone, `v` and key words of letters nowhere, and an ellipsis has three
--- points and blanks or bars beside it
+-- signs are cut off at the start of a word alone, `v` and key words of letters nowhere; an ellipsis has three points,
+-- and blanks or bars beside it
 glued_words : AllTold (at_line 30 kind.UnknownWord)
     (codes "[ vA ] -> [ A ]" ∷ codes "[ A> ] -> [ A ]" ∷ codes "[ A<B ] -> cancel" ∷ codes "[ A | ...B | C ] -> cancel"
     ∷ codes "[ A | .... | B ] -> cancel" ∷ codes "[ noA ] -> cancel"
@@ -117,14 +117,14 @@ first_line = refl
 
 -- groups and loops ----------------------------------------------------------------------------------------------------
 
--- a word that is left out beside a loop's word is told behind the loop's own faults
+-- a word that is left out beside a loop's word is told after the loop's own faults
 left_out_loops : map told (codes "rigid endloop" ∷ codes "startloop\nrandom startloop\nendloop" ∷ codes
     "startloop\nrandom endloop" ∷ codes "rigid random" ∷ [])
     ≡ at_line 30 kind.Loop ∷ at_line 31 kind.Loop ∷ at_line 31 kind.NotInProfile ∷ at_line 30 kind.BadBracket ∷ []
 unfolding chars is_utf8 encode utf8_valid_len
 left_out_loops = refl
 
--- `+` joins the rule right before, which is late where it is; one that is cut off behind `random` isn't at the start of
+-- `+` joins the rule right before, which is late where it is; one that is cut off after `random` isn't at the start of
 -- its line
 joined_rules : map told
     (codes "late [ A ] -> [ B ]\n+ late [ B ] -> [ A ]\n+ [ A ] -> [ B ]" ∷ codes
@@ -136,7 +136,7 @@ joined_rules : map told
 unfolding chars is_utf8 encode utf8_valid_len
 joined_rules = refl
 
--- a `+` behind a comment that begins above stands at the start of its line: the three rules are one group, which ends
+-- a `+` after a comment that begins above stands at the start of its line: the three rules are one group, which ends
 -- at C after an even number of rounds, and would end at B as three groups
 joined_behind_comment : written (base_game (codes "[ C ] -> [ A ] (x\n\n) + [ B ] -> [ C ]\n\n(y)+[ A ] -> [ B ]\n") []
     (codes "A\n")) (codes "x")
@@ -154,8 +154,8 @@ message_to_the_end : written (base_game (codes
 unfolding chars digits is_utf8 utf8_valid_len encode group program_run all_start_turns all_key_turns turn opening_step
 message_to_the_end = refl
 
--- without an arrow before it, and on the left of the arrow, `message` is a key word where it can't stand, behind which
--- a comment may begin
+-- without an arrow before it, and on the left of the arrow, `message` is a key word where it can't stand; a comment may
+-- begin after it
 message_without_arrow : map told
     (codes "[ A ] -> message (\n[ Q ] -> cancel" ∷ codes "[ A ] message (\n[ Q ] ) -> cancel" ∷ codes
     "message ( [ A ] -> )[ A ] -> [ Q ]" ∷ codes "message [ A ] -> [ B ]" ∷ codes "[ A ] -> [ B ] messages x" ∷ [])
@@ -205,7 +205,7 @@ bound_by_legend = refl
 
 -- how many rules, and how many readings -------------------------------------------------------------------------------
 
--- what is told of 1,023 rules and these lines below them
+-- what is said about 1,023 rules and these lines below them
 abbrev told_below_many : List ℕ → Option Fault
 told_below_many rules = told (flat_map (λ rule. rule) (replicate 1023 (codes "[]->win\n")) ++ rules)
 
@@ -224,7 +224,7 @@ one_rigid_rule_more : told_below_many (codes "[]->win\nrigid []->win") ≡ at_li
 unfolding chars is_utf8 encode utf8_valid_len
 one_rigid_rule_more = refl
 
--- so many items
+-- an item, `count` times
 abbrev times : ℕ → List ℕ → List ℕ
 times count item = flat_map (λ each. each) (replicate count item)
 
@@ -253,8 +253,8 @@ choices_counted : map told
 unfolding chars is_utf8 encode utf8_valid_len
 choices_counted = refl
 
--- every reading is impossible: a layer is named twice in one cell of one side, by an aggregate, by each member of a
--- property, or by an object and a member that is the same
+-- every reading is impossible: a layer is named twice in one cell of one side. That is by an aggregate, by each member
+-- of a property, or by an object and a member that is the same
 impossible_rules : AllTold (at_line 30 kind.Impossible)
     (codes "[ @ Wall ] -> cancel" ∷ codes "[ AT B Target ] -> cancel" ∷ codes "[ A ] -> [ B C ]" ∷ codes
     "[ A no B C ] -> cancel" ∷ codes "late [ Player | | Wall Crate ] -> cancel" ∷ codes "[ AT ] -> [ AT B Target ]"

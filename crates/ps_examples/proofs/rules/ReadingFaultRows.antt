@@ -13,7 +13,7 @@ use Rattle.ps_model.specs.rules.ReadingFaults.{reading_faults}
 use Rattle.ps_model.specs.game.HeldFaults.{hidden_in_readings}
 use Rattle.ps_examples.proofs.rules.RuleTexts.{base_names, with_name, lines_below, fault_at, ac}
 
--- the fault that is told of the readings of rules
+-- the fault that the readings of rules have
 abbrev told : Names → List ℕ → Option Fault
 told names rules = first_fault (reading_faults names (rules_read names (lines_below rules)))
 
@@ -21,7 +21,7 @@ told names rules = first_fault (reading_faults names (rules_read names (lines_be
 abbrev counts : Names → List ℕ → List ℕ
 counts names rules = map (reading_count names) (filter_map rule_in (rules_read names (lines_below rules)))
 
--- a row of so many more cells, that asks for a command
+-- a row of one cell and `more` cells, that asks for a command
 abbrev row_of : ℕ → List ℕ → List ℕ
 row_of more item = codes "right [ " ++ (item ++
     (flat_map (λ cell. cell) (replicate more (codes " | " ++ item)) ++ codes " ] -> cancel\n"))

@@ -60,7 +60,7 @@ ended_twice = refl
 unclosed : AllTold (fault_at 2 Loop) (codes "startloop" ∷ codes "startloop\n[ A ] -> [ B ]" ∷ [])
 unclosed = refl
 
--- a loop that is left open is told behind the faults of single lines
+-- a loop that is left open is told after the faults of single lines
 unclosed_last : told (codes "startloop\n[ A ] ->") ≡ fault_at 3 NothingRight
 unclosed_last = refl
 
@@ -89,7 +89,7 @@ left_out_and_unknown = refl
 
 -- RU14 ----------------------------------------------------------------------------------------------------------------
 
--- what is told of lines below so many rules
+-- what is said about lines below `count` rules
 abbrev told_below : ℕ → List ℕ → Option Fault
 told_below count rules = first_fault (faults_below base_names (record nothing_above { rules = count })
     (lines_below rules))
@@ -101,6 +101,6 @@ too_many_rules : told_below 1022 (codes "[ A ] -> [ B ]\n[ A ] -> [ B ]\nstartlo
     fault_at 5 TooManyRules
 too_many_rules = refl
 
--- it is told behind the other faults of its line
+-- it is told after the other faults of its line
 too_many_last : told_below 1024 (codes "[] -> rigid win") ≡ fault_at 2 NotInProfile
 too_many_last = refl

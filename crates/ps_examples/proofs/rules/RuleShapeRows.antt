@@ -27,7 +27,7 @@ rowless : AllTold (fault_at 2 BadBracket) (codes "-> [ A ]" ∷ codes "-> cancel
     ∷ codes "A -> [ A ]" ∷ [])
 rowless = refl
 
--- a name, a movement word, `no` or an ellipsis outside brackets behind the first `[`; a bar outside brackets
+-- a name, a movement word, `no` or an ellipsis outside brackets after the first `[`; a bar outside brackets
 outside : AllTold (fault_at 2 BadBracket)
     (codes "[ A ] B -> [ A ]" ∷ codes "[ A ] > [ B ] -> cancel" ∷ codes "[ A ] up [ B ] -> cancel" ∷ codes
     "[ A ] no -> [ A ]" ∷ codes "[ A ] ... [ B ] -> cancel"
@@ -40,7 +40,7 @@ outside = refl
 brackets_first : AllTold (fault_at 2 BadBracket) (codes "[ Q ] -> [ Q ] A" ∷ codes "[ Q ] A ->" ∷ codes "Q" ∷ [])
 brackets_first = refl
 
--- `message` behind the arrow takes the rest of its line, in brackets too, so that a bracket stays open
+-- `message` after the arrow takes the rest of its line, in brackets too, so that a bracket stays open
 message_in_brackets : told (codes "[ A ] -> [ message ]") ≡ fault_at 2 BadBracket
 message_in_brackets = refl
 
@@ -64,7 +64,7 @@ before_rows : AllTold (fault_at 2 UnknownWord)
     "late + [ A ] -> [ B ]" ∷ [])
 before_rows = refl
 
--- behind a row of the left, in brackets, and before a row of the right no other key word may stand; on the right
+-- after a row of the left, in brackets, and before a row of the right no other key word may stand; on the right
 -- commands come last
 out_of_place : AllTold (fault_at 2 UnknownWord)
     (codes "[ A ] late -> [ B ]" ∷ codes "[ A ] cancel [ B ] -> cancel" ∷ codes "[ A ] message -> [ B ]" ∷ codes
@@ -75,7 +75,7 @@ out_of_place : AllTold (fault_at 2 UnknownWord)
     "[ A ] -> [ B ] again late" ∷ codes "[ A ] -> startloop" ∷ [])
 out_of_place = refl
 
--- a movement word or `no` needs a name right behind it
+-- a movement word or `no` needs a name right after it
 without_name : AllTold (fault_at 2 UnknownWord)
     (codes "[ > ] -> [ A ]" ∷ codes "[ A > ] -> [ A ]" ∷ codes "[ > | A ] -> cancel" ∷ codes "[ no ] -> [ A ]" ∷ codes
     "[ > no A ] -> [ A ]" ∷ codes "[ no > A ] -> [ A ]"

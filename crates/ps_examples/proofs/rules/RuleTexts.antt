@@ -75,7 +75,7 @@ with_name name meaning = record base_names { entries = base_names.entries ++ (na
 abbrev pub lines_below : List ℕ → List Line
 lines_below rules = section_lines (lines_of (codes "RULES\n" ++ rules)) Rules
 
--- the fault that is told of lines below RULES
+-- the fault that lines below RULES have
 abbrev pub told_with : Names → List ℕ → Option Fault
 told_with names rules = first_fault (rule_faults names (lines_below rules))
 
@@ -86,6 +86,6 @@ told rules = told_with base_names rules
 abbrev pub fault_at : ℕ → FaultKind → Option Fault
 fault_at line kind = Some (record { kind = kind; line = line })
 
--- the same is told of all these texts
+-- all these texts have the same answer
 abbrev pub AllTold : Option Fault → List (List ℕ) → Type 0
 AllTold fault texts = map told texts ≡ map (λ text. fault) texts

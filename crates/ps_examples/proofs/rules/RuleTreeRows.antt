@@ -24,7 +24,7 @@ cut_off : symbols (codes ">>A<B]|a->^^v") ≡ (Moves word.Forwards ∷ Moves wor
     (one 5) ∷ Arrow ∷ Moves word.TurnedLeft ∷ Moves word.TurnedLeft ∷ Moves word.TurnedRight ∷ []) ∷ []
 cut_off = refl
 
--- one `+` at the start of a line, behind blanks and comments, isn't a name; elsewhere it may be one
+-- one `+` at the start of a line, after blanks and comments, isn't a name; elsewhere it may be one
 pluses : symbols (codes " (x) ++ [ + ]") ≡ (Plus ∷ Called (one 8) ∷ Open ∷ Called (one 8) ∷ Close ∷ []) ∷ []
 pluses = refl
 
@@ -33,7 +33,7 @@ folded_letters : symbols (codes "LATE No VERTICAL StartLoop Sfx10 sfx11 Random .
     (Late ∷ Without ∷ Moves word.Vertical ∷ StartsLoop ∷ Asks Sound ∷ Unknown ∷ LeftOut ∷ Ellipsis ∷ Unknown ∷ []) ∷ []
 folded_letters = refl
 
--- behind `message`, which stands behind the arrow, the line has no words; on the left of the arrow it takes nothing
+-- after `message`, which stands after the arrow, the line has no words; on the left of the arrow it takes nothing
 message_ends : symbols (codes "message A -> cancel message(A) -> B") ≡
     (Asks Message ∷ Called (one 5) ∷ Arrow ∷ Asks Cancel ∷ Asks Message ∷ []) ∷ []
 message_ends = refl
@@ -96,7 +96,7 @@ directions : map (λ line. line.directions) (rules_in
     (Up ∷ Down ∷ Left ∷ []) ∷ []
 directions = refl
 
--- the text of a message is what stands behind its word, blanks at the ends left out; there may be none
+-- the text of a message is what stands after its word, blanks at the ends left out; there may be none
 messages : map (λ rule. rule.commands.message)
     (rules_in (codes "[] -> win message(a) b\n[] -> message\n[] -> [] MESSAGE  Two  blanks \t\r\n[] -> sfx0 win"))
     ≡ Some (codes "(a) b") ∷ Some [] ∷ Some (codes "Two  blanks") ∷ None ∷ []

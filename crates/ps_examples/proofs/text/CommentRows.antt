@@ -36,7 +36,7 @@ letters_of_several_bytes : map (λ line. line.bytes) (lines_of (codes "(" ++ (19
     ∷ []
 letters_of_several_bytes = refl
 
--- a comment goes on over lines; what stands before and behind it is read
+-- a comment goes on over lines; what stands before and after it is read
 over_lines : words (codes "A (x\ny\nz) B\nC") ≡ (codes "A" ∷ []) ∷ [] ∷ (codes "B" ∷ []) ∷ (codes "C" ∷ []) ∷ []
 over_lines = refl
 
@@ -165,7 +165,7 @@ pluses : map rule_words (codes " +[A]" ∷ codes "++ +" ∷ codes "+late+" ∷ c
     (codes "+" ∷ codes "late+" ∷ []) ∷ (codes "[" ∷ codes "+" ∷ codes "]" ∷ codes "+" ∷ []) ∷ (codes "+" ∷ []) ∷ []
 pluses = refl
 
--- a comment parts words as a blank does; a `+` behind it stands at the start
+-- a comment parts words as a blank does; a `+` after it stands at the start
 behind_comments : map (λ line. rule_words line.bytes) (lines_of (codes "(x)+late[A(b)B]-(c)>")) ≡
     (codes "+" ∷ codes "late" ∷ codes "[" ∷ codes "A" ∷ codes "B" ∷ codes "]" ∷ codes "-" ∷ codes ">" ∷ []) ∷ []
 behind_comments = refl

@@ -46,7 +46,7 @@ no_header = refl
 line_count : length (lines_of (base_text (codes "P.."))) ≡ 32
 line_count = refl
 
--- a byte order mark is read past: the first line begins behind it
+-- a byte order mark is read past: the first line begins after it
 mark : (line_at (239 ∷ 187 ∷ 191 ∷ codes "title x") 1).start ≡ 3
 mark = refl
 

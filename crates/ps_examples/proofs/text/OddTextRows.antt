@@ -1,4 +1,4 @@
--- Odd texts, worked by hand: what is told of them first, and at which line; or what they say where they are games.
+-- Odd texts, worked by hand: what is said about them first, and at which line; or what they say where they are games.
 use Rattle.std.proofs.Common.{◌≡◌, ℕ, List, [], ◌∷◌, ◌++◌, ap, map, length, refl, Option, Some, None, true, false}
 use Rattle.std.specs.Prelude.{codes, option_map, replicate, nat_lt}
 use Rattle.std.specs.List.{flat_map, range_with_len}
@@ -26,7 +26,7 @@ use Rattle.ps_examples.proofs.games.WholeRuns.{written, refused}
 abbrev at_line : ℕ → FaultKind → Option Fault
 at_line line kind = Some (record { kind = kind; line = line })
 
--- the same is told of all these texts
+-- all these texts have the same answer
 abbrev AllRefused : Option Fault → List (List ℕ) → Type 0
 AllRefused fault texts = map refused texts ≡ map (λ text. fault) texts
 
@@ -152,7 +152,7 @@ header_among_rules : refused (base_game (codes "[ A ] -> [ B ]\n(x) Sounds\n") [
 unfolding chars is_utf8 encode utf8_valid_len
 header_among_rules = refl
 
--- `message` is a word like others in SOUNDS: a comment begins behind it, and hides the headers below
+-- `message` is a word like others in SOUNDS: a comment begins after it, and hides the headers below
 message_in_sounds : refused (codes
     "OBJECTS\nBackground\nx\nPlayer\nx\nSOUNDS\nmessage (x\nCOLLISIONLAYERS\nBackground\nPlayer\nLEVELS\nPlayer") ≡
     at_line 12 kind.NoSection
@@ -164,7 +164,7 @@ message_in_prelude : refused (codes "message (x\nOBJECTS\n) realtime_interval 1\
 unfolding chars is_utf8 encode utf8_valid_len
 message_in_prelude = refl
 
--- a title may have a `)`; the comment behind it goes on below
+-- a title may have a `)`; the comment after it goes on below
 title_and_comment : option_map (λ read. read.title)
     (game (codes "title A ) B (x\nOBJECTS\n) y\n" ++ text_with [] [] [])) ≡ Some (codes "A ) B")
 unfolding chars is_utf8 encode utf8_valid_len
@@ -250,7 +250,7 @@ bad_before_twice : refused (text_with (codes "Player P P\nx\n") [] []) ≡ at_li
 unfolding chars is_utf8 encode utf8_valid_len
 bad_before_twice = refl
 
--- so many objects more, each of two lines, and their names
+-- `count` objects more, each of two lines, and their names
 abbrev name_of : ℕ → List ℕ
 name_of number = codes "E" ++ decimal number
 
@@ -265,7 +265,7 @@ objects_at_limit : refused (text_with (more_objects 510) [] (more_names 510)) �
 unfolding chars is_utf8 encode utf8_valid_len digits
 objects_at_limit = refl
 
--- the 513th isn't, and is told behind its other faults
+-- the 513th isn't, and is told after its other faults
 objects_over : refused (text_with (more_objects 512) [] []) ≡ at_line 1026 kind.TooManyNames
 unfolding chars is_utf8 encode utf8_valid_len digits
 objects_over = refl
@@ -408,7 +408,7 @@ aggregates_on_layers : map refused
 unfolding chars is_utf8 encode utf8_valid_len
 aggregates_on_layers = refl
 
--- so many layers, all of Background
+-- `count` layers, all of Background
 abbrev layers : ℕ → List ℕ
 layers count = flat_map (λ line. line) (replicate count (codes "Background\n"))
 

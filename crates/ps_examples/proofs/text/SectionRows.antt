@@ -87,7 +87,7 @@ real_time = refl
 real_time_first : first (codes "realtime_interval\nLEVELS\nOBJECTS") ≡ at_line 1 Realtime
 real_time_first = refl
 
--- not as a longer word, nor as another than the first, nor behind a title, nor in a comment, nor below the prelude
+-- not as a longer word, nor as another than the first, nor after a title, nor in a comment, nor below the prelude
 no_real_time : first (codes "realtime_intervals 1\nx realtime_interval 1\n(\nrealtime_interval 1\n)\ntitle (\nrealtime_interval 1)\nOBJECTS\nrealtime_interval\nCOLLISIONLAYERS\nLEVELS")
     ≡ None
 no_real_time = refl
@@ -106,12 +106,12 @@ each_option : map options (codes "noaction" ∷ codes "noundo" ∷ codes "norest
     ∷ (false ∷ false ∷ false ∷ true ∷ false ∷ []) ∷ (false ∷ false ∷ false ∷ false ∷ true ∷ []) ∷ []
 each_option = refl
 
--- in any case of letters, with other words behind, with comments beside, and more than once
+-- in any case of letters, with other words after, with comments beside, and more than once
 several_options : options (codes "NoAction 1\n\n(x) noundo(y)\nNORESTART\nnorestart\nOBJECTS\n") ≡ true ∷ true ∷ true ∷
     false ∷ false ∷ []
 several_options = refl
 
--- not as a longer word, nor as another than the first, nor behind a title, nor in a comment, nor below the prelude
+-- not as a longer word, nor as another than the first, nor after a title, nor in a comment, nor below the prelude
 no_options : options (codes "noactions\nx noundo\ntitle noundo\n(norestart)\nzoomscreen 3x3\nOBJECTS\nnorestart\n") ≡
     false ∷ false ∷ false ∷ false ∷ false ∷ []
 no_options = refl
@@ -140,12 +140,12 @@ other_words = refl
 abbrev rooms : List ℕ → Option RoomSize
 rooms text = let set : Options = options_of (section_lines (lines_of text) Prelude) in set.flickscreen
 
--- the first line counts, in any case of letters, with other words behind and comments beside it
+-- the first line counts, in any case of letters, with other words after and comments beside it
 first_rooms : map rooms (codes "flickscreen 3x1" ∷ codes
     "\n (x) FlickScreen\t(y) 003X1 (z) 4x4\nflickscreen 2x2\nOBJECTS" ∷ []) ≡ sized 3 1 ∷ sized 3 1 ∷ []
 first_rooms = refl
 
--- not as a longer word, nor as another than the first, nor behind a title, nor in a comment, nor below the prelude
+-- not as a longer word, nor as another than the first, nor after a title, nor in a comment, nor below the prelude
 no_rooms : rooms (codes "flickscreens 2x2\nx flickscreen 2x2\ntitle flickscreen 2x2\n(flickscreen 2x2)\nzoomscreen 2x2\nOBJECTS\nflickscreen 2x2\n") ≡ None
 no_rooms = refl
 
@@ -159,7 +159,7 @@ no_size : map first_of_prelude (codes "flickscreen\n" ∷ codes "flickscreen 3 x
     ≡ replicate 6 (at_line 1 BadFlickscreen)
 no_size = refl
 
--- no line that asks for rooms may be without one, behind one with a size neither
+-- no line that asks for rooms may be without one, after one with a size neither
 later_size : first_of_prelude (codes "flickscreen 3x1\n\nflickscreen 2x2\nflickscreen 3\nflickscreen\n") ≡ at_line 4
     BadFlickscreen
 later_size = refl

@@ -55,7 +55,7 @@ checkpoint_undo_restart : written (base_game (codes "[ action Player ] -> checkp
 unfolding chars digits is_utf8 utf8_valid_len encode group program_run all_start_turns all_key_turns turn opening_step
 checkpoint_undo_restart = refl
 
--- messages before and behind a level, with brackets as they stand
+-- messages before and after a level, with brackets as they stand
 messages_and_level : written (base_game [] (codes "Some Player\n") (codes "message Hello (World)\nP\nmessage Bye\n"))
     (codes "xdx")
     ≡ Some (codes "= T\n! Hello (World)\n# level 1\nP\n\nP\n\n* level 1 done\n! Bye\n* the end\n")

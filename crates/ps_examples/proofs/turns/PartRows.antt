@@ -80,7 +80,7 @@ abbrev places_in : Game → List (List ℕ)
 places_in found = flat_map (λ board. flat_map (λ rule.
     flat_map (places board rule.direction) rule.rows) (meanings_in found)) (boards_in found)
 
--- A and Target behind it stand only in the first two cells
+-- A and Target after it stand only in the first two cells
 one_place : option_map places_in (game (base_game (codes "right [ A | Target ] -> [ | ]\n") [] (codes "AOA\n"))) ≡ Some
     ((0 ∷ 1 ∷ []) ∷ [])
 unfolding chars is_utf8 utf8_valid_len encode

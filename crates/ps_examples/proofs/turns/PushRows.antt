@@ -111,7 +111,7 @@ only_upwards : written (base_game (codes "up [ > Player | Crate ] -> [ > Player 
 unfolding chars digits is_utf8 utf8_valid_len encode group program_run all_start_turns all_key_turns turn opening_step
 only_upwards = refl
 
--- a late rule comes behind the movement
+-- a late rule comes after the movement
 late_rule : written (base_game (codes "[ A ] -> [ right A ]\nlate [ A | Wall ] -> [ B | Wall ]\n") ([])
     (codes "A.#\n")) (codes "x")
     ≡ Some (codes "= T\n# level 1\nA.#\n\n.B#\n\n* end of keys\n")

@@ -13,7 +13,7 @@ use Rattle.ps_model.specs.session.KeySteps.{all_key_turns}
 use Rattle.ps_examples.proofs.games.BaseText.{base_game}
 use Rattle.ps_examples.proofs.games.WholeRuns.{written}
 
--- a group that never settles ends after two hundred rounds, and the rules behind it run
+-- a group that never settles ends after two hundred rounds, and the rules after it run
 two_hundred_rounds : written (base_game (codes "[ A ] -> [ B ]\n+ [ B ] -> [ A ]\n[ A ] -> [ C ]\n") ([])
     (codes "A\n")) (codes "x")
     ≡ Some (codes "= T\n# level 1\nA\n\nC\n\n* end of keys\n")
@@ -26,7 +26,7 @@ an_even_number_of_rounds : written (base_game (codes "[ C ] -> [ A ]\n+ [ B ] ->
 unfolding chars digits is_utf8 utf8_valid_len encode group program_run all_start_turns all_key_turns turn opening_step
 an_even_number_of_rounds = refl
 
--- a loop that never settles makes a pass and two hundred repeats; what stands behind it isn't run
+-- a loop that never settles makes a pass and two hundred repeats; what stands after it isn't run
 a_pass_and_two_hundred_repeats : written (base_game
     (codes "startloop\n[ C ] -> [ A ]\n[ B ] -> [ C ]\n[ A ] -> [ B ]\nendloop\n") ([]) (codes "A\n")) (codes "x")
     ≡ Some (codes "= T\n# level 1\nA\n\nB\n\n* end of keys\n")
@@ -59,7 +59,7 @@ unfolding chars digits is_utf8 utf8_valid_len encode group program_run all_start
 wide_gap = refl
 
 -- two ellipses: of places with the same leftmost or topmost end, the one comes first whose gap nearest to that end is
--- smaller, and of two with this gap the one with the smaller other gap
+-- smaller; of two with this gap, the one with the smaller other gap
 nearest_gap_rightwards : written (base_game (codes "right [ A | ... | B | ... | C ] -> [ | ... | D | ... | C ]\n") ([])
     (codes "AB.BC\n")) (codes "x")
     ≡ Some (codes "= T\n# level 1\nAB.BC\n\n.D.BC\n\n* end of keys\n")

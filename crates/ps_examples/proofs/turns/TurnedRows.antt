@@ -15,7 +15,7 @@ use Rattle.ps_examples.proofs.turns.SmallBoards.{holding, bare, becomes, rule_to
 row_from_other_end : (a b c : CellMeaning) → row_turned ((a ∷ []) ∷ (b ∷ c ∷ []) ∷ []) ≡ (c ∷ b ∷ []) ∷ (a ∷ []) ∷ []
 row_from_other_end a b c = refl
 
--- a rule and a board behind it ----------------------------------------------------------------------------------------
+-- a rule and a board after it ----------------------------------------------------------------------------------------
 
 -- [ 1 | ... | 2 | 3 ] -> [ 4 | ... | 5 | 6 ]
 abbrev row : List (List CellMeaning)

@@ -25,7 +25,7 @@ after_change-same names first second one next next_too more = record {
   grid = more.grid;
 }
 
--- rounds, at most so many
+-- rounds, at most `rounds`
 settled-alike : (names : Names) (a b : List RuleMeaning) → Alike names a b →
     (rounds : ℕ) (changed : Bool) (state : State) → IsGridOf names state.grid →
     EqualResults names (settled a rounds changed state) (settled b rounds changed state)

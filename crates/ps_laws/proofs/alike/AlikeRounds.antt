@@ -1,5 +1,5 @@
--- Which lists of rules have equal rounds: those that are alike rule by rule, those made of such lists, those whose
--- rules face down or right, and those without a rule that does nothing.
+-- Which lists of rules have equal rounds: those that are alike rule by rule, and those made of such lists; those whose
+-- rules face down or right; and those without a rule that does nothing.
 use Rattle.std.proofs.Common.{◌≡◌, Bool, true, false, ◌||◌, List, [], ◌∷◌, ◌++◌, map, refl, sym, ◌∙◌, ap, subst}
 use Rattle.std.specs.Prelude.{All}
 use Rattle.std.specs.List.{AllZip, flat_map}
@@ -43,7 +43,7 @@ pub change_grouped : (a b : Bool) (result : Result) →
 change_grouped true b result = refl
 change_grouped false b result = refl
 
--- the round of a list behind another
+-- the round of a list after another
 pub round-append : (front behind : List RuleMeaning) (state : State) →
     round (front ++ behind) state ≡ after_change (round front state).changed (round behind (round front state).state)
 round-append [] behind state = refl

@@ -8,7 +8,7 @@ use Rattle.ps_laws.specs.Settling.{reached_by, changes, Settles}
 use Rattle.ps_laws.proofs.common.EitherWay.{either_way}
 use Rattle.ps_laws.proofs.common.Steps.{changes-next, changes-before_first, changes-before_last}
 
--- one of so many rounds changes something
+-- one of the first `rounds` rounds changes something
 abbrev pub SomeChange : List RuleMeaning → State → ℕ → Type 0
 SomeChange rules state rounds = (number : ℕ) × (1 ≤ number) × (number ≤ rounds) ×
     (changes number (round rules) state ≡ true)
@@ -27,7 +27,7 @@ change_of_more rules state rounds h = (
   changes-next h.0 (round rules) state h.1 ∙ h.3,
 )
 
--- as `Settles`, behind rounds that changed something or not
+-- as `Settles`, after rounds that changed something or not
 pub record SettlesBehind (before : Bool) (rules : List RuleMeaning) (limit : ℕ) (state : State) (result : Result) :
     Type 0 where
   pub rounds : ℕ

@@ -69,7 +69,7 @@ cells-swap r first second i j n =
 
 -- the cells of a place ------------------------------------------------------------------------------------------------
 
--- a cell before or behind cells of greater numbers
+-- a cell before or after cells of greater numbers
 cell-behind : (meanings : List CellMeaning) (cells : List ℕ) (r : Rewritten) (meaning : CellMeaning) (cell low : ℕ) →
     cell < low → Rises low cells →
     cell_step (rewritten_along r meanings cells) meaning cell ≡ rewritten_along (cell_step r meaning cell) meanings
@@ -82,7 +82,7 @@ cell-behind (other ∷ others) (next ∷ cells) r meaning cell low h rises =
     cell-behind others cells (cell_step r other next) meaning cell (suc next) (omega arith) rises.1
     ∙ ap (λ (made : Rewritten). rewritten_along made others cells) (cells-swap r other meaning next cell differ)
 
--- two lists one behind the other
+-- two lists one after the other
 along-append : (meanings others : List CellMeaning) (cells more : List ℕ) (r : Rewritten) →
     length meanings ≡ length cells →
     rewritten_along r (meanings ++ others) (cells ++ more) ≡ rewritten_along (rewritten_along r meanings cells) others

@@ -93,7 +93,7 @@ unequal-fit g (meaning ∷ meanings) (cell ∷ cells) h =
     second-false (fits_there meaning (slice_get g.cells cell)) (fits_along g meanings cells)
     (unequal-fit g meanings cells (λ e. h (ap suc e)))
 
--- two lists one behind the other
+-- two lists one after the other
 fits-append : (g : Grid) (meanings others : List CellMeaning) (cells more : List ℕ) → length meanings ≡ length cells →
     fits_along g (meanings ++ others) (cells ++ more) ≡ and_then (fits_along g meanings cells)
     (fits_along g others more)

@@ -16,7 +16,7 @@ round-forwards (rule ∷ rules) state =
     (attempt-forwards rule state)
     ∙ ap (after_change (attempt rule state).changed) (round-forwards rules (attempt rule state).state)
 
--- rounds, at most so many
+-- rounds, at most `rounds`
 settled-forwards : (rules : List RuleMeaning) (rounds : ℕ) (changed : Bool) (state : State) →
     settled (map forwards rules) rounds changed state ≡ settled rules rounds changed state
 settled-forwards rules zero changed state = refl

@@ -19,7 +19,7 @@ apart_from_all cell (other ∷ cells) e = let both = or_parts (eqb cell other) (
     (both.0, apart_from_all cell cells both.1)
 
 module _ (g : Grid) (layer : ℕ) where
-  -- so many links lead to a bare cell, and no fewer do
+  -- that number of links leads to a bare cell, and no smaller one does
   record IsExact (links cell : ℕ) : Type 0 where
     enough : slides_within g layer links cell ≡ true
     least : (few : ℕ) → few < links → slides_within g layer few cell ≡ false

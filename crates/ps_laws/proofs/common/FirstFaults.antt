@@ -21,7 +21,7 @@ pub none-first : (faults : List Fault) → first_fault faults ≡ None → fault
 none-first [] e = refl
 none-first (first ∷ others) e = absurd (let h = e in cc)
 
--- faults behind none
+-- faults after none
 pub behind-none : (front behind : List Fault) → front ≡ [] → front ++ behind ≡ behind
 behind-none front behind e = ap (λ (faults : List Fault). faults ++ behind) e
 

@@ -4,13 +4,13 @@ use Rattle.std.specs.Prelude.{All, IfSome, option_map}
 use Rattle.std.proofs.lemmas.List.Elements.{All-nil, All-cons, All-head, All-tail}
 use Rattle.ps_model.specs.text.OptionSteps.{◌>>=◌, only_if, all_there}
 
--- a step that may fail, behind another
+-- a step that may fail, after another
 pub step-each : {A B : Type 0} (P : A → Type 0) (Q : B → Type 0) (found : Option A) (next : A → Option B) →
     IfSome found P → ((a : A) → P a → IfSome (next a) Q) → IfSome (found >>= next) Q
 step-each P Q None next h k = tt
 step-each P Q (Some a) next h k = k a h
 
--- a step that doesn't fail, behind one that may
+-- a step that doesn't fail, after one that may
 pub mapped-each : {A B : Type 0} (P : A → Type 0) (Q : B → Type 0) (found : Option A) (f : A → B) → IfSome found P →
     ((a : A) → P a → Q (f a)) → IfSome (option_map f found) Q
 mapped-each P Q None f h k = tt

@@ -62,7 +62,7 @@ one_of_each-append (items ∷ front) behind = same_flat_map _ _ (each (one_of_ea
           (one_of_each front)
           ∙ sym (flat_map-map _ (λ rest. item ∷ rest) (one_of_each front))
 
--- splitting list by list puts one of each behind each that is made
+-- splitting list by list puts one of each after each that is made
 pub split_all-is : {A : Type 0} (choices made : List (List A)) →
     split_all choices made ≡ flat_map (λ first. map (λ second. first ++ second) (one_of_each choices)) made
 split_all-is [] made = sym (same_flat_map _ _ (λ first. ap (λ l. l ∷ []) (append-nil first)) made ∙ flat_map-each made)

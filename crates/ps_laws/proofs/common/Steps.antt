@@ -3,7 +3,7 @@ use Rattle.std.proofs.Common.{◌≡◌, ℕ, zero, suc, ◌-◌, ◌≤◌, ◌
 use Rattle.ps_model.specs.board.Attempts.{State}
 use Rattle.ps_laws.specs.Settling.{Repeated, reached_by, changes}
 
--- a step behind the first is a step from where the first leads
+-- a step after the first is a step from where the first leads
 pub changes-next : (number : ℕ) (step : Repeated) (state : State) → 1 ≤ number →
     changes (suc number) step state ≡ changes number step (step state).state
 changes-next zero step state h = absurd (omega arith)

@@ -33,7 +33,7 @@ drop-range (suc k) from (suc count) =
     let fewer : count - k ≡ suc count - suc k = omega arith in
     drop-range k (from + 1) count ∙ ap₂ range_with_len start fewer
 
--- some gaps make that way along a line, from so many steps on
+-- some gaps make that way along a line, from the step `from` on
 abbrev IsWay : (ℕ → ℕ) → List ℕ → ℕ → List ℕ → Type 0
 IsWay at sizes from way = (gaps : List ℕ) × (way ≡ map at (steps_of sizes gaps from))
 

@@ -1,4 +1,4 @@
--- Tests: joined in another order, one behind another, two that imply each other, and one of two numbers turned round.
+-- Tests: joined in another order, one after another, two that imply each other, and one of two numbers turned round.
 use Rattle.std.proofs.Common.{◌≡◌, ℕ, Bool, true, false, ◌||◌, refl, sym, ◌∙◌}
 use Rattle.std.specs.Prelude.{nat_eq}
 use Rattle.std.proofs.lemmas.Bool.{eqb-true, eq-eqb, false≢true}

@@ -1,4 +1,4 @@
--- How sessions end: behind the last entry, or as the player quits, and never for want of keys.
+-- How sessions end: after the last entry, or as the player quits, and never for want of keys.
 use Rattle.std.proofs.Common.{◌≡◌, ◌≢◌, ℕ, suc, zero, Bool, true, false, Option, Some, None, List, [], ◌∷◌, ◌++◌, refl}
 use Rattle.std.proofs.Common.{sym, ◌∙◌, ap}
 use Rattle.std.specs.Prelude.{◌||◌, ◌-◌, length, slice_get}

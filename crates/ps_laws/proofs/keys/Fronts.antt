@@ -19,7 +19,7 @@ use Rattle.ps_laws.proofs.keys.KeysInPieces.{keys_of-append}
 
 -- keys in a row -------------------------------------------------------------------------------------------------------
 
--- the session behind more keys, and their texts
+-- the session after more keys, and their texts
 pub session_after-append : (script : Script) (session : Session) (first second : List Key) →
     session_after script session (first ++ second) ≡ session_after script (session_after script session first) second
 session_after-append script session [] second = refl
@@ -51,12 +51,12 @@ ended (Waiting play pending) ending e = absurd (cc)
 ended (AtMessage entry) ending e = absurd (cc)
 ended (Ended own) ending e = let same : own ≡ ending = cc in ap Ended same
 
--- what a run writes behind its keys: nothing where it has ended, and else the line that says so
+-- what a run writes after its keys: nothing where it has ended, and else the line that says so
 abbrev pub closing : Option Ending → Output
 closing None = record { written = end_of_keys_line; ending = EndOfKeys }
 closing (Some ending) = record { written = []; ending = ending }
 
--- what keys bring in a session: their texts, and what comes behind them
+-- what keys bring in a session: their texts, and what comes after them
 of_keys : (script : Script) (session : Session) (found : Option Ending) (keys : List Key) → ending_of session ≡ found →
     output_of_keys script session found keys ≡ after_text (texts_of_keys script session keys)
     (closing (ending_of (session_after script session keys)))
@@ -82,7 +82,7 @@ of_keys script session None (key ∷ keys) e =
 take_all : {A : Type 0} (items : List A) → take (length items) items ≡ items
 take_all items = grind (arith, common_steps)
 
--- behind a start
+-- after a start
 from_start : (script : Script) (start : Step) (keys : List Key) →
     after_text start.text (output_of_keys script start.session (ending_of start.session) keys)
     ≡ after_text (start.text ++ texts_of_keys script start.session (take (length keys) keys))
@@ -99,7 +99,7 @@ from_start script start keys =
     ∙ ap (λ (l : List Key). after_text (start.text ++ texts_of_keys script start.session l)
     (closing (ending_of (session_after script start.session keys)))) (sym (take_all keys))
 
--- the output is the front of all keys, and what comes behind it
+-- the output is the front of all keys, and what comes after it
 pub output-is : (script : Script) (bytes : List ℕ) →
     output script bytes ≡ after_text (whole_front script bytes) (closing (ending_of (session_of script bytes)))
 unfolding whole_front
@@ -118,7 +118,7 @@ output_of_unended script bytes e = output-is script bytes
 
 -- fronts --------------------------------------------------------------------------------------------------------------
 
--- the texts of some keys, and of those behind them
+-- the texts of some keys, and of those after them
 pub front_then : (script : Script) (start : Step) (first second : List Key) →
     start.text ++ texts_of_keys script start.session (first ++ second)
     ≡ (start.text ++ texts_of_keys script start.session first) ++ texts_of_keys script

@@ -1,4 +1,4 @@
--- One more byte behind what is held: its key, and what is held then.
+-- One more byte after what is held: its key, and what is held then.
 use Rattle.std.proofs.Common.{◌≡◌, ℕ, ◌==◌, Bool, true, false, Option, Some, None, List, [], ◌∷◌, ◌++◌, refl, sym, ◌∙◌}
 use Rattle.std.proofs.Common.{ap, arith}
 use Rattle.std.specs.Prelude.{option_to_list}
@@ -40,7 +40,7 @@ other_byte : (byte : ℕ) (others : List ℕ) → byte == 27 ≡ false →
     keys_of (byte ∷ others) ≡ option_to_list (key_of byte) ++ keys_of others
 other_byte byte others e = own_key byte others (no_arrow_without_escape byte others e)
 
--- ESC brings nothing where no `[` is behind it
+-- ESC brings nothing where no `[` is after it
 escape_alone : (byte : ℕ) (others : List ℕ) → byte == 91 ≡ false →
     keys_of (27 ∷ byte ∷ others) ≡ keys_of (byte ∷ others)
 escape_alone byte others e = own_key 27 (byte ∷ others) (no_arrow_without_bracket byte others e)

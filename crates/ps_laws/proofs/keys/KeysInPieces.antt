@@ -1,4 +1,4 @@
--- Keys that come in pieces: what is held behind a piece, and the keys of two pieces.
+-- Keys that come in pieces: what is held after a piece, and the keys of two pieces.
 use Rattle.std.proofs.Common.{◌≡◌, ℕ, Bool, true, false, List, [], ◌∷◌, ◌++◌, refl, sym, ◌∙◌, ap, append_assoc}
 use Rattle.std.specs.Prelude.{option_to_list}
 use Rattle.std.proofs.lemmas.List.{append-nil}
@@ -13,7 +13,7 @@ use Rattle.ps_laws.proofs.keys.HeldKeys.{one_byte_more, held_one_more}
 
 -- a piece -------------------------------------------------------------------------------------------------------------
 
--- what is held behind a piece, and the keys of it
+-- what is held after a piece, and the keys of it
 abbrev held_behind_all : Held → List ℕ → Held
 held_behind_all kept [] = kept
 held_behind_all kept (byte ∷ bytes) = held_behind_all (held_behind kept byte) bytes

@@ -80,7 +80,7 @@ own_start : (script : Script) → IsOwn (opening_step script).session
 unfolding opening_step
 own_start script = of_enter script script.first_entry
 
--- the keys of some bytes and more are the first so many, and others
+-- the keys of some bytes and more are the first `count` of them, and others
 keys_parted : (bytes more : List ℕ) (count : ℕ) →
     keys_of (bytes ++ more) ≡ take count (keys_of bytes) ++ (drop count (keys_of bytes) ++ keys_of (held bytes ++ more))
 keys_parted bytes more count =
@@ -93,7 +93,7 @@ cut_off_by : (script : Script) (start : Step) (text : List ℕ) (keys all : List
     IsCutOff text (start.text ++ (output_of_keys script start.session (ending_of start.session) all).written)
 cut_off_by script start text keys all e cut = rw e at cut
 
--- if the game goes on behind some keys, the front of them isn't yet the output
+-- if the game goes on after some keys, the front of them isn't yet the output
 pub left_to_write : (script : Script) (bytes more : List ℕ) (count : ℕ) →
     ending_behind script bytes count ≡ EndOfKeys →
     IsCutOff (front script bytes count) (output script (bytes ++ more)).written

@@ -251,7 +251,7 @@ pub reads_what_was_there : ReadsWhatWasThere
 reads_what_was_there reader_before reader_after writer_before writer_after told had is other tells =
     other (had_read reader_after.remaining had (read told.reading) (sym is ∙ tells.read))
 
--- a list can't both go on behind another and be a front of it
+-- a list can't both go on after another and be a front of it
 not_longer : (first second : List ℕ) → IsFront second first → IsCutOff first second → ⊥
 not_longer first second (rest, is) cut =
     let one = ap (λ (l : List ℕ). length l) is ∙ length-append second rest in
@@ -327,7 +327,7 @@ no_want_behind_ending text told script found whole (inr (own, own_found, right))
           ∙ ap (λ (l : List ℕ). l ++ cut.rest) (sym right.wrote);
     }
 
--- wanting memory where nothing was to be made
+-- running out of memory where nothing was to be made
 wanting_key : (read : List ℕ) (keys : ℕ) → keys_of read ≡ [] → keys < length (keys_of read) → ⊥
 wanting_key read keys none less =
     let no : length (keys_of read) ≡ 0 = ap (λ (k : List Key). length k) none in omega (arith, no, less)

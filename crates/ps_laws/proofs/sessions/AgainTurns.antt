@@ -14,7 +14,7 @@ use Rattle.ps_laws.specs.AgainTurns.{StartTurnsAreLongest, AllKeyTurnsAreLongest
 
 -- any again turns -----------------------------------------------------------------------------------------------------
 
--- again turns that stop where a turn doesn't count, and that tell behind each that does what the next ones bring, if
+-- again turns that stop where a turn doesn't count, and that tell after each that does what the next ones bring, if
 -- they come
 record Repeat (counts goes_on : Done → Bool) (told : Play → Done → ℕ → (Play → Step) → Step) (stop : ℕ → Play →
     Step) (script : Script) (turns : ℕ → Play → Step) : Type 0 where
@@ -57,7 +57,7 @@ module _ (counts goes_on : Done → Bool) (told : Play → Done → ℕ → (Pla
     no_longer [] h few = omega arith
     no_longer (first ∷ others) h few = absurd (bars first h.0 h.1 (omega (arith, few)))
 
-  -- a turn behind which no other is due is the last
+  -- a turn after which no other is due is the last
   last : (left : ℕ) (play : Play) (done : Done) → turn script None play.board ≡ Finished done → counts done ≡ true →
       goes_on done ≡ false → IsTold (suc left) play
   last left play done e counting ends = (
@@ -80,7 +80,7 @@ module _ (counts goes_on : Done → Bool) (told : Play → Done → ℕ → (Pla
     no_longer [] h few = omega arith
     no_longer (first ∷ others) h few = alone first others (first_is play.board done first e h.0) h.2
 
-  -- a turn behind which another is due comes before those of the rest
+  -- a turn after which another is due comes before those of the rest
   further : (left : ℕ) (play : Play) (done : Done) → turn script None play.board ≡ Finished done → counts done ≡ true →
       goes_on done ≡ true →
       IsTold left (seen script (with_turn play done)) → IsTold (suc left) play

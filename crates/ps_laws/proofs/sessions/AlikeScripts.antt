@@ -1,5 +1,5 @@
--- Scripts that are the same but for their rules, and whose programs run alike on grids of the game, have equal turns on
--- these, and so the same steps and runs.
+-- Take scripts that are the same but for their rules, and whose programs run alike on grids of the game. They have
+-- equal turns on these, and so the same steps and runs.
 use Rattle.std.proofs.Common.{◌≡◌, Option, None, List, not, refl, ◌∙◌, ap, subst}
 use Rattle.std.specs.Prelude.{All, if◌then◌else◌}
 use Rattle.std.proofs.lemmas.List.Elements.{All-weaker}

@@ -47,7 +47,7 @@ module _ (IsSuch : Grid → Type 0) (a : Script) (plain late : List Section)
   told next done left f g each h None false true m w e = rw (m, w, e, key_told) (each next h)
   told next done left f g each h None false false m w e = rw (m, w, e, key_told) (record { equal = refl; boards = h })
 
-  -- the frame of a turn, and what is told behind it
+  -- the frame of a turn, and what is told after it
   framed : (next : Play) (done : Done) (left : ℕ) (f g : Play → Step) → FromLevels IsSuch f g → AreBoards IsSuch next →
       EqualSteps IsSuch (after (shown a next) (key_told a next done left f))
       (after (shown b next) (key_told b next done left g))

@@ -19,7 +19,7 @@ use Rattle.ps_model.specs.game.LevelRuns.{script_at_level}
 use Rattle.ps_laws.specs.LevelNumbers.{FoundLevelsAreNumbered, NumberedLevelsAreFound, LackedLevelsAreBeyond}
 use Rattle.ps_laws.specs.LevelNumbers.{FirstLevelIsStart, AnswersFromStart, AnswersAreTrueOfLevels}
 
--- the places of the levels among so many entries, from one on
+-- the places of the levels among `count` entries, from one on
 abbrev pub places_from : List Entry → ℕ → ℕ → List ℕ
 places_from entries at count = filter (λ entry. is_level_found (slice_get entries entry)) (range_with_len at count)
 
@@ -134,7 +134,7 @@ never_fewer entries at (suc more) =
     let last = step_up entries (at + more) (is_level_found (slice_get entries (at + more))) refl in
     rw next (omega (arith, first, last))
 
--- of the places from one on, that of a level stands behind those of the levels between
+-- of the places from one on, that of a level stands after those of the levels between
 abbrev AreFound : List Entry → ℕ → ℕ → Type 0
 AreFound entries at count = (before entry : ℕ) → at ≤ entry → entry < at + count →
     is_level_found (slice_get entries entry) ≡ true →

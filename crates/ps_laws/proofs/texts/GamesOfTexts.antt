@@ -1,4 +1,4 @@
--- The rules of every game speak of its own objects alone, each of its levels is loaded as a grid of the game, and each
+-- The rules of every game speak of its own objects alone. Each of its levels is loaded as a grid of the game, and each
 -- of its turns keeps such grids and their sides.
 use Rattle.std.proofs.Common.{◌≡◌, List, [], length, sym, ◌∙◌, arith}
 use Rattle.std.specs.Prelude.{All}

@@ -1,4 +1,4 @@
--- What the list of faults leaves out stands behind one that it lists.
+-- What the list of faults leaves out stands after one that it lists.
 use Rattle.std.proofs.Common.{◌≡◌, ℕ, Bool, false, ◌&&◌, Option, Some, None, List, [], ◌∷◌, ◌++◌, flat_map, filter_map}
 use Rattle.std.proofs.Common.{refl, ap, ap₂}
 use Rattle.std.specs.Prelude.{option_to_list}

@@ -1,5 +1,5 @@
--- The levels that are read have objects of the game alone and as many cells as their sides say, and so each is loaded
--- as a grid of the game.
+-- The levels that are read have objects of the game alone, and as many cells as their sides say. So each is loaded as a
+-- grid of the game.
 use Rattle.std.proofs.Common.{◌≡◌, ℕ, zero, suc, ◌+◌, ◌*◌, ◌<◌, Bool, true, false, cond, Option, Some, None, List, []}
 use Rattle.std.proofs.Common.{◌∷◌, ◌++◌, length, map, get_or, fold, replicate, refl, ap, ◌∙◌, arith}
 use mathlib.Core.Path.{subst}
@@ -191,7 +191,7 @@ columns-counted rows (column ∷ columns) =
     ∙ ap (λ (n : ℕ). n + length others) first ∙ ap (λ (n : ℕ). length rows + n) rest in
     long ∙ omega (arith, suc-mul (length columns) (length rows))
 
--- a level has so many cells as its columns and rows say
+-- a level has as many cells as its columns and rows say
 pub cells-counted : (names : Names) (width : ℕ) (rows : List Line) →
     length (grounded names (in_columns width (map (row_cells names width) rows))) ≡ width * length rows
 cells-counted names width rows =

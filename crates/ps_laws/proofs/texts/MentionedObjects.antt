@@ -28,7 +28,7 @@ IsObject count object = object.0 < count
 
 -- what is mentioned ---------------------------------------------------------------------------------------------------
 
--- a mention of an object is one of so many
+-- a mention of an object is one of `count`
 abbrev IsMention : ℕ → Mention → Type 0
 IsMention count (OfObject object) = object.0 < count
 IsMention count (OfLine place) = ⊤
@@ -159,7 +159,7 @@ legend_name-below count known declared all =
     (All-always (λ name. IfSome (found name) (IsMention count)) declared.right.mentions (λ name.
     All-lookup (IsMention count) (bytes_eq (folded name)) known all)))
 
--- what a name declares speaks of so many objects
+-- what a name declares speaks of `count` objects
 abbrev pub Speaks : ℕ → Declared → Type 0
 Speaks count declared = IsBelow count declared.meaning
 

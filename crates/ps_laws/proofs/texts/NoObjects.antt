@@ -20,7 +20,7 @@ first_line [] = 0
 first_line (OfObject object ∷ others) = 0
 first_line (OfLine place ∷ others) = place
 
--- the first mention is one of so many legend lines
+-- the first mention is one of `count` legend lines
 pub record StartsWithLine (count : ℕ) (mentions : List Mention) : Type 0 where
   pub within : first_line mentions < count
   pub there : has mentions (first_line mentions) ≡ true
@@ -44,7 +44,7 @@ found_under count number (first ∷ numbers) all e =
       | inr behind ↦ found_under count number numbers (All-tail (λ (each : ℕ). each < count) first numbers all) behind
     ]
 
--- numbers below so many come back
+-- numbers below a limit come back
 not_into : (f : ℕ → ℕ) (count : ℕ) → ((i : ℕ) → f i < count) → ((i j : ℕ) → i < j → f i ≡ f j → ⊥) → ⊥
 not_into f count within apart =
     let numbers : List ℕ = map f (range_with_len 0 (suc count)) in

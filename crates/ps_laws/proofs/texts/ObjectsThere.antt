@@ -101,7 +101,7 @@ declarations-some lines = All-filter_map Mentions (λ line. ⊤) declared_by lin
 
 -- what names mention where there is no object -------------------------------------------------------------------------
 
--- the mention is that of one of so many lines
+-- the mention is that of one of `count` lines
 abbrev IsLine : ℕ → Mention → Type 0
 IsLine count (OfObject object) = ⊥
 IsLine count (OfLine place) = place < count

@@ -1,5 +1,5 @@
--- Rules that are read from lines without faults have whole rows: an ellipsis first or last in a row, right behind
--- another one, or behind two others, is a fault.
+-- Rules that are read from lines without faults have whole rows: an ellipsis first or last in a row, right after
+-- another one, or after two others, is a fault.
 use Rattle.std.proofs.Common.{◌≡◌, ℕ, ◌+◌, ◌<◌, ◌≤◌, Bool, true, false, ◌&&◌, ◌||◌, Option, Some, None, List, [], ◌∷◌}
 use Rattle.std.proofs.Common.{◌++◌, length, map, filter, cond, reverse, append_assoc, refl, sym, subst, ap, ◌∙◌, arith}
 use Rattle.std.specs.Prelude.{All, IfSome, ⊤, drop, slice_index_or}
@@ -89,7 +89,7 @@ last-first cell (next ∷ cells) more =
     (append_assoc (reverse (next ∷ cells)) (cell ∷ []) more)
     ∙ last-first next cells (cell ∷ more)
 
--- behind a cell, which has an ellipsis where it is a gap, there are no gaps side by side, and none comes last
+-- after a cell, which has an ellipsis where it is a gap, there are no gaps side by side, and none comes last
 cells-go-on : (before gap : Bool) (cells others : List (List Token)) → (gap ≡ true → before ≡ true) →
     ellipses_touch_behind before cells ≡ false → last_has before cells ≡ false → GoesOn is_gap gap (beside cells others)
 cells-go-on before true [] others has touch last = absurd (both_ways before last (has refl))

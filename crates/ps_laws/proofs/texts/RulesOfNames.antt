@@ -1,5 +1,5 @@
--- Rules that are read speak of objects of the game alone: a word of a line that is a name stands for objects of the
--- game, and the shape and the tree of a rule are made of the words of its line.
+-- Rules that are read speak of objects of the game alone. A word of a line that is a name stands for objects of the
+-- game. The shape and the tree of a rule are made of the words of its line.
 use Rattle.std.proofs.Common.{◌≡◌, ℕ, Bool, true, false, not, Option, Some, None, List, [], ◌∷◌, map, refl}
 use Rattle.std.specs.Prelude.{All, IfSome, ⊤, unwrap_or, slice_range, codes}
 use Rattle.std.specs.List.{slice_split}

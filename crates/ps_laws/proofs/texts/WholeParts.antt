@@ -1,19 +1,19 @@
--- The parts into which elements of a kind cut a list have an element each, where no such element is first, last or
--- right behind another one.
+-- Elements of a kind cut a list into parts. These have an element each, where no such element is first, last or right
+-- after another one.
 use Rattle.std.proofs.Common.{◌≡◌, Bool, true, false, List, [], ◌∷◌, cond, sym, subst, arith}
 use Rattle.std.specs.Prelude.{All, ⊤, drop}
 use Rattle.std.specs.List.{slice_split, onto_first}
 use Rattle.std.proofs.lemmas.List.Elements.{All-nil, All-cons}
 use Rattle.ps_laws.specs.WholeRows.{HasCells}
 
--- a list may go on behind an element that cuts, or one that doesn't: behind one that cuts there is one that doesn't
+-- a list may go on after an element that cuts, or one that doesn't: after one that cuts there is one that doesn't
 abbrev pub GoesOn : {A : Type 0} → (A → Bool) → Bool → List A → Type 0
 GoesOn cuts true [] = ⊥
 GoesOn cuts false [] = ⊤
 GoesOn cuts true (x ∷ xs) = (cuts x ≡ false) × GoesOn cuts false xs
 GoesOn cuts false (x ∷ xs) = GoesOn cuts (cuts x) xs
 
--- the parts that begin behind an element: all of them behind one that cuts, else those behind the first
+-- the parts that begin after an element: all of them after one that cuts, else those after the first
 abbrev begun : {A : Type 0} → Bool → List (List A) → List (List A)
 begun true parts = parts
 begun false parts = drop 1 parts
@@ -29,7 +29,7 @@ onto-later : {A : Type 0} (x : A) (parts : List (List A)) → All HasCells (drop
 onto-later x [] all = All-nil HasCells
 onto-later x (part ∷ parts) all = all
 
--- an element that cuts, or one that doesn't, behind one that doesn't
+-- an element that cuts, or one that doesn't, after one that doesn't
 later-whole : {A : Type 0} (x : A) (parts : List (List A)) (here : Bool) → All HasCells (begun here parts) →
     All HasCells (drop 1 (cond here ([] ∷ parts) (onto_first x parts)))
 later-whole x parts true all = all

@@ -107,7 +107,7 @@ both queue commands = record {
   message = option_or queue.message commands.message;
 }
 
--- the queue with the commands of a rule: behind `cancel` nothing enters, behind `restart` nothing but a rule with
+-- the queue with the commands of a rule: after `cancel` nothing enters, after `restart` nothing but a rule with
 -- `cancel`; a rule with `cancel` or `restart` empties the queue before its commands enter
 abbrev pub queued : Commands → Commands → Commands
 queued queue commands =

@@ -1,5 +1,5 @@
--- A level: for each cell, in columns from the left and each column from the top, the objects that its character shows;
--- and the grid that it is loaded as.
+-- A level: for each cell the objects that its character shows; and the grid that it is loaded as. Cells go in columns
+-- from the left, each column from the top.
 use Rattle.std.specs.Prelude.{ℕ, nat_eq, Bool, if◌then◌else◌, Option, Some, None, unwrap_or, List, [], ◌∷◌, ◌++◌, map}
 use Rattle.std.specs.Prelude.{find, fold, replicate, slice_set, slice_index_or}
 use Rattle.std.specs.Prelude.{encode_utf8}

@@ -47,7 +47,7 @@ winner g layer cell = elim (is_bare g layer cell) [
   | false ↦ option_or (least_contender g layer cell (nat_lt cell)) (least_contender g layer cell (λ from. true))
 ]
 
--- a chain of at most so many links leads from the cell to a bare one: each cell of it is the winner of the next
+-- a chain of at most that number of links leads from the cell to a bare one: each cell of it is the winner of the next
 abbrev pub slides_within : Grid → ℕ → ℕ → ℕ → Bool
 slides_within g layer zero cell = false
 slides_within g layer (suc links) cell = elim (target g layer cell) [

@@ -1,7 +1,7 @@
 -- The places of a row of a rule on a grid: straight lists of cells in the rule's direction, with any gap at an
--- ellipsis, of which each fits. Horizontal directions are searched row by row from the top, each from the left;
--- vertical ones column by column from the left, each from the top. A place is ordered by its end cell that is leftmost
--- or topmost, then by the gap nearest to that end, then by the other gap.
+-- ellipsis, of which each fits. Horizontal directions are searched row by row from the top, each from the left.
+-- Vertical ones are searched column by column from the left, each from the top. A place is ordered by its leftmost or
+-- topmost end cell, then by the gap nearest to that end, then by the other gap.
 use Rattle.std.specs.Prelude.{ℕ, suc, ◌+◌, ◌-◌, ◌*◌, ◌/◌, ◌%◌, nat_le, Bool, true, false, Option, Some, None, List, []}
 use Rattle.std.specs.Prelude.{◌∷◌, ◌++◌, length, map, filter, take, drop, reverse, slice_get}
 use Rattle.std.specs.List.{flat_map, range_with_len}
@@ -28,8 +28,8 @@ row_by_row g = flat_map (λ row. map (λ column. column * g.height + row) (range
 abbrev pub column_by_column : Grid → List ℕ
 column_by_column g = range_with_len 0 (cell_count g)
 
--- the ways in which parts of these lengths lie on a line of cells, the first part at its beginning and each other one
--- behind any gap; least gaps come first
+-- the ways in which parts of these lengths lie on a line of cells. The first part is at its beginning, each other one
+-- after any gap; least gaps come first
 abbrev pub ways_along : List ℕ → List ℕ → List (List ℕ)
 ways_along [] line = [] ∷ []
 ways_along (size ∷ sizes) line = elim (nat_le size (length line)) [

@@ -22,7 +22,7 @@ round [] state = record { state = state; changed = false }
 round (rule ∷ rules) state = let first : Result = attempt rule state in
     after_change first.changed (round rules first.state)
 
--- rounds, at most so many, until one changes nothing; `changed` says whether an earlier one changed something
+-- rounds, up to a limit, until one changes nothing; `changed` says whether an earlier one changed something
 abbrev pub settled : List RuleMeaning → ℕ → Bool → State → Result
 settled rules zero changed state = record { state = state; changed = changed }
 settled rules (suc rounds) changed state =
@@ -53,7 +53,7 @@ pub record Progress : Type 0 where
   pub repeats : ℕ
   pub stopped : Bool
 
--- a loop with so many repeats left: a pass, and a repeat while the last pass changed something
+-- a loop with a number of repeats left: a pass, and a repeat while the last pass changed something
 abbrev pub looped : List (List RuleMeaning) → ℕ → State → Progress
 looped body zero state = let next : Result = pass body state in
     record { state = next.state; repeats = 0; stopped = next.changed }
@@ -69,7 +69,7 @@ looped body (suc repeats) state =
       }
     ]
 
--- a section with so many repeats left
+-- a section with a number of repeats left
 abbrev pub section_run : Section → ℕ → State → Progress
 section_run (Group rules) repeats state = let result : Result = group rules state in
     record { state = result.state; repeats = repeats; stopped = false }

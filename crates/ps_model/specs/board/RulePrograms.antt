@@ -66,7 +66,7 @@ abbrev pub of_pieces : {A B : Type 0} → (A → List B) → (A → List B) → 
 of_pieces first other [] = []
 of_pieces first other (piece ∷ pieces) = first piece ++ flat_map other pieces
 
--- the lines behind the start of a loop, cut at its end: inside are those before it
+-- the lines after the start of a loop, cut at its end: inside are those before it
 abbrev pub behind_start : Part → List RuleLine → List (SectionOf SourceRule)
 behind_start part lines = of_pieces (inside_loop part) (outside_loops part) (slice_split is_end lines)
 

@@ -1,6 +1,6 @@
 -- The weak slide: what may be said of a movement before it is said who wins a cell. Each object stands where it stood
--- or in its target, each object is there as often as before, no slot holds two, and all objects are at rest. A movement
--- in which everything stays in place is one of them.
+-- or in its target. Each is there as often as before, no slot holds two, and all objects are at rest. A movement in
+-- which everything stays in place is one of them.
 use Rattle.std.specs.Prelude.{◌≡◌, ℕ, nat_eq, Bool, true, false, unwrap_or, count_by, slice_index_or}
 use Rattle.ps_model.specs.declared.pieces.ObjectId.{ObjectId}
 use Rattle.ps_model.specs.declared.pieces.Motion.{Motion}

@@ -19,7 +19,7 @@ use Rattle.ps_model.specs.board.Wins.{Win}
 pub record WinText : Type 0 where
   pub quantifier : Quantifier
   pub subject : List ℕ
-  -- the name behind `on`
+  -- the name after `on`
   pub place : Option (List ℕ)
 
 -- the first words of win conditions
@@ -44,7 +44,7 @@ win_of_words words = None
 abbrev pub win_text : Line → Option WinText
 win_text line = win_of_words (words_of_line line)
 
--- what the name behind `on` stands for, if one is there and declared; without one, nothing is asked
+-- what the name after `on` stands for, if one is there and declared; without one, nothing is asked
 abbrev pub place_read : Names → Option (List ℕ) → Option (Option Meaning)
 place_read names None = Some None
 place_read names (Some name) = option_map (λ meaning. Some meaning) (meaning_of names name)

@@ -22,18 +22,18 @@ is_there_among objects (AnyOf line members) = list_any (is_among objects) member
 abbrev pub is_in : Meaning → List Slot → Bool
 is_in meaning cell = is_there_among (objects_in cell) meaning
 
--- what the name behind `on` stands for is in a cell; without such a name every cell will do
+-- what the name after `on` stands for is in a cell; without such a name every cell will do
 abbrev pub is_place : Option Meaning → List Slot → Bool
 is_place None cell = true
 is_place (Some meaning) cell = is_in meaning cell
 
--- so many of these cells are places: none, some, or all
+-- none, some or all of these cells are places, as the quantifier asks
 abbrev pub holds_of : Quantifier → Option Meaning → List (List Slot) → Bool
 holds_of asked.No place cells = not (list_any (is_place place) cells)
 holds_of asked.Some place cells = list_any (is_place place) cells
 holds_of asked.All place cells = list_all (is_place place) cells
 
--- the win condition holds of the grid: so many of the cells with X are places
+-- the win condition holds of the grid: none, some or all of the cells with X are places
 abbrev pub holds : Grid → Win → Bool
 holds g win = holds_of win.quantifier win.place (filter (is_in win.subject) g.cells)
 

@@ -8,5 +8,5 @@ use Rattle.ps_model.specs.names.Names.{Meaning}
 pub record Win : Type 0 where
   pub quantifier : Quantifier
   pub subject : Meaning
-  -- the name behind `on`
+  -- the name after `on`
   pub place : Option Meaning

@@ -1,5 +1,5 @@
 -- The game of a text, and the faults of a text. Each part is read from a text with faults too, as far as it goes. A
--- text is a game exactly where it has no fault; who refuses a text tells the first of its faults.
+-- text is a game exactly where it has no fault; a refusal tells the first of its faults.
 use Rattle.std.specs.Prelude.{ℕ, Option, Some, None, List, [], ◌∷◌, ◌++◌}
 use Rattle.ps_model.specs.declared.texts.Section.TheVariants.{Prelude, Objects, Legend, Layers, Rules, Wins, Levels}
 use Rattle.ps_model.specs.declared.faults.Fault.{Fault}
@@ -62,8 +62,8 @@ faults_beside read lines =
 abbrev pub line_faults : List Line → List Fault
 line_faults lines = faults_beside (game_read lines) lines
 
--- the faults of a text, in the order in which they are told; of bytes that are no text that one alone. Who refuses a
--- text tells the first; which others a text has is said by itself
+-- the faults of a text, in the order in which they are told; of bytes that are no text that one alone. A refusal
+-- tells the first; which others a text has is said by itself
 abbrev pub faults : List ℕ → List Fault
 faults text = elim (text_fault text) [ Some fault ↦ fault ∷ [] | None ↦ line_faults (lines_of text) ]
 

@@ -1,7 +1,7 @@
--- What a run may answer, for every text and every stream of key bytes, in whatever pieces it comes: it refuses the text
+-- What a run may answer, for every text and every stream of key bytes, in whatever pieces it comes. It refuses the text
 -- with the first fault that the text has, or writes exactly the output of the text's game on the keys. Where memory is
--- refused, keys can't be read or the output can't be written, it stops and says so, and has written a front of it, as
--- said below. Whatever it answers, it asks for no more keys once those that it has read have ended the game.
+-- refused, keys can't be read or the output can't be written, it stops and says so. Then it has written a front of the
+-- output, as said below. Whatever it answers, it asks for no more keys once those that it has read have ended the game.
 use Rattle.std.specs.Prelude.{◌≡◌, ◌≢◌, ℕ, ◌+◌, ◌<◌, ◌≤◌, true, false, ⊤, ◌⊎◌, Option, Some, option_map, List, [], ◌++◌}
 use Rattle.std.specs.Prelude.{◌∷◌, length, take}
 use Rattle.std.specs.List.{All, concat}
@@ -22,8 +22,8 @@ use Rattle.ps_model.specs.game.Tellings.{Told, Tells, bytes_of_call, read_before
 abbrev pub script_of_text : List ℕ → Option Script
 script_of_text text = option_map script_of (game text)
 
--- what a run answers: how it ended; why the text is refused; or that it wants memory, can't read keys, or can't write
--- the output
+-- what a run answers: how it ended; why the text is refused; or that it is out of memory, can't read keys, or can't
+-- write the output
 pub data Answer : Type 0 where
   Ends : Ending → Answer
   Refuses : Fault → Answer
@@ -37,7 +37,7 @@ pub data Answer : Type 0 where
 abbrev pub IsFront : List ℕ → List ℕ → Type 0
 IsFront first second = (rest : List ℕ) × (second ≡ first ++ rest)
 
--- the second list begins with the first, and goes on behind it
+-- the second list begins with the first, and goes on after it
 pub record IsCutOff (first second : List ℕ) : Type 0 where
   pub rest : List ℕ
   pub some : 1 ≤ length rest
@@ -47,13 +47,13 @@ pub record IsCutOff (first second : List ℕ) : Type 0 where
 abbrev pub texts_of : Script → List ℕ → List ℕ
 texts_of script bytes = front script bytes (length (keys_of bytes))
 
--- how the first so many keys of the bytes leave the game: it has ended, or else the keys have
+-- how the first `count` keys of the bytes leave the game: it has ended, or else the keys have
 abbrev pub ending_behind : Script → List ℕ → ℕ → Ending
 ending_behind script bytes count =
     let start : Step = opening_step script in
     (output_of_keys script start.session (ending_of start.session) (take count (keys_of bytes))).ending
 
--- the game goes on behind all keys of the bytes
+-- the game goes on after all keys of the bytes
 abbrev pub GoesOn : Script → List ℕ → Type 0
 GoesOn script bytes = (output script bytes).ending ≡ EndOfKeys
 
@@ -64,14 +64,14 @@ pub record IsPiece (piece : List ℕ) : Type 0 where
   pub some : 1 ≤ length piece
   pub few : length piece ≤ CALL_LIMIT
 
--- a run's calls of its reader, in a game, with what the reader has left behind them
+-- a run's calls of its reader, in a game, with what the reader has left after them
 pub record AsksInTurn (script : Script) (earlier : List (List ℕ)) (last : Call) (left : List ℕ) : Type 0 where
-  -- no call gave more than one may ask for, none came behind one that gave nothing, and they are no more than a run
+  -- no call gave more than one may ask for, none came after one that gave nothing, and they are no more than a run
   -- makes
   pub pieces : All IsPiece earlier
   pub few : length (bytes_of_call last) ≤ CALL_LIMIT
   pub calls : length earlier < READ_LIMIT
-  -- the game went on behind the keys that were read before the last call: so no call comes behind the ending
+  -- the game went on after the keys that were read before the last call: so no call comes after the ending
   pub goes_on : GoesOn script (concat earlier)
   -- a call gives nothing only where nothing is left
   pub spent : last ≡ Gives [] → left ≡ []
@@ -138,9 +138,9 @@ pub record StopsAtOnce (told : Told) : Type 0 where
   pub wrote_nothing : told.wrote ≡ []
   pub writer_is_well : WriterIsWell told
 
--- memory was refused in play: what was written is the opening and the texts of so many keys, whole, and not fewer than
--- were read before the last call; the game went on behind them, and more was to be made: the text of a key that was
--- read, or, where the last call gave nothing, the line that says so
+-- memory was refused in play: what was written is the opening and the texts of some keys, whole, and not fewer than
+-- were read before the last call; the game went on after them. More was to be made: the text of a key that was read,
+-- or, where the last call gave nothing, the line that says so
 pub record StopsForMemory (script : Script) (told : Told) : Type 0 where
   pub reads : ReadsInTurn script told.reading told.left
   pub reader_is_well : ReaderIsWell told
@@ -163,7 +163,7 @@ ReadsNoMore Unasked = ⊥
 ReadsNoMore (Asked earlier (Gives piece)) = (length earlier + 1 ≡ READ_LIMIT) × (piece ≢ [])
 ReadsNoMore (Asked earlier Fails) = ⊤
 
--- keys couldn't be read: the texts of all keys read are written, and the game went on behind them
+-- keys couldn't be read: the texts of all keys read are written, and the game went on after them
 pub record CannotReadRightly (script : Script) (told : Told) : Type 0 where
   pub reads : ReadsInTurn script told.reading told.left
   pub writer_is_well : WriterIsWell told
@@ -204,7 +204,7 @@ Answers text told CannotWrite = (script : Script) × (script_of_text text ≡ So
 
 -- devices -------------------------------------------------------------------------------------------------------------
 
--- a run on a text with this answer is right, by what its devices told before it and tell behind it. Devices that don't
+-- a run on a text with this answer is right, by what its devices told before it and tell after it. Devices that don't
 -- tell their bytes tell the rest: then there are some bytes with which it is
 pub record RunsRightly (text : List ℕ) (reader_before reader_after : ReaderState)
     (writer_before writer_after : WriterState) (answer : Answer) : Type 0 where

@@ -1,5 +1,5 @@
 -- Which faults a text has. The list of faults is made so that its first one is told; some that hold it leaves out
--- behind others, and some that it lists stand at a header that isn't there. Here each row of the table holds or not by
+-- after others, and some that it lists stand at a header that isn't there. Here each row of the table holds or not by
 -- itself, whatever else is wrong of lines that can be read; a line of RULES that has no form has that fault alone.
 use Rattle.std.specs.Prelude.{◌≡◌, ◌≤◌, ◌⊎◌, ℕ, ◌&&◌, Some, None, option_to_list, List, [], ◌∷◌}
 use Rattle.std.specs.Prelude.{◌++◌}
@@ -29,8 +29,8 @@ use Rattle.ps_model.specs.game.Games.{Game, game_read, faults}
 abbrev pub items_of_sides : RuleShape → List (List Item)
 items_of_sides shape = flat_map (λ words. items_of words ∷ []) (cells_of_side shape.left ++ cells_of_side shape.right)
 
--- where the rows of a rule differ, no tree has all its cells: a name twice in a cell of either side, RU5, or `no`
--- before an aggregate, RU6, is a fault of the rule beside that of its rows, RU3
+-- where the rows of a rule differ, RU3, no tree has all its cells. Then a name twice in a cell of either side, RU5, or
+-- `no` before an aggregate, RU6, is a fault beside it
 abbrev pub hidden_by_rows : ℕ → LineForm → List Fault
 hidden_by_rows line StartForm = []
 hidden_by_rows line EndForm = []

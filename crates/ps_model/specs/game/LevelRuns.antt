@@ -45,7 +45,7 @@ script_from_level text level = option_and_then (script_at_level level) (game tex
 
 -- answers -------------------------------------------------------------------------------------------------------------
 
--- what such a run answers: what a run answers; or that the game has so many levels, and not that one
+-- what such a run answers: what a run answers; or how many levels the game has, without that one
 pub data LevelAnswer : Type 0 where
   Plays : Answer → LevelAnswer
   LacksLevel : ℕ → LevelAnswer
@@ -62,7 +62,7 @@ AnswersIn found text told WantsMemory = WantsMemoryIn found told
 AnswersIn found text told CannotRead = (script : Script) × (found ≡ Some script) × CannotReadRightly script told
 AnswersIn found text told CannotWrite = (script : Script) × (found ≡ Some script) × CannotWriteRightly script told
 
--- the text has a game with so many levels, and not with the one of that number
+-- the text has a game with `count` levels, and not with the one of that number
 pub record LacksThatLevel (text : List ℕ) (level count : ℕ) : Type 0 where
   pub read : Game
   pub is : game text ≡ Some read

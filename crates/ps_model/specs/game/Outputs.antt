@@ -59,7 +59,7 @@ texts_of_keys script session [] = []
 texts_of_keys script session (key ∷ keys) = let step : Step = key_step script session key in
     step.text ++ texts_of_keys script step.session keys
 
--- the front of an output: the opening, and the texts of the first so many keys
+-- the front of an output: the opening, and the texts of a number of first keys
 abbrev pub front : Script → List ℕ → ℕ → List ℕ
 front script bytes count = let start : Step = opening_step script in
     start.text ++ texts_of_keys script start.session (take count (keys_of bytes))

@@ -1,14 +1,14 @@
 -- What the devices of a run tell of it. A reader tells at any time whether a call has failed, how many bytes its last
--- call gave, how many calls it has had and how many of them gave nothing or had another room than a run asks for, and
--- perhaps the bytes that it still has to give; a writer tells likewise. What they tell before a run and behind it says
--- what the run read and wrote, and how it called them.
+-- call gave, and how many calls it has had. It tells how many of them gave nothing, or had another room than a run asks
+-- for. Perhaps it tells the bytes that it still has to give. A writer tells likewise. What they tell before a run and
+-- after it says what the run read and wrote, and how it called them.
 use Rattle.std.specs.Prelude.{◌≡◌, ℕ, ◌+◌, ◌-◌, ◌^◌, ◌≤◌, Bool, true, false, ⊤, ◌⊎◌, Option, Some, None, option_map}
 use Rattle.std.specs.Prelude.{List, [], ◌∷◌, ◌++◌, length}
 use Rattle.std.specs.List.{concat}
 
 -- what a reader tells of itself: the bytes that it has left, or nothing of them; whether a call has failed; how many
--- bytes its last call gave; how many calls it has counted; and of those how many gave nothing without failing, and how
--- many had room for fewer bytes than a run asks for at a time, or for more
+-- bytes its last call gave; how many calls it has counted; how many of those gave nothing without failing; and how many
+-- had room for fewer bytes than a run asks for at a time, or for more
 pub record ReaderState : Type 0 where
   pub remaining : Option (List ℕ)
   pub has_failed : Bool
@@ -32,7 +32,7 @@ pub data Call : Type 0 where
   Gives : List ℕ → Call
   Fails : Call
 
--- what a run asks of its reader: nothing at all; or a call and more calls, which are told by the pieces that all but
+-- what a run asks of its reader: nothing at all; or a call and more calls. These are told by the pieces that all but
 -- the last one gave, in order, and by the last one
 pub data ReaderCalls : Type 0 where
   Unasked : ReaderCalls
@@ -40,7 +40,7 @@ pub data ReaderCalls : Type 0 where
 
 -- a run, as its devices tell it
 pub record Told : Type 0 where
-  -- what it asked of the reader, and the bytes that the reader has left behind it
+  -- what it asked of the reader, and the bytes that the reader has left after it
   pub reading : ReaderCalls
   pub left : List ℕ
   -- the bytes that the writer took in it, and whether a write failed in it
@@ -75,7 +75,7 @@ has_failing_call Unasked = false
 has_failing_call (Asked earlier (Gives piece)) = false
 has_failing_call (Asked earlier Fails) = true
 
--- how many bytes the reader's last call gave, where it gave so many before the run
+-- how many bytes the reader's last call gave, where it gave `before` before the run
 abbrev pub last_behind : ℕ → ReaderCalls → ℕ
 last_behind before Unasked = before
 last_behind before (Asked earlier last) = length (bytes_of_call last)
@@ -113,7 +113,7 @@ abbrev pub idle_writes : Bool → ℕ
 idle_writes true = 1
 idle_writes false = 0
 
--- two devices that were well tell of this run, by what they told before it and by what they tell behind it
+-- two devices that were well tell of this run, by what they told before it and by what they tell after it
 pub record Tells (reader_before reader_after : ReaderState) (writer_before writer_after : WriterState) (told : Told) :
     Type 0 where
   -- no call of the reader had failed before; one has now exactly if one failed in the run
@@ -133,7 +133,7 @@ pub record Tells (reader_before reader_after : ReaderState) (writer_before write
   -- the bytes that the writer has taken are those that it had taken, and then those that were written
   pub wrote : writer_after.contents ≡ option_map (λ known. known ++ told.wrote) writer_before.contents
   -- it has counted the calls of the run. Each was handed a byte or more, and each took a byte or more but for one that
-  -- failed, so there were no more of them than bytes written; where some were written, there was a call
+  -- failed. So there were no more of them than bytes written, and that one; where some were written, there was a call
   pub calls_of_writer : writer_after.calls ≡ writer_before.calls + told.writes
   pub short_calls : writer_after.short_calls ≡ writer_before.short_calls + told.short_writes
   pub no_empty_write : writer_after.empty_calls ≡ writer_before.empty_calls

@@ -1,5 +1,5 @@
 -- Compiled rules, as data: for each cell a mask, which tells the cells of the board that it fits, and a write, which
--- tells what it makes of them. A mask and a write mean the same two facts that a reading of a source rule means, so
+-- tells what it makes of them. A mask and a write mean the same two facts that a reading of a source rule means. So
 -- places, attempts, rounds and programs are the same words for both.
 use Rattle.std.specs.Prelude.{ℕ, suc, nat_eq, Bool, false, ◌&&◌, not, Option, Some, None, List, [], ◌∷◌, map, find}
 use Rattle.std.specs.Prelude.{slice_index_or, unwrap_or, if◌then◌else◌}

@@ -79,8 +79,8 @@ abbrev pub is_on_left_too : SourceRule → Meaning → Bool
 is_on_left_too rule meaning = list_all (λ cell.
     not (list_any (names_it meaning) cell.right) || list_any (names_it meaning) cell.left) (cells_of rule)
 
--- a property is loose in a rule if its members lie on one layer and each of its right occurrences stands in a cell
--- where the left has it too
+-- a property is loose in a rule if two things hold: its members lie on one layer, and each of its right occurrences
+-- stands in a cell where the left has it too
 abbrev pub is_loose : Names → SourceRule → Meaning → Bool
 is_loose names rule (One object) = false
 is_loose names rule (AllOf line objects) = false

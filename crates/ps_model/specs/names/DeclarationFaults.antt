@@ -30,8 +30,8 @@ are_declared_again before (name ∷ names) = list_any (bytes_eq (folded name)) b
 
 -- OBJECTS -------------------------------------------------------------------------------------------------------------
 
--- a bad object, NA1: its name line has over two words or a second name of over one character, or no colours stand right
--- below, or one to four rows of a sprite
+-- a bad object, NA1. Its name line has over two words, or a second name of over one character. Or no colours stand
+-- right below, or one to four rows of a sprite do
 abbrev pub is_bad_object : ObjectText → Bool
 is_bad_object object = not (names_well object.words) || not (is_whole object)
 

@@ -36,7 +36,7 @@ places_among lists object = map (λ numbered. numbered.0)
 abbrev pub last_among : List (List ObjectId) → ObjectId → Option ℕ
 last_among lists object = last_or None (places_among lists object)
 
--- the layer of each of so many objects, if a layer names it
+-- the layer of each of `count` objects, if a layer names it
 abbrev pub layers_found : ℕ → List Layer → List (Option ℕ)
 layers_found count layers = let lists : List (List ObjectId) = map objects_of_layer layers in
     map (λ number. last_among lists (record { 0 = number })) (range_with_len 0 count)

@@ -15,8 +15,8 @@ use Rattle.ps_model.specs.text.Lines.{folded}
 use Rattle.ps_model.specs.names.Names.{Meaning, One, AllOf, AnyOf, same_object}
 use Rattle.ps_model.specs.names.LegendLines.{Declaration}
 
--- a name on the right of a legend line is that of an object, or that of a legend line, by its place among those that
--- declare
+-- a name on the right of a legend line is that of an object, or that of a legend line. Such a line is given by its
+-- place among those that declare
 pub data Mention : Type 0 where
   OfObject : ObjectId → Mention
   OfLine : ℕ → Mention
@@ -83,7 +83,7 @@ abbrev pub mentions_of : List LegendName → Mention → List Mention
 mentions_of legend (OfObject object) = []
 mentions_of legend (OfLine place) = mentions_of_name (slice_get legend place)
 
--- a list to which mentions are added, in so many steps at most: one that the list has already is passed over; another
+-- a list to which mentions are added, in a limited number of steps: one that the list has already is skipped; another
 -- is put at its end, and then what the mention's own line mentions is added before the others
 abbrev pub with_mentioned : List LegendName → ℕ → List Mention → List Mention → List Mention
 with_mentioned legend steps listed [] = listed
@@ -123,7 +123,7 @@ meaning_by_joiner of_mention legend Alone name = option_and_then of_mention (sli
 meaning_by_joiner of_mention legend And name = Some (AllOf name.line (objects_of legend name))
 meaning_by_joiner of_mention legend Or name = Some (AnyOf name.line (objects_of legend name))
 
--- what a mention stands for, behind so many synonyms at most; nothing where synonyms stand for themselves
+-- what a mention stands for, after `most` synonyms at most; nothing where synonyms stand for themselves
 abbrev pub meaning_behind : List LegendName → ℕ → Mention → Option Meaning
 meaning_behind legend most (OfObject object) = Some (One object)
 meaning_behind legend zero (OfLine place) = None

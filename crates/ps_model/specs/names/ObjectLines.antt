@@ -1,4 +1,4 @@
--- The objects of OBJECTS. An object has a name line: its name, and behind it a second name of one character where it
+-- The objects of OBJECTS. An object has a name line: its name, and after it a second name of one character where it
 -- has one. Right below stand its colours, in a line that isn't blank, and right below these the five rows of its
 -- sprite, where it has one. Blank lines stand between objects and may be left out.
 use Rattle.std.specs.Prelude.{ℕ, zero, suc, ◌==◌, nat_le, Bool, true, false, ◌&&◌, ◌||◌, if◌then◌else◌, Option, None}
@@ -44,7 +44,7 @@ abbrev pub lines_below : List Line → ℕ
 lines_below [] = 0
 lines_below (colours ∷ others) = if is_blank_line colours then 0 else suc (sprite_rows others)
 
--- the objects of lines of which the first ones, so many, belong to the object above
+-- the objects of lines of which the first `above` belong to the object above
 abbrev pub objects_below : ℕ → List Line → List ObjectText
 objects_below above [] = []
 objects_below (suc above) (line ∷ others) = objects_below above others

@@ -12,7 +12,7 @@ use Rattle.ps_model.specs.meaning.Readings.{reading_count}
 use Rattle.ps_model.specs.meaning.ReadingMeanings.{has_possible}
 use Rattle.ps_model.specs.board.RulePrograms.{rule_in}
 
--- GM4: rules with too many readings, or with which the readings are too many that have been so many before them
+-- GM4: rules with too many readings, or with which the readings are too many, of which `before` come before them
 abbrev pub too_many_readings : Names → ℕ → List SourceRule → List Fault
 too_many_readings names before [] = []
 too_many_readings names before (rule ∷ rules) =

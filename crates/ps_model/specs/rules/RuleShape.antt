@@ -1,5 +1,5 @@
--- The shape of a rule: `->` parts its line in a left and a right side, brackets part a side in rows and what stands
--- outside them, and bars part a row in cells. Brackets that don't pair, or nest, make no shape.
+-- The shape of a rule: `->` parts its line in a left and a right side. Brackets part a side in rows and what stands
+-- outside them. Bars part a row in cells. Brackets that don't pair, or nest, make no shape.
 use Rattle.std.specs.Prelude.{Bool, true, false, not, Option, Some, None, List, [], ◌∷◌, ◌++◌, map, fold, drop}
 use Rattle.std.specs.Prelude.{slice_index_or}
 use Rattle.std.specs.List.{slice_split, list_any, flat_map}
@@ -49,7 +49,7 @@ cut_at kind tokens = slice_split (λ token. kind token.symbol) tokens
 abbrev pub has_kind : (Symbol → Bool) → List Token → Bool
 has_kind kind tokens = list_any (λ token. kind token.symbol) tokens
 
--- a row as it is written: the words of each cell, and those behind its `]` up to the next row or the side's end
+-- a row as it is written: the words of each cell, and those after its `]` up to the next row or the side's end
 pub record WrittenRow : Type 0 where
   pub cells : List (List Token)
   pub behind : List Token
@@ -64,14 +64,14 @@ pub record RuleShape : Type 0 where
   pub left : WrittenSide
   pub right : WrittenSide
 
--- the row of what stands behind a `[`, cut at each `]`: there is one
+-- the row of what stands after a `[`, cut at each `]`: there is one
 abbrev pub row_of_parts : List (List Token) → Option WrittenRow
 row_of_parts (inside ∷ behind ∷ []) = Some (record { cells = cut_at is_bar inside; behind = behind })
 row_of_parts [] = None
 row_of_parts (inside ∷ []) = None
 row_of_parts (inside ∷ behind ∷ more ∷ others) = None
 
--- the row of what stands behind a `[`, up to the next one
+-- the row of what stands after a `[`, up to the next one
 abbrev pub row_of : List Token → Option WrittenRow
 row_of tokens = row_of_parts (cut_at is_close tokens)
 
@@ -105,7 +105,7 @@ abbrev pub has_rows : List WrittenRow → Bool
 has_rows [] = false
 has_rows (row ∷ rows) = true
 
--- what stands behind the last row of a side, or all of it where it has no row: there a right side has its commands
+-- what stands after the last row of a side, or all of it where it has no row: there a right side has its commands
 abbrev pub at_end : WrittenSide → List Token
 at_end side = fold (λ words row. row.behind) side.ahead side.rows
 
@@ -118,7 +118,7 @@ words_before words (row ∷ rows) = words ++ words_before row.behind rows
 abbrev pub before_end : WrittenSide → List Token
 before_end side = words_before side.ahead side.rows
 
--- the words behind the rows of a side
+-- the words after the rows of a side
 abbrev pub words_behind : WrittenSide → List Token
 words_behind side = flat_map (λ row. row.behind) side.rows
 

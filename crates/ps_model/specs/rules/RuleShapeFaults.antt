@@ -20,11 +20,11 @@ is_cell_word Without = true
 is_cell_word Ellipsis = true
 is_cell_word other = false
 
--- the words outside brackets behind the first `[` of a rule
+-- the words outside brackets after the first `[` of a rule
 abbrev pub words_outside : RuleShape → List Token
 words_outside shape = words_behind shape.left ++ (shape.right.ahead ++ words_behind shape.right)
 
--- RU1: no row on the left; a `|` outside brackets; or a word of a cell outside brackets behind the first `[`
+-- RU1: no row on the left; a `|` outside brackets; or a word of a cell outside brackets after the first `[`
 abbrev pub has_bad_bracket : RuleShape → Bool
 has_bad_bracket shape =
     not (has_rows shape.left.rows) || (has_kind is_bar (shape.left.ahead ++ words_outside shape) || has_kind
@@ -59,13 +59,13 @@ abbrev pub is_name : Symbol → Bool
 is_name (Called meaning) = true
 is_name other = false
 
--- among the words behind a word, and that word, a movement word or `no` has no name right behind it
+-- among the words after a word, and that word, a movement word or `no` has no name right after it
 abbrev pub misses_name_behind : Symbol → List Token → Bool
 misses_name_behind before [] = asks_for_name before
 misses_name_behind before (token ∷ tokens) =
     (asks_for_name before && not (is_name token.symbol)) || misses_name_behind token.symbol tokens
 
--- in a cell, a movement word or `no` has no name right behind it
+-- in a cell, a movement word or `no` has no name right after it
 abbrev pub misses_name : List Token → Bool
 misses_name cell = misses_name_behind Open cell
 
@@ -75,8 +75,8 @@ has_wrong_cell side = has_kind (λ symbol. not (is_cell_word symbol)) (words_in_
     (cells_of_side side)
 
 -- RU2: a word that means nothing, or stands where it can't: before the rows something else than `+`, `late` and
--- direction words; behind a row of the left anything; on the right anything before the last row, and something else
--- than commands behind it
+-- direction words; after a row of the left anything; on the right anything before the last row, and something else
+-- than commands after it
 abbrev pub has_unknown_word : RuleShape → Bool
 has_unknown_word shape =
     has_kind (λ symbol. not (is_rule_word symbol)) shape.left.ahead
@@ -126,7 +126,7 @@ ends_in_ellipsis cells =
 abbrev pub has_many_ellipses : List (List Token) → Bool
 has_many_ellipses cells = nat_lt ELLIPSIS_LIMIT (length (filter (has_kind is_ellipsis) cells))
 
--- among cells behind one that has `...`, or hasn't, and that cell, two neighbours both have `...`
+-- among cells after one that has `...`, or hasn't, and that cell, two neighbours both have `...`
 abbrev pub ellipses_touch_behind : Bool → List (List Token) → Bool
 ellipses_touch_behind before [] = false
 ellipses_touch_behind before (cell ∷ cells) =

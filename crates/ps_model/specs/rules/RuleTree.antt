@@ -15,14 +15,14 @@ use Rattle.ps_model.specs.rules.RuleShape.{paired_rows, paired_cells}
 
 -- items ---------------------------------------------------------------------------------------------------------------
 
--- the item of a name that stands right behind a word
+-- the item of a name that stands right after a word
 abbrev pub named_item : Symbol → ℕ → Symbol → List Item
 named_item (Moves word) at (Called meaning) = Is at (Some word) meaning ∷ []
 named_item Without at (Called meaning) = No meaning ∷ []
 named_item before at (Called meaning) = Is at None meaning ∷ []
 named_item before at other = []
 
--- the items of words that stand behind a word: each name is one, with a movement word or `no` right before it
+-- the items of words that stand after a word: each name is one, with a movement word or `no` right before it
 abbrev pub items_behind : Symbol → List Token → List Item
 items_behind before [] = []
 items_behind before (token ∷ tokens) = named_item before token.at token.symbol ++ items_behind token.symbol tokens

@@ -1,4 +1,4 @@
--- What levels of a game are: every object of a cell is one of the game's, there are as many cells as the sides say, and
+-- What levels of a game are: every object of a cell is one of the game's. There are as many cells as the sides say, and
 -- the sides are within the limits.
 use Rattle.std.specs.Prelude.{◌≡◌, ◌<◌, ◌≤◌, ◌*◌, List, All, length, ⊤}
 use Rattle.ps_model.specs.declared.pieces.ObjectId.{ObjectId}

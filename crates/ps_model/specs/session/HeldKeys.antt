@@ -1,5 +1,5 @@
 -- Keys that come in pieces. The bytes at the end of a piece that may begin an arrow are held, and the next piece is
--- read behind them. A reader that holds them needs nothing else of the bytes before.
+-- read after them. A reader that holds them needs nothing else of the bytes before.
 use Rattle.std.specs.Prelude.{ℕ, ◌==◌, ◌&&◌, Bool, true, false, Option, Some, None, List, [], ◌∷◌}
 use Rattle.ps_model.specs.declared.held.Held.{Held}
 use Rattle.ps_model.specs.declared.held.Held.TheVariants.{Nothing, Escape, Bracket}
@@ -44,18 +44,18 @@ abbrev pub key_unless_arrow : Option Key → ℕ → Option Key
 key_unless_arrow (Some arrow) byte = Some arrow
 key_unless_arrow None byte = key_of byte
 
--- the key that one more byte brings behind what is held: an arrow, or the byte's own
+-- the key that one more byte brings after what is held: an arrow, or the byte's own
 abbrev pub key_behind : Held → ℕ → Option Key
 key_behind Nothing byte = key_of byte
 key_behind Escape byte = key_of byte
 key_behind Bracket byte = key_unless_arrow (arrow_of byte) byte
 
--- what is held behind a byte that isn't ESC: `[` goes on with an arrow where ESC is held
+-- what is held after a byte that isn't ESC: `[` goes on with an arrow where ESC is held
 abbrev pub held_unless_escape : Held → Bool → Held
 held_unless_escape Escape true = Bracket
 held_unless_escape other is_bracket = Nothing
 
--- what is held behind one more byte: each ESC begins an arrow anew
+-- what is held after one more byte: each ESC begins an arrow anew
 abbrev pub held_behind : Held → ℕ → Held
 held_behind kept byte = elim (byte == 27) [
   | true ↦ Escape

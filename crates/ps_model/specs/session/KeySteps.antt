@@ -24,8 +24,8 @@ key_pending true again left = LevelDone
 key_pending false true left = KeyAgain left
 key_pending false false left = Nothing
 
--- a turn of a key behind its frame: a message waits; without one the level ends on a win; otherwise the again turns
--- come, so many at most, if the turn is to come again
+-- a turn of a key after its frame: a message waits; without one the level ends on a win; otherwise the again turns
+-- come, within their limit, if the turn is to come again
 abbrev pub key_told : Script → Play → Done → ℕ → (Play → Step) → Step
 key_told script next done left again_turns = elim done.message [
   | Some text ↦ waiting next text (key_pending done.win done.again left)
@@ -51,7 +51,7 @@ key_turn_by script play left again_turns (Blocked message) = quietly (Playing pl
 key_turn_by script play left again_turns (Restarted message) = restarted script play message
 key_turn_by script play left again_turns (Finished done) = key_counted script play done left again_turns
 
--- the again turns of a key, so many at most: turns without input
+-- the again turns of a key, within a limit: turns without input
 abbrev pub key_turns : Script → ℕ → Play → Step
 key_turns script zero play = quietly (Playing play)
 key_turns script (suc left) play = key_turn_by script play left (key_turns script left) (turn script None play.board)
@@ -88,8 +88,8 @@ turn_taken script play (Finished done) = key_done script (with_board_in_history_
 abbrev pub input_taken : Script → Play → Input → Step
 input_taken script play input = turn_taken script play (turn script (Some input) play.board)
 
--- the level back at the latest board of its history, which leaves the history, and with the room that is seen there;
--- where there is none, as it is
+-- the level back at the latest board of its history, with the room that is seen there. That board leaves the history;
+-- where there is none, the level is as it is
 abbrev pub back_at : Script → Play → Option Grid → Play
 back_at script play None = play
 back_at script play (Some latest) = seen script (record {
@@ -127,7 +127,7 @@ key_in_level script play Restart =
     unless_ignored script.options.no_restart play (λ here. restarted script (with_board_in_history here) None)
 key_in_level script play Quit = quit
 
--- a level goes on behind a message
+-- a level goes on after a message
 abbrev pub gone_on : Script → Play → Pending → Step
 gone_on script play Nothing = quietly (Playing play)
 gone_on script play LevelDone = level_done script play

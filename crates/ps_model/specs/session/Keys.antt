@@ -35,7 +35,7 @@ leading_arrow (first ∷ []) = None
 leading_arrow (first ∷ second ∷ []) = None
 leading_arrow (first ∷ second ∷ third ∷ others) = if first == 27 && second == 91 then arrow_of third else None
 
--- the keys of the bytes behind so many that belong to the key before
+-- the keys of the bytes after so many that belong to the key before
 abbrev pub keys_behind : ℕ → List ℕ → List Key
 keys_behind skipped [] = []
 keys_behind (suc skipped) (byte ∷ bytes) = keys_behind skipped bytes

@@ -75,7 +75,7 @@ row_cells names width row = map (shown_in_level names) (of_width width (characte
 abbrev pub in_columns : ℕ → List (List (List ObjectId)) → List (List ObjectId)
 in_columns width rows = flat_map (λ column. map (λ row. slice_index_or row column []) rows) (range_with_len 0 width)
 
--- the level of rows, so many columns wide
+-- the level of rows, `width` columns wide
 abbrev pub level_of : Names → ℕ → List Line → Level
 level_of names width rows =
     record {

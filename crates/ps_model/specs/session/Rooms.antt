@@ -1,6 +1,6 @@
--- Rooms: where a game asks for it by `flickscreen`, a frame shows one room of the board, that of the first cell in
--- which an object of Player stands. Rooms lie side by side from the upper left corner, each of one size; at the right
--- and the lower edge a room ends with the board.
+-- Rooms: where a game asks for it by `flickscreen`, a frame shows one room of the board. It is that of the first cell
+-- in which an object of Player stands. Rooms lie side by side from the upper left corner, each of one size; at the
+-- right and the lower edge a room ends with the board.
 use Rattle.std.specs.Prelude.{ℕ, ◌+◌, ◌-◌, ◌*◌, ◌/◌, ◌%◌, min, Option, Some, None, unwrap_or, option_map}
 use Rattle.std.specs.Prelude.{List, ◌++◌, find, codes, encode_utf8}
 use Rattle.std.specs.List.{flat_map, range_with_len}

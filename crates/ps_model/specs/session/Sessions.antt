@@ -22,8 +22,8 @@ pub record Play : Type 0 where
   pub restart_board : Grid
   pub room : Room
 
--- what a level's message goes on with once it is dismissed: nothing; the end of the level; or so many more again turns,
--- those of a key or those of the start of a level
+-- what a level's message goes on with once it is dismissed: nothing; the end of the level; or a number of
+-- further again turns, those of a key or those of the start of a level
 pub data Pending : Type 0 where
   Nothing : Pending
   LevelDone : Pending
@@ -47,7 +47,7 @@ pub record Step : Type 0 where
 abbrev pub quietly : Session → Step
 quietly session = record { session = session; text = [] }
 
--- a step behind a text
+-- a step after a text
 abbrev pub after : List ℕ → Step → Step
 after text step = record { session = step.session; text = text ++ step.text }
 

@@ -18,8 +18,8 @@ abbrev pub start_pending : Bool → ℕ → Pending
 start_pending false left = Nothing
 start_pending true left = StartAgain left
 
--- a start behind a frame: a message waits; without one the again turns come, so many at most, if the turn is to come
--- again
+-- a start after a frame: a message waits; without one the again turns come, within their limit, if the turn is to
+-- come again
 abbrev pub start_told : Play → Option (List ℕ) → Bool → ℕ → (Play → Step) → Step
 start_told play (Some text) again left again_turns = waiting play text (start_pending again left)
 start_told play None false left again_turns = quietly (Playing play)
@@ -41,7 +41,7 @@ start_turn_by script play left again_turns (Blocked message) = quietly (Playing 
 start_turn_by script play left again_turns (Restarted message) = quietly (Playing play)
 start_turn_by script play left again_turns (Finished done) = start_counted script play done left again_turns
 
--- the again turns of a start, so many at most: turns without input
+-- the again turns of a start, within a limit: turns without input
 abbrev pub start_turns : Script → ℕ → Play → Step
 start_turns script zero play = quietly (Playing play)
 start_turns script (suc left) play =
@@ -81,7 +81,7 @@ fresh script entry level =
     let board : Grid = loaded script.names level in
     record { entry = entry; board = board; history = []; restart_board = board; room = first_room }
 
--- an entry begins: a message waits, a level starts; behind the last entry is the end
+-- an entry begins: a message waits, a level starts; after the last entry is the end
 abbrev pub entered : Script → ℕ → Option Entry → Step
 entered script entry None = record { session = Ended TheEnd; text = codes "* the end\n" }
 entered script entry (Some (MessageEntry text)) = record { session = AtMessage entry; text = message_line text }

@@ -38,7 +38,7 @@ without_empty_end ([] ∷ []) = []
 without_empty_end ((byte ∷ bytes) ∷ []) = (byte ∷ bytes) ∷ []
 without_empty_end (line ∷ next ∷ others) = line ∷ without_empty_end (next ∷ others)
 
--- a first line is there also where it is empty; a line behind it that is empty and the last isn't one
+-- a first line is there also where it is empty; a line after it that is empty and the last isn't one
 abbrev pub as_lines : List (List ℕ) → List (List ℕ)
 as_lines [] = []
 as_lines (first ∷ others) = first ∷ without_empty_end others
@@ -49,7 +49,7 @@ raw_lines bytes = as_lines (slice_split is_line_feed bytes)
 
 -- comments ------------------------------------------------------------------------------------------------------------
 
--- how many comments are open behind a byte, where so many are before it; a `)` outside a comment is an ordinary
+-- how many comments are open after a byte, where `depth` are before it; a `)` outside a comment is an ordinary
 -- character
 abbrev pub depth_behind : ℕ → ℕ → ℕ
 depth_behind depth byte = if byte == 40 then suc depth else (if byte == 41 then depth - 1 else depth)
@@ -58,7 +58,7 @@ depth_behind depth byte = if byte == 40 then suc depth else (if byte == 41 then 
 abbrev pub in_comment : ℕ → ℕ → Bool
 in_comment depth byte = nat_lt 0 depth || byte == 40
 
--- bytes before which so many comments are open, with a blank for each that stands in a comment
+-- bytes before which `depth` comments are open, with a blank for each that stands in a comment
 abbrev pub without_comments : ℕ → List ℕ → List ℕ
 without_comments depth [] = []
 without_comments depth (byte ∷ bytes) =
@@ -99,13 +99,13 @@ end_of_word word = option_map (λ places. places.1) word
 abbrev pub end_of_first : List ℕ → List (List ℕ) → Option ℕ
 end_of_first bytes names = end_of_word (find (is_word bytes names) (take 1 (words_in Blanks bytes)))
 
--- the words of a line of RULES behind its first `->`
+-- the words of a line of RULES after its first `->`
 abbrev pub behind_arrow : List ℕ → List (ℕ × ℕ) → List (ℕ × ℕ)
 behind_arrow bytes words = drop (suc (prefix_len (λ word. not (is_word bytes (codes "->" ∷ []) word)) words)) words
 
--- where a text that is taken as it stands begins in a line whose comments are blanks: behind `title`, `author` or
--- `homepage` as the first word of a line of the prelude; behind `message` as the first word of a line of LEVELS; behind
--- the first `message` that stands behind the `->` of a line of RULES
+-- where a text that is taken as it stands begins in a line whose comments are blanks: after `title`, `author` or
+-- `homepage` as the first word of a line of the prelude; after `message` as the first word of a line of LEVELS; after
+-- the first `message` that stands after the `->` of a line of RULES
 abbrev pub text_place : Section → List ℕ → Option ℕ
 text_place Prelude uncommented = end_of_first uncommented (codes "title" ∷ codes "author" ∷ codes "homepage" ∷ [])
 text_place Levels uncommented = end_of_first uncommented (codes "message" ∷ [])
@@ -120,7 +120,7 @@ abbrev pub text_length : Section → List ℕ → ℕ
 text_length Prelude behind = prefix_len (λ byte. not (byte == 40)) behind
 text_length section behind = length behind
 
--- how many comments are open below a line before which so many are: none where a text ends the line
+-- how many comments are open below a line before which `depth` are: none where a text ends the line
 abbrev pub depth_below : Section → Option ℕ → ℕ → List ℕ → ℕ
 depth_below Prelude place depth raw = fold depth_behind depth raw
 depth_below section (Some place) depth raw = 0
@@ -151,13 +151,13 @@ pub record Line : Type 0 where
   -- it isn't read past
   pub is_there : Bool
 
--- what stands behind a place of a line, the blanks at both ends left out
+-- what stands after a place of a line, the blanks at both ends left out
 abbrev pub text_behind : ℕ → ℕ → List ℕ → Taken
 text_behind start place behind =
     let skipped : ℕ = prefix_len is_blank behind in
     record { start = start + place + skipped; bytes = without_blank_end (drop skipped behind) }
 
--- a line whose comments are blanks, with blanks for a text of so many bytes too
+-- a line whose comments are blanks, with blanks for a text of `size` bytes too
 abbrev pub without_text : List ℕ → ℕ → ℕ → List ℕ
 without_text uncommented place size = take place uncommented ++ (replicate size 32 ++ drop (place + size) uncommented)
 
@@ -189,7 +189,7 @@ text_taken raw start section None = None
 text_taken raw start section (Some place) = let behind : List ℕ = drop place raw in
     Some (text_behind start place (take (text_length section behind) behind))
 
--- the lines, from a number and a byte of the text on, the first below a line of that section and with so many comments
+-- the lines, from a number and a byte of the text on, the first below a line of that section and with `depth` comments
 -- open
 abbrev pub lines_from : ℕ → ℕ → ℕ → Section → List (List ℕ) → List Line
 lines_from number start depth above [] = []

@@ -1,7 +1,7 @@
 -- Steps of which each may fail, one after the other: with `do`, a step that gives nothing makes the whole give nothing.
 use Rattle.std.specs.Prelude.{Option, Some, None, Bool, true, false, List, [], ◌∷◌, option_and_then, option_map}
 
--- a step behind one that gave a value
+-- a step after one that gave a value
 infixl 10 ◌>>=◌
 abbrev pub ◌>>=◌ : {A B : Type 0} → Option A → (A → Option B) → Option B
 o >>= f = option_and_then f o

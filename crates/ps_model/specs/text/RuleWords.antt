@@ -30,8 +30,8 @@ abbrev pub own_length : Bool → List ℕ → ℕ
 own_length within [] = 0
 own_length within (byte ∷ bytes) = if begins_arrow (byte ∷ bytes) then 2 else (if is_own_word within byte then 1 else 0)
 
--- the words, each from its first place to the place behind it, of the bytes from a place on, behind so many bytes that
--- belong to the word before, where a run may be open
+-- the words of the bytes from a place on, each from its first place to the place after it. `within` bytes belong to the
+-- word before, and a run may be open
 abbrev pub rule_words_from : ℕ → ℕ → Option ℕ → List ℕ → List (ℕ × ℕ)
 rule_words_from within place open_run [] = run_to open_run place
 rule_words_from (suc within) place open_run (byte ∷ bytes) = rule_words_from within (suc place) None bytes
@@ -45,7 +45,7 @@ rule_words_from zero place open_run (byte ∷ bytes) = elim (is_blank byte) [
       ]
 ]
 
--- the words behind the blanks at a line's start, of which a `+` is cut off
+-- the words after the blanks at a line's start, of which a `+` is cut off
 abbrev pub words_behind_plus : ℕ → List ℕ → List (ℕ × ℕ)
 words_behind_plus place [] = []
 words_behind_plus place (byte ∷ bytes) =

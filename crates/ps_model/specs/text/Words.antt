@@ -29,7 +29,7 @@ abbrev pub run_to : Option ℕ → ℕ → List (ℕ × ℕ)
 run_to None place = []
 run_to (Some start) place = (start, place) ∷ []
 
--- the words, each from its first place to the place behind it, of the bytes from a place on, where a run may be open
+-- the words, each from its first place to the place after it, of the bytes from a place on, where a run may be open
 abbrev pub words_from : Cut → ℕ → Option ℕ → List ℕ → List (ℕ × ℕ)
 words_from cut place open_run [] = run_to open_run place
 words_from cut place open_run (byte ∷ bytes) = elim (parts_words cut byte) [

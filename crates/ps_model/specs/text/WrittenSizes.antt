@@ -30,7 +30,7 @@ size_of_sides None height = None
 size_of_sides (Some width) None = None
 size_of_sides (Some width) (Some height) = Some (record { width = width; height = height })
 
--- the size that a word writes: a side before its first `x`, and a side behind it, which has no further `x` as it has
+-- the size that a word writes: a side before its first `x`, and a side after it, which has no further `x` as it has
 -- digits alone
 abbrev pub size_of_word : List ℕ → Option RoomSize
 size_of_word word = size_of_sides (side_of (before_first is_x word)) (side_of (after_first is_x word))

@@ -27,7 +27,7 @@ pub members_named_below : (names : Names) → AreBounded names → (name : List 
 members_named_below names bounded name = members_if_below (object_count names) (meaning_of names name)
     (meaning_of_below names bounded name)
 
--- the same of objects that are kept beside the names, as who calls for the names sees both
+-- the same of objects that are kept beside the names, as a caller that asks for the names sees both
 pub kept_below : (names seen : Names) (name : List ℕ) (kept objects : List ObjectId) → AreBounded names →
     names ≡ seen → kept ≡ members_named names name → objects ≡ kept
     → All (λ object. object.0 < object_count seen) objects

@@ -5,7 +5,7 @@ use Rattle.std.specs.List.{cons_option}
 use Rattle.std.specs.Option.{option_to_list}
 use Rattle.ps_names.proofs.common.Elements.{element-first}
 
--- one turn more of a loop that makes a list: what it makes of an element is put behind what was made
+-- one turn more of a loop that makes a list: what it makes of an element is put after what was made
 pub made-more : {A B : Type 0} (f : List A → List B) (made made' one all : List B) (xs : List A) (i : ℕ) (x d : A) →
     made' ≡ made ++ one → i < length xs → x ≡ get_or xs i d →
     f (x ∷ drop (i + 1) xs) ≡ one ++ f (drop (i + 1) xs) → made ++ f (drop i xs) ≡ all →

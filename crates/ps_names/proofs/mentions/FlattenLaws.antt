@@ -339,7 +339,7 @@ merge-step lists mentions k mention other objects added less m e =
     ∙ ap (λ ms. merged objects (all_spoken (spoken_by lists) (mentions_shown ms)))
     (sym (element-first mentions k (k + 1) mention other less (omega arith) m))
 
--- behind the last line
+-- after the last line
 pub flat-past : (legend : List code.LegendName) (levels : List ℕ) (lists : List (List ObjectId)) (k : ℕ) →
     length legend ≤ k → length lists ≡ length legend
     → ((place : ℕ) → place < k → IsFlatAt levels lists place (mentions_of (legend_shown legend) (OfLine place))) →

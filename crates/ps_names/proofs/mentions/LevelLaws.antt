@@ -115,7 +115,7 @@ pub mentions-at : (legend : List code.LegendName) (k : ℕ) (x d : code.LegendNa
 mentions-at legend k x d less e = ap mentions_of_name (slice_get-map name_shown legend k
     ∙ ap (option_map name_shown) (slice_get-get_or legend k d less ∙ ap Some (sym e)))
 
--- behind the last line nothing is mentioned
+-- after the last line nothing is mentioned
 pub none-past : (legend : List code.LegendName) (levels : List ℕ) (limit place : ℕ) → length legend ≤ place →
     are_below levels limit (mentions_of (legend_shown legend) (OfLine place)) ≡ true
 none-past legend levels limit place past =

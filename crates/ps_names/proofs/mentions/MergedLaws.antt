@@ -59,7 +59,7 @@ merged-has known (object ∷ others) x e = by (is_among known object) (same_obje
     by false false q s old new = ap (λ os. is_among os x) (merged-new known object others q)
         ∙ new (ap (λ b. b || is_among others x) (sym s) ∙ e)
 
--- merging one list behind the other
+-- merging one list after the other
 pub merged-append : (known xs ys : List ObjectId) → merged known (xs ++ ys) ≡ merged (merged known xs) ys
 merged-append known [] ys = refl
 merged-append known (x ∷ xs) ys = by (is_among known x) refl (merged-append known xs ys)

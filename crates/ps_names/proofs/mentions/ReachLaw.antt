@@ -21,7 +21,7 @@ use Rattle.ps_names.specs.declared.mention.Mention.{Mention as Waits}
 use Rattle.ps_names.specs.Known.{mentions_shown}
 use Rattle.ps_names.specs.LegendNames.{Reached, is_reached, with_reached, reached_from, legend_shown}
 
--- what was reached of a legend of so many lines is what is listed
+-- what was reached of a legend of `lines` lines is what is listed
 record Tells (lines : ℕ) (listed : List Mention) (reached : Reached) : Type 0 where
   objects : reached.objects ≡ filter_map object_of listed
   long : length reached.lines ≡ lines
@@ -115,7 +115,7 @@ module _ (legend : List LegendName) (steps : ℕ) (mention : Mention) (others : 
       (with_reached reached mention) (mentions_of legend mention ++ others)
   reach-new reached e = rw (reached_from, e) refl
 
--- what is listed and reached in so many steps, from any start
+-- what is listed and reached in `steps` steps, from any start
 abbrev Goes : List LegendName → ℕ → ℕ → Type 0
 Goes legend lines steps =
     (listed : List Mention) (reached : Reached) (waits : List Mention) → Tells lines listed reached →

@@ -1,4 +1,4 @@
--- The ends behind synonyms.
+-- The ends after synonyms.
 use Rattle.std.proofs.Common.{◌≡◌, ◌≢◌, ◌∙◌, ℕ, zero, suc, ◌+◌, ◌<◌, ◌≤◌, Bool, true, false, List, Option, None, Some}
 use Rattle.std.proofs.Common.{length, replicate, get_or, refl, sym, ap, arith}
 use Rattle.std.specs.Prelude.{nat_eq, nat_lt, slice_set, slice_get, option_and_then}
@@ -15,7 +15,7 @@ use Rattle.ps_names.specs.Ends.{StandsBehind, StandsForNothing, IsEnd, AreEnds}
 use Rattle.ps_names.proofs.standing.MeaningLaws.{synonym-step}
 
 module _ (legend : List LegendName) where
-  -- nothing is behind no synonym
+  -- nothing is after no synonym
   pub at-once : (mention : Mention) → StandsBehind legend mention 0 mention
   at-once mention most = let same : 0 + most ≡ most = omega arith in ap (λ n. meaning_behind legend n mention) same
 
@@ -26,7 +26,7 @@ module _ (legend : List LegendName) where
       let more : passed + 1 + most ≡ suc (passed + most) = omega arith in
       ap (λ n. meaning_behind legend n mention) more ∙ synonym-step legend (passed + most) mention next e ∙ stands most
 
-  -- what it is one for stands one behind
+  -- what it is one for stands one after
   pub one-behind : (mention last next : Mention) (passed : ℕ) → StandsBehind legend mention passed last →
       behind_synonym legend last ≡ Some next → StandsBehind legend mention (passed + 1) next
   one-behind mention last next passed stands e most =
@@ -65,7 +65,7 @@ module _ (legend : List LegendName) where
   less-line most less None e = refl
   less-line most less (Some name) e = less-name most less name.joiner name e
 
-  -- what stands for nothing behind a synonym more stands for nothing
+  -- what stands for nothing after a synonym more stands for nothing
   none-below : (most : ℕ) (mention : Mention) → meaning_behind legend (suc most) mention ≡ None →
       meaning_behind legend most mention ≡ None
   none-below most (OfObject object) e = cc
@@ -81,7 +81,7 @@ module _ (legend : List LegendName) where
       none-further most further mention (none-below (further + most) mention
       (ap (λ n. meaning_behind legend n mention) (sym more) ∙ e))
 
-  -- a line that stands behind itself stands for nothing
+  -- a line that stands after itself stands for nothing
   pub never-ends : (place passed : ℕ) → StandsBehind legend (OfLine place) (passed + 1) (OfLine place) →
       StandsForNothing legend (OfLine place)
   never-ends place passed stands zero = refl

@@ -116,7 +116,7 @@ module _ (objects : List ObjectText) (lines layer_lines : List WrittenLine) wher
   table-made known meanings table t k m = t ∙ ap (λ (ms : List (Option Meaning)). with_meanings ms known) m
       ∙ ap (with_meanings meanings_here) k
 
-  -- the faults behind those of OBJECTS and LEGEND, by what the code has
+  -- the faults after those of OBJECTS and LEGEND, by what the code has
   pub faults-made : (header : ℕ) (table : List (Named × Option Meaning))
       (legend : List LegendName × List (Option Meaning)) → table ≡ table_here →
       legend ≡ legend_with (legend_of objects lines) → declaring_faults objects lines ≡ [] →

@@ -8,7 +8,7 @@ use Rattle.ps_model.specs.names.ObjectLines.{ObjectText, is_sprite_row, lines_be
 use Rattle.ps_model.specs.text.Lines.{is_blank_line, words_of_line}
 use Rattle.ps_names.specs.LinesThere.{lines_at}
 
--- the rows of a sprite that has so many, where these lines are left
+-- the rows of a sprite that has `rows`, where these lines are left
 abbrev pub rows_with : ℕ → List ℕ → List ℕ → ℕ
 rows_with rows text lines = rows + prefix_len is_sprite_row (take (5 - rows) (lines_at text lines))
 

@@ -13,7 +13,7 @@ split_by : (cut : Cut) (line : Line) (others : List Line) (blank : Bool) → is_
 split_by cut line others true e = rw e refl
 split_by cut line others false e = rw e refl
 
--- the lines behind what was made, with one line more
+-- the lines after what was made, with one line more
 pub written-step : (text : List ℕ) (cut : Cut) (made added : List WrittenLine) (lines : List ℕ) (k next d : ℕ) →
     k < length lines → next ≡ suc k
     → added ≡ made ++ written_lines cut (line_at text (get_or lines k d) ∷ [])

@@ -1,7 +1,6 @@
 use Rattle.std.proofs.Common.{◌≡◌, drop}
 use Rattle.std.specs.List.{list_any}
 use Rattle.ps_model.specs.names.Names.{is_among, members, players}
-use Rattle.ps_names.specs.GlyphsShown.{glyph_shown}
 use Rattle.ps_names.specs.Shown.{meaning_shown}
 use Rattle.ps_describe.proofs.players.shows_player.Given as goal
 

@@ -51,19 +51,19 @@ returns-then-not-row_has_place-clause-some g c = λ e. absurd (true≢false (sym
 
 pub returns-then-not-row_has_place-clause-long : goal.returns-then-not-row_has_place-clause-long
 returns-then-not-row_has_place-clause-long g c =
-    length-set c.loop-number.rooms c.loop-number.number c.row_has_place.new.room ∙ c.loop-number.auto.rooms
+    length-set c.loop-number.scratch c.loop-number.number c.row_has_place.new.row_scratch ∙ c.loop-number.auto.scratch
 
 pub returns-clause-none : goal.returns-clause-none
 returns-clause-none g c = λ e. absurd (true≢false e)
 
 pub returns-clause-long : goal.returns-clause-long
-returns-clause-long g c = c.loop-number.auto.rooms
+returns-clause-long g c = c.loop-number.auto.scratch
 
 pub bounds-rows-number : goal.bounds-rows-number
 bounds-rows-number g c = c.loop-number-test.true
 
-pub bounds-rooms-number : goal.bounds-rooms-number
-bounds-rooms-number g c =
-    room_there c.loop-number.number (length c.args.rule.now.rows) (length c.args.rooms.now) (length c.loop-number.rooms)
+pub bounds-scratch-number : goal.bounds-scratch-number
+bounds-scratch-number g c =
+    room_there c.loop-number.number (length c.args.rule.now.rows) (length c.args.scratch.now) (length c.loop-number.scratch)
     (subst (λ (rows : List CompiledRow). c.loop-number.number < length rows) c.as_slice-rows.ensures
-    c.loop-number-test.true) c.requires c.loop-number.auto.rooms
+    c.loop-number-test.true) c.requires c.loop-number.auto.scratch

@@ -18,17 +18,11 @@ returns-then-lacks_last-clause-attempt g c =
     (commands_shown rule.commands.now) grid c.args.queue.now
     (combinations_on grid (rule_meaning table rule)) (c.lacks_last.ensures c.if-lacks_last.true)
 
-pub returns-then-lacks_last-clause-table : goal.returns-then-lacks_last-clause-table
-returns-then-lacks_last-clause-table g c = refl
+pub returns-then-lacks_last-clause-fixed : goal.returns-then-lacks_last-clause-fixed
+returns-then-lacks_last-clause-fixed g c = refl
 
-pub returns-then-lacks_last-clause-origin : goal.returns-then-lacks_last-clause-origin
-returns-then-lacks_last-clause-origin g c = refl
-
-pub returns-then-lacks_last-clause-sides : goal.returns-then-lacks_last-clause-sides
-returns-then-lacks_last-clause-sides g c = refl
-
-pub returns-then-lacks_last-clause-rooms : goal.returns-then-lacks_last-clause-rooms
-returns-then-lacks_last-clause-rooms g c = refl
+pub returns-then-lacks_last-clause-scratch : goal.returns-then-lacks_last-clause-scratch
+returns-then-lacks_last-clause-scratch g c = refl
 
 pub attempt_by_kind-requires : goal.attempt_by_kind-requires
 attempt_by_kind-requires g c = c.requires
@@ -36,17 +30,11 @@ attempt_by_kind-requires g c = c.requires
 pub returns-clause-attempt : goal.returns-clause-attempt
 returns-clause-attempt g c = c.attempt_by_kind.ensures.attempt
 
-pub returns-clause-table : goal.returns-clause-table
-returns-clause-table g c = c.attempt_by_kind.ensures.table
+pub returns-clause-fixed : goal.returns-clause-fixed
+returns-clause-fixed g c = c.attempt_by_kind.ensures.fixed
 
-pub returns-clause-origin : goal.returns-clause-origin
-returns-clause-origin g c = c.attempt_by_kind.ensures.origin
-
-pub returns-clause-sides : goal.returns-clause-sides
-returns-clause-sides g c = c.attempt_by_kind.ensures.sides
-
-pub returns-clause-rooms : goal.returns-clause-rooms
-returns-clause-rooms g c = c.attempt_by_kind.ensures.rooms
+pub returns-clause-scratch : goal.returns-clause-scratch
+returns-clause-scratch g c = c.attempt_by_kind.ensures.scratch
 
 pub attempt_part-requires-clause-only : goal.attempt_part-requires-clause-only
 attempt_part-requires-clause-only g c = ap rows_parts (sym c.as_slice.ensures) ∙ c.in-Some.ensures.only
@@ -57,20 +45,14 @@ attempt_part-requires-clause-whole g c = c.in-Some.ensures.whole
 pub attempt_part-requires-clause-rewrites : goal.attempt_part-requires-clause-rewrites
 attempt_part-requires-clause-rewrites g c = c.if-rule.true
 
-pub attempt_part-requires-clause-rooms : goal.attempt_part-requires-clause-rooms
-attempt_part-requires-clause-rooms g c = c.requires
+pub attempt_part-requires-clause-scratch : goal.attempt_part-requires-clause-scratch
+attempt_part-requires-clause-scratch g c = c.requires
 
 pub returns-in-Some-clause-attempt : goal.returns-in-Some-clause-attempt
 returns-in-Some-clause-attempt g c = c.attempt_part.ensures.attempt
 
-pub returns-in-Some-clause-table : goal.returns-in-Some-clause-table
-returns-in-Some-clause-table g c = c.attempt_part.ensures.table
+pub returns-in-Some-clause-fixed : goal.returns-in-Some-clause-fixed
+returns-in-Some-clause-fixed g c = c.attempt_part.ensures.fixed
 
-pub returns-in-Some-clause-origin : goal.returns-in-Some-clause-origin
-returns-in-Some-clause-origin g c = c.attempt_part.ensures.origin
-
-pub returns-in-Some-clause-sides : goal.returns-in-Some-clause-sides
-returns-in-Some-clause-sides g c = c.attempt_part.ensures.sides
-
-pub returns-in-Some-clause-rooms : goal.returns-in-Some-clause-rooms
-returns-in-Some-clause-rooms g c = c.attempt_part.ensures.rooms
+pub returns-in-Some-clause-scratch : goal.returns-in-Some-clause-scratch
+returns-in-Some-clause-scratch g c = c.attempt_part.ensures.scratch

@@ -19,17 +19,11 @@ attempt_commands-requires-clause-long g c = c.requires
 pub attempt_commands-requires-clause-commands : goal.attempt_commands-requires-clause-commands
 attempt_commands-requires-clause-commands g c = c.if-not-rule.true
 
-pub returns-then-not-rule-clause-table : goal.returns-then-not-rule-clause-table
-returns-then-not-rule-clause-table g c = refl
+pub returns-then-not-rule-clause-fixed : goal.returns-then-not-rule-clause-fixed
+returns-then-not-rule-clause-fixed g c = refl
 
-pub returns-then-not-rule-clause-origin : goal.returns-then-not-rule-clause-origin
-returns-then-not-rule-clause-origin g c = refl
-
-pub returns-then-not-rule-clause-sides : goal.returns-then-not-rule-clause-sides
-returns-then-not-rule-clause-sides g c = refl
-
-pub returns-then-not-rule-clause-rooms : goal.returns-then-not-rule-clause-rooms
-returns-then-not-rule-clause-rooms g c = c.attempt_commands.ensures.rooms
+pub returns-then-not-rule-clause-scratch : goal.returns-then-not-rule-clause-scratch
+returns-then-not-rule-clause-scratch g c = c.attempt_commands.ensures.scratch
 
 pub returns-then-lacks_object-clause-attempt : goal.returns-then-lacks_object-clause-attempt
 returns-then-lacks_object-clause-attempt g c =
@@ -40,17 +34,11 @@ returns-then-lacks_object-clause-attempt g c =
     (commands_shown rule.commands.now) grid c.args.queue.now
     (combinations_on grid (rule_meaning table rule)) (c.lacks_object.ensures c.if-lacks_object.true)
 
-pub returns-then-lacks_object-clause-table : goal.returns-then-lacks_object-clause-table
-returns-then-lacks_object-clause-table g c = refl
+pub returns-then-lacks_object-clause-fixed : goal.returns-then-lacks_object-clause-fixed
+returns-then-lacks_object-clause-fixed g c = refl
 
-pub returns-then-lacks_object-clause-origin : goal.returns-then-lacks_object-clause-origin
-returns-then-lacks_object-clause-origin g c = refl
-
-pub returns-then-lacks_object-clause-sides : goal.returns-then-lacks_object-clause-sides
-returns-then-lacks_object-clause-sides g c = refl
-
-pub returns-then-lacks_object-clause-rooms : goal.returns-then-lacks_object-clause-rooms
-returns-then-lacks_object-clause-rooms g c = refl
+pub returns-then-lacks_object-clause-scratch : goal.returns-then-lacks_object-clause-scratch
+returns-then-lacks_object-clause-scratch g c = refl
 
 pub attempt_writer-requires-clause-writer : goal.attempt_writer-requires-clause-writer
 attempt_writer-requires-clause-writer g c = c.in-Some.is
@@ -61,17 +49,11 @@ attempt_writer-requires-clause-rewrites g c = c.if-not-rule.false
 pub returns-in-Some-clause-attempt : goal.returns-in-Some-clause-attempt
 returns-in-Some-clause-attempt g c = c.attempt_writer.ensures.attempt
 
-pub returns-in-Some-clause-table : goal.returns-in-Some-clause-table
-returns-in-Some-clause-table g c = c.attempt_writer.ensures.table
+pub returns-in-Some-clause-fixed : goal.returns-in-Some-clause-fixed
+returns-in-Some-clause-fixed g c = c.attempt_writer.ensures.fixed
 
-pub returns-in-Some-clause-origin : goal.returns-in-Some-clause-origin
-returns-in-Some-clause-origin g c = c.attempt_writer.ensures.origin
-
-pub returns-in-Some-clause-sides : goal.returns-in-Some-clause-sides
-returns-in-Some-clause-sides g c = c.attempt_writer.ensures.sides
-
-pub returns-in-Some-clause-rooms : goal.returns-in-Some-clause-rooms
-returns-in-Some-clause-rooms g c = length-set c.args.rooms.now 0 c.attempt_writer.new.room
+pub returns-in-Some-clause-scratch : goal.returns-in-Some-clause-scratch
+returns-in-Some-clause-scratch g c = length-set c.args.scratch.now 0 c.attempt_writer.new.row_scratch
 
 pub attempt_rows-requires-clause-long : goal.attempt_rows-requires-clause-long
 attempt_rows-requires-clause-long g c = c.requires
@@ -82,19 +64,13 @@ attempt_rows-requires-clause-rewrites g c = c.if-not-rule.false
 pub returns-clause-attempt : goal.returns-clause-attempt
 returns-clause-attempt g c = c.attempt_rows.ensures.attempt
 
-pub returns-clause-table : goal.returns-clause-table
-returns-clause-table g c = c.attempt_rows.ensures.table
+pub returns-clause-fixed : goal.returns-clause-fixed
+returns-clause-fixed g c = c.attempt_rows.ensures.fixed
 
-pub returns-clause-origin : goal.returns-clause-origin
-returns-clause-origin g c = c.attempt_rows.ensures.origin
+pub returns-clause-scratch : goal.returns-clause-scratch
+returns-clause-scratch g c = c.attempt_rows.ensures.scratch
 
-pub returns-clause-sides : goal.returns-clause-sides
-returns-clause-sides g c = c.attempt_rows.ensures.sides
-
-pub returns-clause-rooms : goal.returns-clause-rooms
-returns-clause-rooms g c = c.attempt_rows.ensures.rooms
-
-pub bounds-rooms-0 : goal.bounds-rooms-0
-bounds-rooms-0 g c =
-    writer_room c.args.rule.now.rows c.args.rule.now.writer c.in-Some.writer (length c.args.rooms.now)
+pub bounds-scratch-0 : goal.bounds-scratch-0
+bounds-scratch-0 g c =
+    writer_room c.args.rule.now.rows c.args.rule.now.writer c.in-Some.writer (length c.args.scratch.now)
     c.args.rule.now.alone c.in-Some.is c.requires

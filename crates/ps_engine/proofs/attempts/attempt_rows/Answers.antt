@@ -25,13 +25,13 @@ returns-then-not-choose_first-clause-attempt g c =
 pub walk-requires-clause-lines : goal.walk-requires-clause-lines
 walk-requires-clause-lines g c =
     let yes : c.choose_first.result ≡ true = c.if-not-choose_first.false in
-    subst (λ (rows : List CompiledRow). HaveLinesOf (g.B.Board.grid c.args.board.now) rows c.choose_first.new.rooms)
+    subst (λ (rows : List CompiledRow). HaveLinesOf (g.B.Board.grid c.args.board.now) rows c.choose_first.new.scratch)
     (sym c.as_slice-rows.ensures) (c.choose_first.ensures.lines yes)
 
 pub walk-requires-clause-places : goal.walk-requires-clause-places
 walk-requires-clause-places g c =
     let yes : c.choose_first.result ≡ true = c.if-not-choose_first.false in
-    subst (λ (rows : List CompiledRow). ArePlaced (g.B.Board.grid c.args.board.now) rows c.choose_first.new.rooms)
+    subst (λ (rows : List CompiledRow). ArePlaced (g.B.Board.grid c.args.board.now) rows c.choose_first.new.scratch)
     (sym c.as_slice-rows.ensures) (c.choose_first.ensures.places yes)
 
 pub returns-clause-attempt : goal.returns-clause-attempt
@@ -41,14 +41,14 @@ returns-clause-attempt g c =
     let rule = c.args.rule.now in
     let yes : c.choose_first.result ≡ true = c.if-not-choose_first.false in
     let does : rule.rewrites ≡ true = c.requires.rewrites in
-    let choices : List Choice = choices_of grid.height rule.rows c.choose_first.new.rooms in
+    let choices : List Choice = choices_of grid.height rule.rows c.choose_first.new.scratch in
     let all : combinations_on grid (rule_meaning table rule) ≡ chosen choices ∷ behind choices =
     c.choose_first.ensures.found yes in
     let after : Rewritten = record { grid = g.B.Board.grid c.walk.new.board; changed = c.walk.result } in
     let made : after ≡ fold (applied (rows_meaning table rule.rows)) (unchanged grid)
     (combinations_on grid (rule_meaning table rule)) =
     c.walk.ensures.rewritten
-    ∙ ap (λ (rs : List CompiledRow). let first : List Choice = choices_of grid.height rs c.choose_first.new.rooms in
+    ∙ ap (λ (rs : List CompiledRow). let first : List Choice = choices_of grid.height rs c.choose_first.new.scratch in
     fold (applied (rows_meaning table rs)) (unchanged grid) (chosen first ∷ behind first)) c.as_slice-rows.ensures
     ∙ ap (fold (applied (rows_meaning table rule.rows)) (unchanged grid)) (sym all) in
     ap (λ (q : Commands). let r : Result = record {
@@ -63,17 +63,11 @@ returns-clause-attempt g c =
 pub choose_first-requires : goal.choose_first-requires
 choose_first-requires g c = c.requires.long
 
-pub returns-then-not-choose_first-clause-table : goal.returns-then-not-choose_first-clause-table
-returns-then-not-choose_first-clause-table g c = refl
+pub returns-then-not-choose_first-clause-fixed : goal.returns-then-not-choose_first-clause-fixed
+returns-then-not-choose_first-clause-fixed g c = refl
 
-pub returns-then-not-choose_first-clause-origin : goal.returns-then-not-choose_first-clause-origin
-returns-then-not-choose_first-clause-origin g c = refl
-
-pub returns-then-not-choose_first-clause-sides : goal.returns-then-not-choose_first-clause-sides
-returns-then-not-choose_first-clause-sides g c = refl
-
-pub returns-then-not-choose_first-clause-rooms : goal.returns-then-not-choose_first-clause-rooms
-returns-then-not-choose_first-clause-rooms g c = c.choose_first.ensures.long
+pub returns-then-not-choose_first-clause-scratch : goal.returns-then-not-choose_first-clause-scratch
+returns-then-not-choose_first-clause-scratch g c = c.choose_first.ensures.long
 
 pub walk-requires-clause-asleep : goal.walk-requires-clause-asleep
 walk-requires-clause-asleep g c = λ sleeps.
@@ -88,17 +82,11 @@ pub walk-requires-clause-fit : goal.walk-requires-clause-fit
 walk-requires-clause-fit g c =
     let grid : Grid = g.B.Board.grid c.args.board.now in
     subst (λ (rows : List CompiledRow). all_fit grid (rows_meaning (g.B.Board.table c.args.board.now) rows)
-    (chosen (choices_of grid.height rows c.choose_first.new.rooms)) ≡ true) (sym c.as_slice-rows.ensures)
+    (chosen (choices_of grid.height rows c.choose_first.new.scratch)) ≡ true) (sym c.as_slice-rows.ensures)
     (c.choose_first.ensures.fit c.if-not-choose_first.false)
 
-pub returns-clause-table : goal.returns-clause-table
-returns-clause-table g c = c.walk.ensures.table
+pub returns-clause-fixed : goal.returns-clause-fixed
+returns-clause-fixed g c = c.walk.ensures.fixed
 
-pub returns-clause-origin : goal.returns-clause-origin
-returns-clause-origin g c = c.walk.ensures.origin
-
-pub returns-clause-sides : goal.returns-clause-sides
-returns-clause-sides g c = c.walk.ensures.sides
-
-pub returns-clause-rooms : goal.returns-clause-rooms
-returns-clause-rooms g c = c.walk.ensures.long ∙ c.choose_first.ensures.long
+pub returns-clause-scratch : goal.returns-clause-scratch
+returns-clause-scratch g c = c.walk.ensures.long ∙ c.choose_first.ensures.long

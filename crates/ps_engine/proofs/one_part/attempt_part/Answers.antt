@@ -9,10 +9,10 @@ use Rattle.ps_model.specs.meaning.RuleMeanings.{CellMeaning}
 use Rattle.ps_program.specs.CommandsShown.{commands_shown}
 use Rattle.ps_program.specs.Axes.{direction_of}
 use Rattle.ps_places.specs.Lines.{part_meaning}
-use Rattle.ps_places.specs.Room.{Room}
+use Rattle.ps_places.specs.Scratch.{Scratch}
 use Rattle.ps_engine.specs.Choosing.{rows_meaning}
 use Rattle.ps_engine.proofs.Attempting.{attempt_none, none_alone, only_part_meant}
-use Rattle.ps_engine.proofs.RoomsChanged.{get_same}
+use Rattle.ps_engine.proofs.ScratchChanged.{get_same}
 use Rattle.ps_engine.proofs.Within.{part_room}
 use Rattle.ps_engine.proofs.one_part.attempt_part.Goals as goal
 
@@ -32,21 +32,15 @@ returns-then-is_empty-clause-attempt g c =
     (ap (λ (rows : List (List (List CellMeaning))). combinations (map (places grid direction) rows)) only
     ∙ none_alone (places grid direction (m ∷ [])) none)
 
-pub returns-then-is_empty-clause-table : goal.returns-then-is_empty-clause-table
-returns-then-is_empty-clause-table g c = refl
+pub returns-then-is_empty-clause-fixed : goal.returns-then-is_empty-clause-fixed
+returns-then-is_empty-clause-fixed g c = refl
 
-pub returns-then-is_empty-clause-origin : goal.returns-then-is_empty-clause-origin
-returns-then-is_empty-clause-origin g c = refl
+pub returns-then-is_empty-clause-scratch : goal.returns-then-is_empty-clause-scratch
+returns-then-is_empty-clause-scratch g c = length-set c.args.scratch.now 0 c.find_part-starts.new.self
 
-pub returns-then-is_empty-clause-sides : goal.returns-then-is_empty-clause-sides
-returns-then-is_empty-clause-sides g c = refl
-
-pub returns-then-is_empty-clause-rooms : goal.returns-then-is_empty-clause-rooms
-returns-then-is_empty-clause-rooms g c = length-set c.args.rooms.now 0 c.find_part-starts.new.self
-
-pub bounds-rooms-0 : goal.bounds-rooms-0
-bounds-rooms-0 g c =
-    part_room c.args.rule.now.rows c.args.part.now (length c.args.rooms.now) c.requires.only c.requires.rooms
+pub bounds-scratch-0 : goal.bounds-scratch-0
+bounds-scratch-0 g c =
+    part_room c.args.rule.now.rows c.args.part.now (length c.args.scratch.now) c.requires.only c.requires.scratch
 
 pub rewrite_found-requires-clause-only : goal.rewrite_found-requires-clause-only
 rewrite_found-requires-clause-only g c = c.requires.only
@@ -60,33 +54,27 @@ rewrite_found-requires-clause-rewrites g c = c.requires.rewrites
 pub rewrite_found-requires-clause-some : goal.rewrite_found-requires-clause-some
 rewrite_found-requires-clause-some g c = c.find_part-starts.ensures.some (c.is_empty.ensures.some c.if-is_empty.false)
 
-pub rewrite_found-requires-clause-rooms : goal.rewrite_found-requires-clause-rooms
-rewrite_found-requires-clause-rooms g c =
-    omega (arith, c.requires.rooms, length-set c.args.rooms.now 0 c.find_part-starts.new.self)
+pub rewrite_found-requires-clause-scratch : goal.rewrite_found-requires-clause-scratch
+rewrite_found-requires-clause-scratch g c =
+    omega (arith, c.requires.scratch, length-set c.args.scratch.now 0 c.find_part-starts.new.self)
 
 pub rewrite_found-requires-clause-kept : goal.rewrite_found-requires-clause-kept
 rewrite_found-requires-clause-kept g c = λ room at.
-    let found : Room = c.find_part-starts.new.self in
-    let low : 0 < length c.args.rooms.now =
-    part_room c.args.rule.now.rows c.args.part.now (length c.args.rooms.now) c.requires.only c.requires.rooms in
+    let found : Scratch = c.find_part-starts.new.self in
+    let low : 0 < length c.args.scratch.now =
+    part_room c.args.rule.now.rows c.args.part.now (length c.args.scratch.now) c.requires.only c.requires.scratch in
     let own : room ≡ found =
     same_Some room found
-    (sym at ∙ get_same c.args.rooms.now 0 (get_or c.args.rooms.now 0 found) found
-    (slice_get-get_or c.args.rooms.now 0 found low)) in
+    (sym at ∙ get_same c.args.scratch.now 0 (get_or c.args.scratch.now 0 found) found
+    (slice_get-get_or c.args.scratch.now 0 found low)) in
     rw own c.find_part-starts.ensures.starts
 
 pub returns-clause-attempt : goal.returns-clause-attempt
 returns-clause-attempt g c = c.rewrite_found.ensures.attempt
 
-pub returns-clause-table : goal.returns-clause-table
-returns-clause-table g c = c.rewrite_found.ensures.table
+pub returns-clause-fixed : goal.returns-clause-fixed
+returns-clause-fixed g c = c.rewrite_found.ensures.fixed
 
-pub returns-clause-origin : goal.returns-clause-origin
-returns-clause-origin g c = c.rewrite_found.ensures.origin
-
-pub returns-clause-sides : goal.returns-clause-sides
-returns-clause-sides g c = c.rewrite_found.ensures.sides
-
-pub returns-clause-rooms : goal.returns-clause-rooms
-returns-clause-rooms g c =
-    c.rewrite_found.ensures.rooms ∙ length-set c.args.rooms.now 0 c.find_part-starts.new.self
+pub returns-clause-scratch : goal.returns-clause-scratch
+returns-clause-scratch g c =
+    c.rewrite_found.ensures.scratch ∙ length-set c.args.scratch.now 0 c.find_part-starts.new.self

@@ -37,8 +37,8 @@ pub returns-then-begins_nowhere-clause-long : goal.returns-then-begins_nowhere-c
 returns-then-begins_nowhere-clause-long g c = refl
 
 pub returns-clause-long : goal.returns-clause-long
-returns-clause-long g c = length-set c.args.rooms.now 0 c.find_part.new.self
+returns-clause-long g c = length-set c.args.scratch.now 0 c.find_part.new.self
 
-pub bounds-rooms-0 : goal.bounds-rooms-0
-bounds-rooms-0 g c =
-    part_room c.args.rule.now.rows c.args.part.now (length c.args.rooms.now) c.requires.only c.requires.rooms
+pub bounds-scratch-0 : goal.bounds-scratch-0
+bounds-scratch-0 g c =
+    part_room c.args.rule.now.rows c.args.part.now (length c.args.scratch.now) c.requires.only c.requires.scratch

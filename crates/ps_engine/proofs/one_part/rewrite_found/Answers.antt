@@ -16,8 +16,8 @@ use Rattle.ps_engine.proofs.Attempting.{attempt_part-written, unchanged}
 use Rattle.ps_engine.proofs.Within.{part_room}
 use Rattle.ps_engine.proofs.one_part.rewrite_found.Goals as goal
 
-pub returns-then-lie_alone-clause-attempt : goal.returns-then-lie_alone-clause-attempt
-returns-then-lie_alone-clause-attempt g c =
+pub returns-then-are_independent-clause-attempt : goal.returns-then-are_independent-clause-attempt
+returns-then-are_independent-clause-attempt g c =
     let grid : Grid = g.B.Board.grid c.args.board.now in
     let table : Option (List ℕ) = g.B.Board.table c.args.board.now in
     let rule = c.args.rule.now in
@@ -54,38 +54,26 @@ returns-in-Down-clause-attempt g c =
     ∙ ap (λ (axis : Axis). fold (applied ((m ∷ []) ∷ [])) (unchanged grid)
     (combinations (places grid (direction_of axis) (m ∷ []) ∷ []))) (sym c.in-Down.is))
 
-pub returns-then-lie_alone-clause-table : goal.returns-then-lie_alone-clause-table
-returns-then-lie_alone-clause-table g c = c.rewrite_places.ensures.table
+pub returns-then-are_independent-clause-fixed : goal.returns-then-are_independent-clause-fixed
+returns-then-are_independent-clause-fixed g c = c.rewrite_places.ensures.fixed
 
-pub returns-then-lie_alone-clause-origin : goal.returns-then-lie_alone-clause-origin
-returns-then-lie_alone-clause-origin g c = c.rewrite_places.ensures.origin
-
-pub returns-in-Down-clause-table : goal.returns-in-Down-clause-table
-returns-in-Down-clause-table g c = c.rewrite_in_turn.ensures.table
-
-pub returns-in-Down-clause-origin : goal.returns-in-Down-clause-origin
-returns-in-Down-clause-origin g c = c.rewrite_in_turn.ensures.origin
-
-pub returns-then-lie_alone-clause-sides : goal.returns-then-lie_alone-clause-sides
-returns-then-lie_alone-clause-sides g c = c.rewrite_places.ensures.sides
-
-pub returns-in-Down-clause-sides : goal.returns-in-Down-clause-sides
-returns-in-Down-clause-sides g c = c.rewrite_in_turn.ensures.sides
+pub returns-in-Down-clause-fixed : goal.returns-in-Down-clause-fixed
+returns-in-Down-clause-fixed g c = c.rewrite_in_turn.ensures.fixed
 
 pub rewrite_places-requires-clause-whole : goal.rewrite_places-requires-clause-whole
 rewrite_places-requires-clause-whole g c = c.requires.whole
 
 pub rewrite_places-requires-clause-starts : goal.rewrite_places-requires-clause-starts
 rewrite_places-requires-clause-starts g c =
-    c.requires.kept (get_or c.args.rooms.now 0 c.index-rooms-0.result)
-    (slice_get-get_or c.args.rooms.now 0 c.index-rooms-0.result
-    (part_room c.args.rule.now.rows c.args.part.now (length c.args.rooms.now) c.requires.only c.requires.rooms))
+    c.requires.kept (get_or c.args.scratch.now 0 c.index-scratch-0.result)
+    (slice_get-get_or c.args.scratch.now 0 c.index-scratch-0.result
+    (part_room c.args.rule.now.rows c.args.part.now (length c.args.scratch.now) c.requires.only c.requires.scratch))
 
 pub rewrite_places-requires-clause-alone : goal.rewrite_places-requires-clause-alone
-rewrite_places-requires-clause-alone g c = c.lie_alone.ensures c.if-lie_alone.true
+rewrite_places-requires-clause-alone g c = c.are_independent.ensures c.if-are_independent.true
 
-pub returns-then-lie_alone-clause-rooms : goal.returns-then-lie_alone-clause-rooms
-returns-then-lie_alone-clause-rooms g c = refl
+pub returns-then-are_independent-clause-scratch : goal.returns-then-are_independent-clause-scratch
+returns-then-are_independent-clause-scratch g c = refl
 
 pub rewrite_in_turn-requires-clause-whole : goal.rewrite_in_turn-requires-clause-whole
 rewrite_in_turn-requires-clause-whole g c = c.requires.whole
@@ -93,35 +81,29 @@ rewrite_in_turn-requires-clause-whole g c = c.requires.whole
 pub rewrite_in_turn-requires-clause-starts : goal.rewrite_in_turn-requires-clause-starts
 rewrite_in_turn-requires-clause-starts g c =
     subst (λ (axis : Axis). AreStarts (g.B.Board.grid c.args.board.now) (g.B.Board.table c.args.board.now) axis
-    c.args.part.now c.args.starts (get_or c.args.rooms.now 0 c.index-rooms-0.result).starts.items) c.in-Down.is
-    (c.requires.kept (get_or c.args.rooms.now 0 c.index-rooms-0.result)
-    (slice_get-get_or c.args.rooms.now 0 c.index-rooms-0.result
-    (part_room c.args.rule.now.rows c.args.part.now (length c.args.rooms.now) c.requires.only c.requires.rooms)))
+    c.args.part.now c.args.starts (get_or c.args.scratch.now 0 c.index-scratch-0.result).starts.items) c.in-Down.is
+    (c.requires.kept (get_or c.args.scratch.now 0 c.index-scratch-0.result)
+    (slice_get-get_or c.args.scratch.now 0 c.index-scratch-0.result
+    (part_room c.args.rule.now.rows c.args.part.now (length c.args.scratch.now) c.requires.only c.requires.scratch)))
 
 pub attempt_rows-requires-clause-long : goal.attempt_rows-requires-clause-long
-attempt_rows-requires-clause-long g c = c.requires.rooms
+attempt_rows-requires-clause-long g c = c.requires.scratch
 
 pub attempt_rows-requires-clause-rewrites : goal.attempt_rows-requires-clause-rewrites
 attempt_rows-requires-clause-rewrites g c = c.requires.rewrites
 
-pub returns-in-Down-clause-rooms : goal.returns-in-Down-clause-rooms
-returns-in-Down-clause-rooms g c = refl
+pub returns-in-Down-clause-scratch : goal.returns-in-Down-clause-scratch
+returns-in-Down-clause-scratch g c = refl
 
-pub returns-in-Right-clause-rooms : goal.returns-in-Right-clause-rooms
-returns-in-Right-clause-rooms g c = c.attempt_rows.ensures.rooms
+pub returns-in-Right-clause-scratch : goal.returns-in-Right-clause-scratch
+returns-in-Right-clause-scratch g c = c.attempt_rows.ensures.scratch
 
 pub returns-in-Right-clause-attempt : goal.returns-in-Right-clause-attempt
 returns-in-Right-clause-attempt g c = c.attempt_rows.ensures.attempt
 
-pub returns-in-Right-clause-table : goal.returns-in-Right-clause-table
-returns-in-Right-clause-table g c = c.attempt_rows.ensures.table
+pub returns-in-Right-clause-fixed : goal.returns-in-Right-clause-fixed
+returns-in-Right-clause-fixed g c = c.attempt_rows.ensures.fixed
 
-pub returns-in-Right-clause-origin : goal.returns-in-Right-clause-origin
-returns-in-Right-clause-origin g c = c.attempt_rows.ensures.origin
-
-pub returns-in-Right-clause-sides : goal.returns-in-Right-clause-sides
-returns-in-Right-clause-sides g c = c.attempt_rows.ensures.sides
-
-pub bounds-rooms-0 : goal.bounds-rooms-0
-bounds-rooms-0 g c =
-    part_room c.args.rule.now.rows c.args.part.now (length c.args.rooms.now) c.requires.only c.requires.rooms
+pub bounds-scratch-0 : goal.bounds-scratch-0
+bounds-scratch-0 g c =
+    part_room c.args.rule.now.rows c.args.part.now (length c.args.scratch.now) c.requires.only c.requires.scratch

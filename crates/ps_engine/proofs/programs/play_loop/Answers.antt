@@ -5,20 +5,19 @@ use Rattle.ps_model.specs.board.Attempts.{State, Result}
 use Rattle.ps_model.specs.board.Programs.{Progress, looped, pass}
 use Rattle.ps_model.specs.meaning.RuleMeanings.{RuleMeaning}
 use Rattle.ps_engine.specs.RulesInRoom.{groups_meaning}
-use Rattle.ps_engine.specs.Rooms.{GroupsHaveRooms}
+use Rattle.ps_engine.specs.Scratch.{GroupsHaveScratch}
 use Rattle.ps_engine.proofs.ComingBack.{IsStep, keeps_on, rest_is}
 use Rattle.ps_engine.proofs.Sequences.{looped_off, looped_on, looped_stop}
+use Rattle.ps_match.specs.FixedParts.{same_layers}
 use Rattle.ps_engine.proofs.programs.play_loop.Goals as goal
 
 pub loop-again-init : goal.loop-again-init
 loop-again-init g c =
     record {
       looped = refl;
-      table = refl;
-      origin = refl;
-      sides = refl;
+      fixed = refl;
       motions = c.requires.motions;
-      keeps = λ on. absurd (false≢true (sym c.new-watch.ensures ∙ on));
+      keeps = λ on. absurd (false≢true (sym c.new-finder.ensures ∙ on));
     }
 
 pub returns-then-not-again-clause-looped : goal.returns-then-not-again-clause-looped
@@ -30,7 +29,7 @@ returns-then-not-again-clause-looped g c =
     let made : (let r : Result = record { state = next; changed = false } in r) ≡ pass meant now =
     ap (λ (b : Bool). let r : Result = record { state = next; changed = b } in r) (sym c.if-not-again.true)
     ∙ c.in_ok-again.ensures.pass
-    ∙ ap (λ (t : Option (List ℕ)). pass (groups_meaning t c.args.groups.now) now) c.loop-again.invariant.table in
+    ∙ ap (λ (t : Option (List ℕ)). pass (groups_meaning t c.args.groups.now) now) (same_layers c.loop-again.invariant.fixed) in
     looped_off meant c.loop-again.left now next made ∙ c.loop-again.invariant.looped
 
 pub loop-again-preserved : goal.loop-again-preserved
@@ -43,20 +42,18 @@ loop-again-preserved g c =
     let made : (let r : Result = record { state = next; changed = true } in r) ≡ pass meant now =
     ap (λ (b : Bool). let r : Result = record { state = next; changed = b } in r) (sym c.if-not-again.false)
     ∙ c.in_ok-again.ensures.pass
-    ∙ ap (λ (t : Option (List ℕ)). pass (groups_meaning t c.args.groups.now) now) c.loop-again.invariant.table in
+    ∙ ap (λ (t : Option (List ℕ)). pass (groups_meaning t c.args.groups.now) now) (same_layers c.loop-again.invariant.fixed) in
     let step : IsStep run now next = λ n. sym (looped_on meant (suc n) now next n (omega arith) made) in
-    let watch = c.loop-again.watch in
+    let finder = c.loop-again.finder in
     let kept = c.loop-again.kept.of_passes in
     record {
-      looped = rest_is run watch kept now next (c.loop-again.left - 1) c.in_ok-left.left step
+      looped = rest_is run finder kept now next (c.loop-again.left - 1) c.in_ok-left.left step
           c.loop-again.invariant.keeps c.in_ok-left.ensures.rest
           ∙ looped_on meant c.loop-again.left now next (c.loop-again.left - 1) (omega arith) made
           ∙ c.loop-again.invariant.looped;
-      table = c.pass.ensures.table ∙ c.loop-again.invariant.table;
-      origin = c.pass.ensures.origin ∙ c.loop-again.invariant.origin;
-      sides = c.pass.ensures.sides ∙ c.loop-again.invariant.sides;
+      fixed = c.pass.ensures.fixed ∙ c.loop-again.invariant.fixed;
       motions = c.in_ok-again.ensures.motions;
-      keeps = keeps_on run watch c.step.new.self kept c.step.new.kept now next step c.loop-again.invariant.keeps
+      keeps = keeps_on run finder c.step.new.self kept c.step.new.kept now next step c.loop-again.invariant.keeps
           c.in_ok-left.ensures.goes;
     }
 
@@ -91,12 +88,12 @@ returns-then-left-eq0-clause-looped g c =
     let made : (let r : Result = record { state = next; changed = true } in r) ≡ pass meant now =
     ap (λ (b : Bool). let r : Result = record { state = next; changed = b } in r) (sym c.if-not-again.false)
     ∙ c.in_ok-again.ensures.pass
-    ∙ ap (λ (t : Option (List ℕ)). pass (groups_meaning t c.args.groups.now) now) c.loop-again.invariant.table in
+    ∙ ap (λ (t : Option (List ℕ)). pass (groups_meaning t c.args.groups.now) now) (same_layers c.loop-again.invariant.fixed) in
     looped_stop meant c.loop-again.left now next c.if-left-eq0.true made ∙ c.loop-again.invariant.looped
 
-pub pass-requires-clause-rooms : goal.pass-requires-clause-rooms
-pass-requires-clause-rooms g c =
-    subst (λ (count : ℕ). GroupsHaveRooms count c.args.groups.now) (sym c.loop-again.auto.rooms) c.requires.rooms
+pub pass-requires-clause-scratch : goal.pass-requires-clause-scratch
+pass-requires-clause-scratch g c =
+    subst (λ (count : ℕ). GroupsHaveScratch count c.args.groups.now) (sym c.loop-again.auto.scratch) c.requires.scratch
 
 pub pass-requires-clause-motions : goal.pass-requires-clause-motions
 pass-requires-clause-motions g c = c.loop-again.invariant.motions
@@ -113,50 +110,26 @@ returns-then-left-eq0-clause-motions g c = c.in_ok-again.ensures.motions
 pub returns-then-not-again-clause-motions : goal.returns-then-not-again-clause-motions
 returns-then-not-again-clause-motions g c = c.in_ok-again.ensures.motions
 
-pub returns-then-not-again-clause-rooms : goal.returns-then-not-again-clause-rooms
-returns-then-not-again-clause-rooms g c = c.in_ok-again.ensures.rooms ∙ c.loop-again.auto.rooms
+pub returns-then-not-again-clause-scratch : goal.returns-then-not-again-clause-scratch
+returns-then-not-again-clause-scratch g c = c.in_ok-again.ensures.scratch ∙ c.loop-again.auto.scratch
 
-pub returns-in_err-again-clause-table : goal.returns-in_err-again-clause-table
-returns-in_err-again-clause-table g c = c.in_err-again.ensures.table ∙ c.loop-again.invariant.table
+pub returns-in_err-again-clause-fixed : goal.returns-in_err-again-clause-fixed
+returns-in_err-again-clause-fixed g c = c.in_err-again.ensures.fixed ∙ c.loop-again.invariant.fixed
 
-pub returns-in_err-again-clause-origin : goal.returns-in_err-again-clause-origin
-returns-in_err-again-clause-origin g c = c.in_err-again.ensures.origin ∙ c.loop-again.invariant.origin
+pub returns-in_err-left-clause-fixed : goal.returns-in_err-left-clause-fixed
+returns-in_err-left-clause-fixed g c = c.in_ok-again.ensures.fixed ∙ c.loop-again.invariant.fixed
 
-pub returns-in_err-left-clause-table : goal.returns-in_err-left-clause-table
-returns-in_err-left-clause-table g c = c.in_ok-again.ensures.table ∙ c.loop-again.invariant.table
+pub returns-then-left-eq0-clause-fixed : goal.returns-then-left-eq0-clause-fixed
+returns-then-left-eq0-clause-fixed g c = c.in_ok-again.ensures.fixed ∙ c.loop-again.invariant.fixed
 
-pub returns-in_err-left-clause-origin : goal.returns-in_err-left-clause-origin
-returns-in_err-left-clause-origin g c = c.in_ok-again.ensures.origin ∙ c.loop-again.invariant.origin
+pub returns-then-not-again-clause-fixed : goal.returns-then-not-again-clause-fixed
+returns-then-not-again-clause-fixed g c = c.in_ok-again.ensures.fixed ∙ c.loop-again.invariant.fixed
 
-pub returns-then-left-eq0-clause-table : goal.returns-then-left-eq0-clause-table
-returns-then-left-eq0-clause-table g c = c.in_ok-again.ensures.table ∙ c.loop-again.invariant.table
+pub returns-then-left-eq0-clause-scratch : goal.returns-then-left-eq0-clause-scratch
+returns-then-left-eq0-clause-scratch g c = c.in_ok-again.ensures.scratch ∙ c.loop-again.auto.scratch
 
-pub returns-then-left-eq0-clause-origin : goal.returns-then-left-eq0-clause-origin
-returns-then-left-eq0-clause-origin g c = c.in_ok-again.ensures.origin ∙ c.loop-again.invariant.origin
+pub returns-in_err-left-clause-scratch : goal.returns-in_err-left-clause-scratch
+returns-in_err-left-clause-scratch g c = c.in_ok-again.ensures.scratch ∙ c.loop-again.auto.scratch
 
-pub returns-then-not-again-clause-table : goal.returns-then-not-again-clause-table
-returns-then-not-again-clause-table g c = c.in_ok-again.ensures.table ∙ c.loop-again.invariant.table
-
-pub returns-then-not-again-clause-origin : goal.returns-then-not-again-clause-origin
-returns-then-not-again-clause-origin g c = c.in_ok-again.ensures.origin ∙ c.loop-again.invariant.origin
-
-pub returns-in_err-again-clause-sides : goal.returns-in_err-again-clause-sides
-returns-in_err-again-clause-sides g c = c.in_err-again.ensures.sides ∙ c.loop-again.invariant.sides
-
-pub returns-in_err-left-clause-sides : goal.returns-in_err-left-clause-sides
-returns-in_err-left-clause-sides g c = c.in_ok-again.ensures.sides ∙ c.loop-again.invariant.sides
-
-pub returns-then-left-eq0-clause-sides : goal.returns-then-left-eq0-clause-sides
-returns-then-left-eq0-clause-sides g c = c.in_ok-again.ensures.sides ∙ c.loop-again.invariant.sides
-
-pub returns-then-not-again-clause-sides : goal.returns-then-not-again-clause-sides
-returns-then-not-again-clause-sides g c = c.in_ok-again.ensures.sides ∙ c.loop-again.invariant.sides
-
-pub returns-then-left-eq0-clause-rooms : goal.returns-then-left-eq0-clause-rooms
-returns-then-left-eq0-clause-rooms g c = c.in_ok-again.ensures.rooms ∙ c.loop-again.auto.rooms
-
-pub returns-in_err-left-clause-rooms : goal.returns-in_err-left-clause-rooms
-returns-in_err-left-clause-rooms g c = c.in_ok-again.ensures.rooms ∙ c.loop-again.auto.rooms
-
-pub returns-in_err-again-clause-rooms : goal.returns-in_err-again-clause-rooms
-returns-in_err-again-clause-rooms g c = c.in_err-again.ensures.rooms ∙ c.loop-again.auto.rooms
+pub returns-in_err-again-clause-scratch : goal.returns-in_err-again-clause-scratch
+returns-in_err-again-clause-scratch g c = c.in_err-again.ensures.scratch ∙ c.loop-again.auto.scratch

@@ -1,13 +1,13 @@
 use Rattle.std.proofs.Common.{◌≡◌, ℕ}
-use Rattle.ps_match.specs.InRoom.{sides_of}
 use Rattle.ps_match.specs.Nowhere.{HasMotionsIn}
 use Rattle.ps_model.specs.board.Attempts.{State}
 use Rattle.ps_model.specs.board.Programs.{Progress, looped}
 use Rattle.ps_engine.specs.RulesInRoom.{groups_meaning}
 use Rattle.ps_engine.proofs.ComingBack.{Keeps}
+use Rattle.ps_match.specs.FixedParts.{fixed_part}
 use Rattle.ps_engine.proofs.programs.play_loop.Given as goal
 
--- what is left of the loop comes to the same, and what the watch keeps has come here
+-- what is left of the loop comes to the same, and what the finder keeps has come here
 abbrev pub invariant-loop-again : goal.invariant-loop-again
 invariant-loop-again g l =
     let before : State = record { grid = g.B.Board.grid l.fn.board; queue = l.fn.queue } in
@@ -16,11 +16,9 @@ invariant-loop-again g l =
     let run : ℕ → State → Progress = looped (groups_meaning table l.groups) in
     record {
       looped : run l.left now ≡ run l.fn.repeats before;
-      table : g.B.Board.table l.board ≡ table;
-      origin : g.B.Board.origin l.board ≡ g.B.Board.origin l.fn.board;
-      sides : sides_of (g.B.Board.grid l.board) ≡ sides_of (g.B.Board.grid l.fn.board);
+      fixed : fixed_part g.B.Board l.board ≡ fixed_part g.B.Board l.fn.board;
       motions : HasMotionsIn (g.B.Board.grid l.board) l.motions;
-      keeps : Keeps run l.watch l.kept.of_passes now;
+      keeps : Keeps run l.finder l.kept.of_passes now;
     }
 
 -- the repeats that are left

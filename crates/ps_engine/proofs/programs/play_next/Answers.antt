@@ -3,9 +3,9 @@ use Rattle.std.proofs.lemmas.Option.{get_or_from_slice_get}
 use Rattle.ps_model.specs.board.Attempts.{State}
 use Rattle.ps_model.specs.board.Programs.{Progress, section_run}
 use Rattle.ps_program.specs.declared.program.CompiledSection.{CompiledSection}
-use Rattle.ps_engine.specs.Rooms.{SectionHasRooms}
+use Rattle.ps_engine.specs.Scratch.{SectionHasScratch}
 use Rattle.ps_engine.specs.RulesInRoom.{section_meaning}
-use Rattle.ps_engine.specs.Watched.{Watching}
+use Rattle.ps_engine.specs.QuietGroups.{QuietGroupsShown}
 use Rattle.ps_engine.proofs.Idle.{section_still}
 use Rattle.ps_engine.proofs.Waking.{each_there}
 use Rattle.ps_engine.proofs.programs.play_next.Goals as goal
@@ -23,7 +23,7 @@ returns-clause-section g c = λ section at.
     let own : played ≡ section =
     c.index-sections-number.is
     ∙ ap (λ (sections : List CompiledSection). get_or sections n played)
-    (c.sections-sections.ensures ∙ ap (λ (w : Watching). w.sections) c.passes.ensures.program)
+    (c.sections-sections.ensures ∙ ap (λ (w : QuietGroupsShown). w.sections) c.passes.ensures.program)
     ∙ get_or_from_slice_get c.args.program.now.sections n section played at in
     let before : State = record { grid = g.B.Board.grid c.args.board.now; queue = c.args.queue.now } in
     let after : State = record {
@@ -38,8 +38,8 @@ returns-clause-section g c = λ section at.
 pub passes-requires-clause-number : goal.passes-requires-clause-number
 passes-requires-clause-number g c = c.requires.number
 
-pub passes-requires-clause-rooms : goal.passes-requires-clause-rooms
-passes-requires-clause-rooms g c = c.requires.rooms
+pub passes-requires-clause-scratch : goal.passes-requires-clause-scratch
+passes-requires-clause-scratch g c = c.requires.scratch
 
 pub passes-requires-clause-motions : goal.passes-requires-clause-motions
 passes-requires-clause-motions g c = c.requires.motions
@@ -59,43 +59,31 @@ passes-requires-clause-same g c = c.requires.same
 pub returns-then-passes-clause-unchanged : goal.returns-then-passes-clause-unchanged
 returns-then-passes-clause-unchanged g c = λ off. refl
 
-pub returns-then-passes-clause-table : goal.returns-then-passes-clause-table
-returns-then-passes-clause-table g c = refl
+pub returns-then-passes-clause-fixed : goal.returns-then-passes-clause-fixed
+returns-then-passes-clause-fixed g c = refl
 
-pub returns-then-passes-clause-origin : goal.returns-then-passes-clause-origin
-returns-then-passes-clause-origin g c = refl
-
-pub returns-then-passes-clause-sides : goal.returns-then-passes-clause-sides
-returns-then-passes-clause-sides g c = refl
-
-pub returns-then-passes-clause-rooms : goal.returns-then-passes-clause-rooms
-returns-then-passes-clause-rooms g c = c.passes.ensures.rooms
+pub returns-then-passes-clause-scratch : goal.returns-then-passes-clause-scratch
+returns-then-passes-clause-scratch g c = c.passes.ensures.scratch
 
 pub returns-then-passes-clause-program : goal.returns-then-passes-clause-program
 returns-then-passes-clause-program g c = c.passes.ensures.program
 
-pub play_section-requires-clause-rooms : goal.play_section-requires-clause-rooms
-play_section-requires-clause-rooms g c =
-    subst (λ (count : ℕ). SectionHasRooms count c.index-sections-number.result) (sym c.passes.ensures.rooms)
-    (each_there (SectionHasRooms (length c.args.rooms.now)) c.sections-sections.result.now
+pub play_section-requires-clause-scratch : goal.play_section-requires-clause-scratch
+play_section-requires-clause-scratch g c =
+    subst (λ (count : ℕ). SectionHasScratch count c.index-sections-number.result) (sym c.passes.ensures.scratch)
+    (each_there (SectionHasScratch (length c.args.scratch.now)) c.sections-sections.result.now
     c.args.program.now.sections c.args.number c.index-sections-number.result
-    (c.sections-sections.ensures ∙ ap (λ (w : Watching). w.sections) c.passes.ensures.program) c.requires.number
-    c.index-sections-number.is c.requires.rooms)
+    (c.sections-sections.ensures ∙ ap (λ (w : QuietGroupsShown). w.sections) c.passes.ensures.program) c.requires.number
+    c.index-sections-number.is c.requires.scratch)
 
 pub returns-clause-unchanged : goal.returns-clause-unchanged
 returns-clause-unchanged g c = c.play_section.ensures.unchanged
 
-pub returns-clause-table : goal.returns-clause-table
-returns-clause-table g c = c.play_section.ensures.table
+pub returns-clause-fixed : goal.returns-clause-fixed
+returns-clause-fixed g c = c.play_section.ensures.fixed
 
-pub returns-clause-origin : goal.returns-clause-origin
-returns-clause-origin g c = c.play_section.ensures.origin
-
-pub returns-clause-sides : goal.returns-clause-sides
-returns-clause-sides g c = c.play_section.ensures.sides
-
-pub returns-clause-rooms : goal.returns-clause-rooms
-returns-clause-rooms g c = c.play_section.ensures.rooms ∙ c.passes.ensures.rooms
+pub returns-clause-scratch : goal.returns-clause-scratch
+returns-clause-scratch g c = c.play_section.ensures.scratch ∙ c.passes.ensures.scratch
 
 pub returns-clause-program : goal.returns-clause-program
 returns-clause-program g c = c.passes.ensures.program
@@ -103,12 +91,12 @@ returns-clause-program g c = c.passes.ensures.program
 pub bounds-sections-number : goal.bounds-sections-number
 bounds-sections-number g c =
     subst (λ (sections : List CompiledSection). c.args.number < length sections)
-    (sym (c.sections-sections.ensures ∙ ap (λ (w : Watching). w.sections) c.passes.ensures.program)) c.requires.number
+    (sym (c.sections-sections.ensures ∙ ap (λ (w : QuietGroupsShown). w.sections) c.passes.ensures.program)) c.requires.number
 
 pub offset_bounds-sections-number : goal.offset_bounds-sections-number
 offset_bounds-sections-number g c =
     let low : c.args.number < length c.sections-sections.result.now =
     subst (λ (sections : List CompiledSection). c.args.number < length sections)
-    (sym (c.sections-sections.ensures ∙ ap (λ (w : Watching). w.sections) c.passes.ensures.program))
+    (sym (c.sections-sections.ensures ∙ ap (λ (w : QuietGroupsShown). w.sections) c.passes.ensures.program))
     c.requires.number in
     search rules

@@ -6,7 +6,7 @@ use Rattle.ps_model.specs.board.Programs.{Progress, group, section_run}
 use Rattle.ps_program.specs.declared.program.CompiledSection.{CompiledSection}
 use Rattle.ps_program.specs.declared.program.CompiledSection.TheVariants.{Group, Loop}
 use Rattle.ps_engine.specs.RulesInRoom.{rules_meaning, section_meaning}
-use Rattle.ps_engine.specs.Rooms.{GroupsHaveRooms, HaveRooms}
+use Rattle.ps_engine.specs.Scratch.{GroupsHaveScratch, HaveScratch}
 use Rattle.ps_engine.proofs.Unchanged.{group_kept}
 use Rattle.ps_engine.proofs.programs.play_section.Goals as goal
 
@@ -24,15 +24,15 @@ returns-in_ok-changed-in-Group-clause-unchanged g c = λ off.
     ∙ group_kept (rules_meaning (g.B.Board.table c.args.board.now) c.as_slice.result.now) before
     (ap (λ (r : Result). r.changed) (sym made) ∙ off)
 
-pub play_group-requires-clause-rooms : goal.play_group-requires-clause-rooms
-play_group-requires-clause-rooms g c =
-    subst (HaveRooms (length c.args.rooms.now)) (sym c.as_slice.ensures)
-    (c.requires.rooms.group c.in-Group.rules c.in-Group.is)
+pub play_group-requires-clause-scratch : goal.play_group-requires-clause-scratch
+play_group-requires-clause-scratch g c =
+    subst (HaveScratch (length c.args.scratch.now)) (sym c.as_slice.ensures)
+    (c.requires.scratch.group c.in-Group.rules c.in-Group.is)
 
-pub play_loop-requires-clause-rooms : goal.play_loop-requires-clause-rooms
-play_loop-requires-clause-rooms g c =
-    subst (GroupsHaveRooms (length c.args.rooms.now)) (sym c.as_slice-in-Loop.ensures)
-    (c.requires.rooms.groups c.in-Loop.groups c.in-Loop.is)
+pub play_loop-requires-clause-scratch : goal.play_loop-requires-clause-scratch
+play_loop-requires-clause-scratch g c =
+    subst (GroupsHaveScratch (length c.args.scratch.now)) (sym c.as_slice-in-Loop.ensures)
+    (c.requires.scratch.groups c.in-Loop.groups c.in-Loop.is)
 
 pub play_group-requires-clause-motions : goal.play_group-requires-clause-motions
 play_group-requires-clause-motions g c = c.requires.motions
@@ -55,41 +55,23 @@ returns-in_err-changed-in-Group-clause-section g c = IfOk-from_err c.from_residu
 pub returns-in_err-changed-in-Group-clause-unchanged : goal.returns-in_err-changed-in-Group-clause-unchanged
 returns-in_err-changed-in-Group-clause-unchanged g c = IfOk-from_err c.from_residual.result _ c.from_residual.ensures.0
 
-pub returns-in_err-changed-in-Group-clause-table : goal.returns-in_err-changed-in-Group-clause-table
-returns-in_err-changed-in-Group-clause-table g c = c.in_err-changed-in-Group.ensures.table
+pub returns-in_err-changed-in-Group-clause-fixed : goal.returns-in_err-changed-in-Group-clause-fixed
+returns-in_err-changed-in-Group-clause-fixed g c = c.in_err-changed-in-Group.ensures.fixed
 
-pub returns-in_err-changed-in-Group-clause-origin : goal.returns-in_err-changed-in-Group-clause-origin
-returns-in_err-changed-in-Group-clause-origin g c = c.in_err-changed-in-Group.ensures.origin
+pub returns-in_ok-changed-in-Group-clause-fixed : goal.returns-in_ok-changed-in-Group-clause-fixed
+returns-in_ok-changed-in-Group-clause-fixed g c = c.in_ok-changed-in-Group.ensures.fixed
 
-pub returns-in_ok-changed-in-Group-clause-table : goal.returns-in_ok-changed-in-Group-clause-table
-returns-in_ok-changed-in-Group-clause-table g c = c.in_ok-changed-in-Group.ensures.table
+pub returns-in-Loop-clause-fixed : goal.returns-in-Loop-clause-fixed
+returns-in-Loop-clause-fixed g c = c.play_loop.ensures.fixed
 
-pub returns-in_ok-changed-in-Group-clause-origin : goal.returns-in_ok-changed-in-Group-clause-origin
-returns-in_ok-changed-in-Group-clause-origin g c = c.in_ok-changed-in-Group.ensures.origin
+pub returns-in_err-changed-in-Group-clause-scratch : goal.returns-in_err-changed-in-Group-clause-scratch
+returns-in_err-changed-in-Group-clause-scratch g c = c.in_err-changed-in-Group.ensures.scratch
 
-pub returns-in-Loop-clause-table : goal.returns-in-Loop-clause-table
-returns-in-Loop-clause-table g c = c.play_loop.ensures.table
+pub returns-in_ok-changed-in-Group-clause-scratch : goal.returns-in_ok-changed-in-Group-clause-scratch
+returns-in_ok-changed-in-Group-clause-scratch g c = c.in_ok-changed-in-Group.ensures.scratch
 
-pub returns-in-Loop-clause-origin : goal.returns-in-Loop-clause-origin
-returns-in-Loop-clause-origin g c = c.play_loop.ensures.origin
-
-pub returns-in_err-changed-in-Group-clause-sides : goal.returns-in_err-changed-in-Group-clause-sides
-returns-in_err-changed-in-Group-clause-sides g c = c.in_err-changed-in-Group.ensures.sides
-
-pub returns-in_ok-changed-in-Group-clause-sides : goal.returns-in_ok-changed-in-Group-clause-sides
-returns-in_ok-changed-in-Group-clause-sides g c = c.in_ok-changed-in-Group.ensures.sides
-
-pub returns-in-Loop-clause-sides : goal.returns-in-Loop-clause-sides
-returns-in-Loop-clause-sides g c = c.play_loop.ensures.sides
-
-pub returns-in_err-changed-in-Group-clause-rooms : goal.returns-in_err-changed-in-Group-clause-rooms
-returns-in_err-changed-in-Group-clause-rooms g c = c.in_err-changed-in-Group.ensures.rooms
-
-pub returns-in_ok-changed-in-Group-clause-rooms : goal.returns-in_ok-changed-in-Group-clause-rooms
-returns-in_ok-changed-in-Group-clause-rooms g c = c.in_ok-changed-in-Group.ensures.rooms
-
-pub returns-in-Loop-clause-rooms : goal.returns-in-Loop-clause-rooms
-returns-in-Loop-clause-rooms g c = c.play_loop.ensures.rooms
+pub returns-in-Loop-clause-scratch : goal.returns-in-Loop-clause-scratch
+returns-in-Loop-clause-scratch g c = c.play_loop.ensures.scratch
 
 pub returns-in_ok-changed-in-Group-clause-section : goal.returns-in_ok-changed-in-Group-clause-section
 returns-in_ok-changed-in-Group-clause-section g c =

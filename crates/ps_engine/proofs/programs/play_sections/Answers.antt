@@ -5,10 +5,10 @@ use Rattle.ps_model.specs.board.Attempts.{Result, State}
 use Rattle.ps_model.specs.board.Programs.{Progress, section_run}
 use Rattle.ps_program.specs.declared.program.CompiledSection.{CompiledSection}
 use Rattle.ps_program.specs.declared.program.CompiledSection.TheVariants.{Group, Loop}
-use Rattle.ps_match.specs.InRoom.{sides_of}
 use Rattle.ps_match.specs.Nowhere.{HasMotionsIn}
 use Rattle.ps_engine.specs.RulesInRoom.{section_meaning, sections_meaning}
 use Rattle.ps_engine.proofs.Sequences.{program_is, sections_end, sections_on}
+use Rattle.ps_match.specs.FixedParts.{fixed_part, same_layers}
 use Rattle.ps_engine.proofs.programs.play_sections.Goals as goal
 use Rattle.ps_engine.proofs.programs.play_sections.Goals.{in-Group+in_ok-play_group-in-Group}
 use Rattle.ps_engine.proofs.programs.play_sections.Goals.{in-Loop+in_ok-left-in-Loop+else-left}
@@ -18,9 +18,7 @@ loop-section-init g c =
     record {
       run = program_is (sections_meaning (g.B.Board.table c.args.board.now) c.args.sections.now) REPEAT_LIMIT
           (record { grid = g.B.Board.grid c.args.board.now; queue = c.args.queue.now }) refl;
-      table = refl;
-      origin = refl;
-      sides = refl;
+      fixed = refl;
       motions = c.requires.motions;
     }
 
@@ -41,14 +39,12 @@ loop-section-preserved g c =
           w.in_ok-play_group-in-Group.ensures.group
           ∙ ap (λ (s : CompiledSection). section_run (section_meaning here s) repeats now)
           (ap Group w.as_slice.ensures ∙ sym w.in-Group.is)
-          ∙ ap (λ (t : Option (List ℕ)). section_run (section_meaning t section) repeats now) was.table in
+          ∙ ap (λ (t : Option (List ℕ)). section_run (section_meaning t section) repeats now) (same_layers was.fixed) in
           record {
             run = rw (w.repeats-is, w.board-is, w.queue-is) (sections_on (section_meaning table) c.args.sections.now
                 c.loop-section.section-index section repeats repeats now next c.loop-section-test.true
                 c.section-item.is made ∙ was.run);
-            table = ap g.B.Board.table w.board-is ∙ w.play_group.ensures.table ∙ was.table;
-            origin = ap g.B.Board.origin w.board-is ∙ w.play_group.ensures.origin ∙ was.origin;
-            sides = ap (λ board. sides_of (g.B.Board.grid board)) w.board-is ∙ w.play_group.ensures.sides ∙ was.sides;
+            fixed = ap (fixed_part g.B.Board) w.board-is ∙ w.play_group.ensures.fixed ∙ was.fixed;
             motions = subst (HasMotionsIn (g.B.Board.grid c.match-section.board)) (sym w.motions-is)
                 (subst (λ (grid : Grid). HasMotionsIn grid w.play_group.new.motions)
                 (sym (ap g.B.Board.grid w.board-is)) w.play_group.ensures.motions);
@@ -63,14 +59,12 @@ loop-section-preserved g c =
           ∙ w.in_ok-left-in-Loop.ensures.looped
           ∙ ap (λ (s : CompiledSection). section_run (section_meaning here s) repeats now)
           (ap Loop w.as_slice-in-Loop.ensures ∙ sym w.in-Loop.is)
-          ∙ ap (λ (t : Option (List ℕ)). section_run (section_meaning t section) repeats now) was.table in
+          ∙ ap (λ (t : Option (List ℕ)). section_run (section_meaning t section) repeats now) (same_layers was.fixed) in
           record {
             run = rw (w.repeats-is, w.board-is, w.queue-is) (sections_on (section_meaning table) c.args.sections.now
                 c.loop-section.section-index section repeats left.repeats now next c.loop-section-test.true
                 c.section-item.is made ∙ was.run);
-            table = ap g.B.Board.table w.board-is ∙ w.play_loop.ensures.table ∙ was.table;
-            origin = ap g.B.Board.origin w.board-is ∙ w.play_loop.ensures.origin ∙ was.origin;
-            sides = ap (λ board. sides_of (g.B.Board.grid board)) w.board-is ∙ w.play_loop.ensures.sides ∙ was.sides;
+            fixed = ap (fixed_part g.B.Board) w.board-is ∙ w.play_loop.ensures.fixed ∙ was.fixed;
             motions = subst (HasMotionsIn (g.B.Board.grid c.match-section.board)) (sym w.motions-is)
                 (subst (λ (grid : Grid). HasMotionsIn grid w.play_loop.new.motions)
                 (sym (ap g.B.Board.grid w.board-is)) w.play_loop.ensures.motions);

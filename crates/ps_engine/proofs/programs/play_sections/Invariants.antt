@@ -1,9 +1,9 @@
 use Rattle.std.proofs.Common.{◌≡◌, drop, map}
-use Rattle.ps_match.specs.InRoom.{sides_of}
 use Rattle.ps_match.specs.Nowhere.{HasMotionsIn}
 use Rattle.ps_model.specs.board.Attempts.{State}
 use Rattle.ps_model.specs.board.Programs.{program_run, sections_run}
 use Rattle.ps_engine.specs.RulesInRoom.{section_meaning, sections_meaning}
+use Rattle.ps_match.specs.FixedParts.{fixed_part}
 use Rattle.ps_engine.proofs.programs.play_sections.Given as goal
 
 -- what is left of the program comes to the same
@@ -15,8 +15,6 @@ invariant-loop-section g l =
     record {
       run : sections_run (map (section_meaning table) (drop l.section-index l.sections)) l.repeats now ≡ program_run
           (sections_meaning table l.sections) before;
-      table : g.B.Board.table l.board ≡ table;
-      origin : g.B.Board.origin l.board ≡ g.B.Board.origin l.fn.board;
-      sides : sides_of (g.B.Board.grid l.board) ≡ sides_of (g.B.Board.grid l.fn.board);
+      fixed : fixed_part g.B.Board l.board ≡ fixed_part g.B.Board l.fn.board;
       motions : HasMotionsIn (g.B.Board.grid l.board) l.motions;
     }

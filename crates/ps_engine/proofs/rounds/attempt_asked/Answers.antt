@@ -20,32 +20,20 @@ returns-then-asks_for_others-clause-attempt g c =
     (commands_shown rule.commands.now) grid c.args.queue.now
     (combinations_on grid (rule_meaning table rule)) (c.asks_for_others.ensures c.if-asks_for_others.true)
 
-pub returns-then-asks_for_others-clause-table : goal.returns-then-asks_for_others-clause-table
-returns-then-asks_for_others-clause-table g c = refl
+pub returns-then-asks_for_others-clause-fixed : goal.returns-then-asks_for_others-clause-fixed
+returns-then-asks_for_others-clause-fixed g c = refl
 
-pub returns-then-asks_for_others-clause-origin : goal.returns-then-asks_for_others-clause-origin
-returns-then-asks_for_others-clause-origin g c = refl
-
-pub returns-then-asks_for_others-clause-sides : goal.returns-then-asks_for_others-clause-sides
-returns-then-asks_for_others-clause-sides g c = refl
-
-pub returns-then-asks_for_others-clause-rooms : goal.returns-then-asks_for_others-clause-rooms
-returns-then-asks_for_others-clause-rooms g c = refl
+pub returns-then-asks_for_others-clause-scratch : goal.returns-then-asks_for_others-clause-scratch
+returns-then-asks_for_others-clause-scratch g c = refl
 
 pub attempt-requires : goal.attempt-requires
-attempt-requires g c = c.requires.rooms
+attempt-requires g c = c.requires.scratch
 
 pub returns-clause-attempt : goal.returns-clause-attempt
 returns-clause-attempt g c = c.attempt.ensures.attempt
 
-pub returns-clause-table : goal.returns-clause-table
-returns-clause-table g c = c.attempt.ensures.table
+pub returns-clause-fixed : goal.returns-clause-fixed
+returns-clause-fixed g c = c.attempt.ensures.fixed
 
-pub returns-clause-origin : goal.returns-clause-origin
-returns-clause-origin g c = c.attempt.ensures.origin
-
-pub returns-clause-sides : goal.returns-clause-sides
-returns-clause-sides g c = c.attempt.ensures.sides
-
-pub returns-clause-rooms : goal.returns-clause-rooms
-returns-clause-rooms g c = c.attempt.ensures.rooms
+pub returns-clause-scratch : goal.returns-clause-scratch
+returns-clause-scratch g c = c.attempt.ensures.scratch

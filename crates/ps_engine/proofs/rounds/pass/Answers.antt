@@ -4,8 +4,9 @@ use Rattle.ps_model.specs.board.Attempts.{State, Result}
 use Rattle.ps_model.specs.board.Programs.{group}
 use Rattle.ps_program.specs.declared.rules.CompiledRule.{CompiledRule}
 use Rattle.ps_engine.specs.RulesInRoom.{rules_meaning}
-use Rattle.ps_engine.specs.Rooms.{HaveRooms}
+use Rattle.ps_engine.specs.Scratch.{HaveScratch}
 use Rattle.ps_engine.proofs.Sequences.{pass_end, pass_more}
+use Rattle.ps_match.specs.FixedParts.{same_layers}
 use Rattle.ps_engine.proofs.rounds.pass.Goals as goal
 
 pub loop-rules-preserved : goal.loop-rules-preserved
@@ -22,27 +23,25 @@ loop-rules-preserved g c =
     c.in_ok-more.ensures.group
     ∙ ap (λ (rules : List CompiledRule). group (rules_meaning (g.B.Board.table c.loop-rules.board) rules) now)
     c.as_slice.ensures
-    ∙ ap (λ (t : Option (List ℕ)). group (rules_meaning t c.rules-item.result) now) c.loop-rules.invariant.table in
+    ∙ ap (λ (t : Option (List ℕ)). group (rules_meaning t c.rules-item.result) now) (same_layers c.loop-rules.invariant.fixed) in
     record {
       pass = pass_more (rules_meaning table) c.args.groups.now c.loop-rules.rules-index c.rules-item.result
           c.loop-rules.changed c.in_ok-more.more now next c.loop-rules-test.true c.rules-item.is made
           ∙ c.loop-rules.invariant.pass;
-      table = c.play_group.ensures.table ∙ c.loop-rules.invariant.table;
-      origin = c.play_group.ensures.origin ∙ c.loop-rules.invariant.origin;
-      sides = c.play_group.ensures.sides ∙ c.loop-rules.invariant.sides;
+      fixed = c.play_group.ensures.fixed ∙ c.loop-rules.invariant.fixed;
       motions = c.play_group.ensures.motions;
     }
 
 pub loop-rules-init : goal.loop-rules-init
 loop-rules-init g c =
-    record { pass = refl; table = refl; origin = refl; sides = refl; motions = c.requires.motions }
+    record { pass = refl; fixed = refl; motions = c.requires.motions }
 
-pub play_group-requires-clause-rooms : goal.play_group-requires-clause-rooms
-play_group-requires-clause-rooms g c =
+pub play_group-requires-clause-scratch : goal.play_group-requires-clause-scratch
+play_group-requires-clause-scratch g c =
     let rules : List CompiledRule = c.rules-item.result in
-    subst (HaveRooms (length c.loop-rules.rooms)) (sym (c.as_slice.ensures ∙ c.rules-item.is))
-    (subst (λ (count : ℕ). HaveRooms count (get_or c.args.groups.now c.loop-rules.rules-index rules))
-    (sym c.loop-rules.auto.rooms) (c.requires.rooms c.loop-rules.rules-index rules c.loop-rules-test.true))
+    subst (HaveScratch (length c.loop-rules.scratch)) (sym (c.as_slice.ensures ∙ c.rules-item.is))
+    (subst (λ (count : ℕ). HaveScratch count (get_or c.args.groups.now c.loop-rules.rules-index rules))
+    (sym c.loop-rules.auto.scratch) (c.requires.scratch c.loop-rules.rules-index rules c.loop-rules-test.true))
 
 pub play_group-requires-clause-motions : goal.play_group-requires-clause-motions
 play_group-requires-clause-motions g c = c.loop-rules.invariant.motions
@@ -56,29 +55,17 @@ returns-clause-motions g c = c.loop-rules.invariant.motions
 pub returns-in_err-more-clause-pass : goal.returns-in_err-more-clause-pass
 returns-in_err-more-clause-pass g c = IfOk-from_err c.from_residual.result _ c.from_residual.ensures.0
 
-pub returns-in_err-more-clause-table : goal.returns-in_err-more-clause-table
-returns-in_err-more-clause-table g c = c.in_err-more.ensures.table ∙ c.loop-rules.invariant.table
+pub returns-in_err-more-clause-fixed : goal.returns-in_err-more-clause-fixed
+returns-in_err-more-clause-fixed g c = c.in_err-more.ensures.fixed ∙ c.loop-rules.invariant.fixed
 
-pub returns-in_err-more-clause-origin : goal.returns-in_err-more-clause-origin
-returns-in_err-more-clause-origin g c = c.in_err-more.ensures.origin ∙ c.loop-rules.invariant.origin
+pub returns-clause-fixed : goal.returns-clause-fixed
+returns-clause-fixed g c = c.loop-rules.invariant.fixed
 
-pub returns-clause-table : goal.returns-clause-table
-returns-clause-table g c = c.loop-rules.invariant.table
+pub returns-in_err-more-clause-scratch : goal.returns-in_err-more-clause-scratch
+returns-in_err-more-clause-scratch g c = c.in_err-more.ensures.scratch ∙ c.loop-rules.auto.scratch
 
-pub returns-clause-origin : goal.returns-clause-origin
-returns-clause-origin g c = c.loop-rules.invariant.origin
-
-pub returns-in_err-more-clause-sides : goal.returns-in_err-more-clause-sides
-returns-in_err-more-clause-sides g c = c.in_err-more.ensures.sides ∙ c.loop-rules.invariant.sides
-
-pub returns-clause-sides : goal.returns-clause-sides
-returns-clause-sides g c = c.loop-rules.invariant.sides
-
-pub returns-in_err-more-clause-rooms : goal.returns-in_err-more-clause-rooms
-returns-in_err-more-clause-rooms g c = c.in_err-more.ensures.rooms ∙ c.loop-rules.auto.rooms
-
-pub returns-clause-rooms : goal.returns-clause-rooms
-returns-clause-rooms g c = c.loop-rules.auto.rooms
+pub returns-clause-scratch : goal.returns-clause-scratch
+returns-clause-scratch g c = c.loop-rules.auto.scratch
 
 pub returns-clause-pass : goal.returns-clause-pass
 returns-clause-pass g c =

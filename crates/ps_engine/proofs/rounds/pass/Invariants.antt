@@ -1,9 +1,9 @@
 use Rattle.std.proofs.Common.{◌≡◌, drop, map}
-use Rattle.ps_match.specs.InRoom.{sides_of}
 use Rattle.ps_match.specs.Nowhere.{HasMotionsIn}
 use Rattle.ps_model.specs.board.Attempts.{State}
 use Rattle.ps_model.specs.board.Programs.{after_change, pass}
 use Rattle.ps_engine.specs.RulesInRoom.{rules_meaning, groups_meaning}
+use Rattle.ps_match.specs.FixedParts.{fixed_part}
 use Rattle.ps_engine.proofs.rounds.pass.Given as goal
 
 -- the groups passed by were played
@@ -15,8 +15,6 @@ invariant-loop-rules g l =
     record {
       pass : after_change l.changed (pass (map (rules_meaning table) (drop l.rules-index l.groups)) now) ≡ pass
           (groups_meaning table l.groups) before;
-      table : g.B.Board.table l.board ≡ table;
-      origin : g.B.Board.origin l.board ≡ g.B.Board.origin l.fn.board;
-      sides : sides_of (g.B.Board.grid l.board) ≡ sides_of (g.B.Board.grid l.fn.board);
+      fixed : fixed_part g.B.Board l.board ≡ fixed_part g.B.Board l.fn.board;
       motions : HasMotionsIn (g.B.Board.grid l.board) l.motions;
     }

@@ -10,6 +10,7 @@ use Rattle.ps_program.specs.declared.rules.CompiledRule.{CompiledRule}
 use Rattle.ps_engine.specs.RulesInRoom.{rule_meaning, rules_meaning}
 use Rattle.ps_engine.proofs.Sequences.{group_is, round_end, round_more, settled_off, settled_on}
 use Rattle.ps_engine.proofs.Unchanged.{made_kept}
+use Rattle.ps_match.specs.FixedParts.{same_layers}
 use Rattle.ps_engine.proofs.rounds.play_group.Goals as goal
 
 pub returns-then-attempt_asked-clause-group : goal.returns-then-attempt_asked-clause-group
@@ -23,12 +24,12 @@ returns-then-attempt_asked-clause-group g c =
     let now : State = record { grid = g.B.Board.grid c.loop-number.board; queue = c.loop-number.queue } in
     let next : State = record { grid = g.B.Board.grid c.attempt_asked.new.board; queue = c.attempt_asked.new.queue } in
     let same : g.B.Board.table c.attempt_asked.new.board ≡ table =
-    c.attempt_asked.ensures.table ∙ c.loop-number.invariant.table in
+    same_layers c.attempt_asked.ensures.fixed ∙ same_layers c.loop-number.invariant.fixed in
     let made : (let r : Result = record { state = next; changed = true } in r)
     ≡ attempt (rule_meaning table rule) now =
     ap (λ (b : Bool). let r : Result = record { state = next; changed = b } in r) (sym c.if-attempt_asked.true)
     ∙ c.attempt_asked.ensures.attempt
-    ∙ ap (λ (t : Option (List ℕ)). attempt (rule_meaning t rule) now) c.loop-number.invariant.table in
+    ∙ ap (λ (t : Option (List ℕ)). attempt (rule_meaning t rule) now) (same_layers c.loop-number.invariant.fixed) in
     let rest : State = (round (rules_meaning table (drop (at + 1) rules)) next).state in
     let first : (let r : Result = record { state = rest; changed = true } in r) ≡ round meant before =
     round_more (rule_meaning table) rules at rule false true now next c.loop-number-test.true c.index-rules-number.is
@@ -51,7 +52,7 @@ loop-number-preserved g c =
     let after : Result = record { state = next; changed = c.attempt_asked.result } in
     let made : after ≡ attempt (rule_meaning table rule) now =
     c.attempt_asked.ensures.attempt
-    ∙ ap (λ (t : Option (List ℕ)). attempt (rule_meaning t rule) now) was.table in
+    ∙ ap (λ (t : Option (List ℕ)). attempt (rule_meaning t rule) now) (same_layers was.fixed) in
     let off : (let r : Result = record { state = next; changed = false } in r)
     ≡ attempt (rule_meaning table rule) now =
     ap (λ (b : Bool). let r : Result = record { state = next; changed = b } in r) (sym c.if-attempt_asked.false)
@@ -59,10 +60,8 @@ loop-number-preserved g c =
     record {
       round = round_more (rule_meaning table) rules at rule false false now next c.loop-number-test.true
           c.index-rules-number.is off ∙ was.round;
-      table = c.attempt_asked.ensures.table ∙ was.table;
-      origin = c.attempt_asked.ensures.origin ∙ was.origin;
-      sides = c.attempt_asked.ensures.sides ∙ was.sides;
-      rooms = c.attempt_asked.ensures.rooms ∙ was.rooms;
+      fixed = c.attempt_asked.ensures.fixed ∙ was.fixed;
+      scratch = c.attempt_asked.ensures.scratch ∙ was.scratch;
       motions = subst (λ (grid : Grid). HasMotionsIn grid c.loop-number.motions)
           (sym (made_kept (rule_meaning table rule) now after made c.if-attempt_asked.false)) was.motions;
     }

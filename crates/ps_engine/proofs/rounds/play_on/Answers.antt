@@ -5,6 +5,7 @@ use Rattle.ps_model.specs.board.Attempts.{State, Result}
 use Rattle.ps_model.specs.board.Programs.{round, settled}
 use Rattle.ps_program.specs.declared.rules.CompiledRule.{CompiledRule}
 use Rattle.ps_engine.specs.RulesInRoom.{rules_meaning}
+use Rattle.ps_match.specs.FixedParts.{same_layers}
 use Rattle.ps_engine.proofs.rounds.play_on.Goals as goal
 
 pub returns-clause-settled : goal.returns-clause-settled
@@ -19,6 +20,6 @@ returns-clause-settled g c =
     let all : Result = record { state = last; changed = true } in
     subst (λ (r : Result). OnOk c.play_rounds.result (all ≡ r))
     (ap (λ (t : Option (List ℕ)). settled (rules_meaning t c.args.rules.now) (ROUND_LIMIT - 1) true next)
-    c.round.ensures.table
+    (same_layers c.round.ensures.fixed)
     ∙ ap (settled (rules_meaning table c.args.rules.now) (ROUND_LIMIT - 1) true) rest)
     c.play_rounds.ensures.settled

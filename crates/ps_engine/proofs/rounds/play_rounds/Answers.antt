@@ -3,9 +3,10 @@ use Rattle.ps_model.specs.board.Attempts.{State, Result}
 use Rattle.ps_model.specs.board.Programs.{round, settled}
 use Rattle.ps_model.specs.meaning.RuleMeanings.{RuleMeaning}
 use Rattle.ps_engine.specs.RulesInRoom.{rules_meaning}
-use Rattle.ps_engine.specs.Rooms.{HaveRooms}
+use Rattle.ps_engine.specs.Scratch.{HaveScratch}
 use Rattle.ps_engine.proofs.ComingBack.{IsStep, all_left, keeps_first, keeps_on, rest_is}
 use Rattle.ps_engine.proofs.Sequences.{settled_end, settled_on, settled_off}
+use Rattle.ps_match.specs.FixedParts.{same_layers}
 use Rattle.ps_engine.proofs.rounds.play_rounds.Goals as goal
 
 pub loop-left-init : goal.loop-left-init
@@ -13,16 +14,14 @@ loop-left-init g c =
     let now : State = record { grid = g.B.Board.grid c.args.board.now; queue = c.args.queue.now } in
     let meant : List RuleMeaning = rules_meaning (g.B.Board.table c.args.board.now) c.args.rules.now in
     let run : ℕ → State → Result = λ n state. settled meant n true state in
-    let watch = c.new-watch.result in
+    let finder = c.new-finder.result in
     record {
       settled = ap (λ (n : ℕ). run n now)
-          (all_left watch c.args.kept.now now.grid now.queue c.args.most c.in_ok-left.left c.new-watch.ensures
+          (all_left finder c.args.kept.now now.grid now.queue c.args.most c.in_ok-left.left c.new-finder.ensures
           c.in_ok-left.ensures.rest);
-      table = refl;
-      origin = refl;
-      sides = refl;
+      fixed = refl;
       motions = c.requires.motions;
-      keeps = keeps_first run watch c.step.new.self c.args.kept.now c.step.new.kept now c.new-watch.ensures
+      keeps = keeps_first run finder c.step.new.self c.args.kept.now c.step.new.kept now c.new-finder.ensures
           c.in_ok-left.ensures.goes;
     }
 
@@ -36,7 +35,7 @@ returns-then-not-round-clause-settled g c =
     let made : (let r : Result = record { state = next; changed = false } in r) ≡ round meant now =
     ap (λ (b : Bool). let r : Result = record { state = next; changed = b } in r) (sym off)
     ∙ c.round.ensures.round
-    ∙ ap (λ (t : Option (List ℕ)). round (rules_meaning t c.args.rules.now) now) c.loop-left.invariant.table in
+    ∙ ap (λ (t : Option (List ℕ)). round (rules_meaning t c.args.rules.now) now) (same_layers c.loop-left.invariant.fixed) in
     settled_off meant c.loop-left.left (c.loop-left.left - 1) true now next
     (omega (arith, c.loop-left-test.true)) made ∙ c.loop-left.invariant.settled
 
@@ -51,27 +50,25 @@ loop-left-preserved g c =
     let made : (let r : Result = record { state = next; changed = true } in r) ≡ round meant now =
     ap (λ (b : Bool). let r : Result = record { state = next; changed = b } in r) (sym on)
     ∙ c.round.ensures.round
-    ∙ ap (λ (t : Option (List ℕ)). round (rules_meaning t c.args.rules.now) now) c.loop-left.invariant.table in
+    ∙ ap (λ (t : Option (List ℕ)). round (rules_meaning t c.args.rules.now) now) (same_layers c.loop-left.invariant.fixed) in
     let step : IsStep run now next = λ n. sym (settled_on meant (suc n) n true now next (omega arith) made) in
-    let watch = c.loop-left.watch in
+    let finder = c.loop-left.finder in
     let kept = c.loop-left.kept in
     record {
-      settled = rest_is run watch kept now next (c.loop-left.left - 1) c.in_ok-left-2.left step
+      settled = rest_is run finder kept now next (c.loop-left.left - 1) c.in_ok-left-2.left step
           c.loop-left.invariant.keeps c.in_ok-left-2.ensures.rest
           ∙ settled_on meant c.loop-left.left (c.loop-left.left - 1) true now next
           (omega (arith, c.loop-left-test.true)) made
           ∙ c.loop-left.invariant.settled;
-      table = c.round.ensures.table ∙ c.loop-left.invariant.table;
-      origin = c.round.ensures.origin ∙ c.loop-left.invariant.origin;
-      sides = c.round.ensures.sides ∙ c.loop-left.invariant.sides;
+      fixed = c.round.ensures.fixed ∙ c.loop-left.invariant.fixed;
       motions = c.round.ensures.motions;
-      keeps = keeps_on run watch c.step-in-loop-left.new.self kept c.step-in-loop-left.new.kept now next step
+      keeps = keeps_on run finder c.step-in-loop-left.new.self kept c.step-in-loop-left.new.kept now next step
           c.loop-left.invariant.keeps c.in_ok-left-2.ensures.goes;
     }
 
-pub round-requires-clause-rooms : goal.round-requires-clause-rooms
-round-requires-clause-rooms g c =
-    subst (λ (count : ℕ). HaveRooms count c.args.rules.now) (sym c.loop-left.auto.rooms) c.requires.rooms
+pub round-requires-clause-scratch : goal.round-requires-clause-scratch
+round-requires-clause-scratch g c =
+    subst (λ (count : ℕ). HaveScratch count c.args.rules.now) (sym c.loop-left.auto.scratch) c.requires.scratch
 
 pub round-requires-clause-motions : goal.round-requires-clause-motions
 round-requires-clause-motions g c = c.loop-left.invariant.motions
@@ -82,29 +79,17 @@ returns-then-not-round-clause-motions g c = c.round.ensures.motions
 pub returns-clause-motions : goal.returns-clause-motions
 returns-clause-motions g c = c.loop-left.invariant.motions
 
-pub returns-then-not-round-clause-table : goal.returns-then-not-round-clause-table
-returns-then-not-round-clause-table g c = c.round.ensures.table ∙ c.loop-left.invariant.table
+pub returns-then-not-round-clause-fixed : goal.returns-then-not-round-clause-fixed
+returns-then-not-round-clause-fixed g c = c.round.ensures.fixed ∙ c.loop-left.invariant.fixed
 
-pub returns-then-not-round-clause-origin : goal.returns-then-not-round-clause-origin
-returns-then-not-round-clause-origin g c = c.round.ensures.origin ∙ c.loop-left.invariant.origin
+pub returns-then-not-round-clause-scratch : goal.returns-then-not-round-clause-scratch
+returns-then-not-round-clause-scratch g c = c.round.ensures.scratch ∙ c.loop-left.auto.scratch
 
-pub returns-then-not-round-clause-sides : goal.returns-then-not-round-clause-sides
-returns-then-not-round-clause-sides g c = c.round.ensures.sides ∙ c.loop-left.invariant.sides
+pub returns-clause-fixed : goal.returns-clause-fixed
+returns-clause-fixed g c = c.loop-left.invariant.fixed
 
-pub returns-then-not-round-clause-rooms : goal.returns-then-not-round-clause-rooms
-returns-then-not-round-clause-rooms g c = c.round.ensures.rooms ∙ c.loop-left.auto.rooms
-
-pub returns-clause-table : goal.returns-clause-table
-returns-clause-table g c = c.loop-left.invariant.table
-
-pub returns-clause-origin : goal.returns-clause-origin
-returns-clause-origin g c = c.loop-left.invariant.origin
-
-pub returns-clause-sides : goal.returns-clause-sides
-returns-clause-sides g c = c.loop-left.invariant.sides
-
-pub returns-clause-rooms : goal.returns-clause-rooms
-returns-clause-rooms g c = c.loop-left.auto.rooms
+pub returns-clause-scratch : goal.returns-clause-scratch
+returns-clause-scratch g c = c.loop-left.auto.scratch
 
 pub returns-clause-settled : goal.returns-clause-settled
 returns-clause-settled g c =

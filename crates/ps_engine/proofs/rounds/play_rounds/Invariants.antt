@@ -1,13 +1,13 @@
 use Rattle.std.proofs.Common.{◌≡◌, ℕ, true}
-use Rattle.ps_match.specs.InRoom.{sides_of}
 use Rattle.ps_match.specs.Nowhere.{HasMotionsIn}
 use Rattle.ps_model.specs.board.Attempts.{Result, State}
 use Rattle.ps_model.specs.board.Programs.{settled}
 use Rattle.ps_engine.specs.RulesInRoom.{rules_meaning}
 use Rattle.ps_engine.proofs.ComingBack.{Keeps}
+use Rattle.ps_match.specs.FixedParts.{fixed_part}
 use Rattle.ps_engine.proofs.rounds.play_rounds.Given as goal
 
--- the rounds that are left come to the same, and what the watch keeps has come here
+-- the rounds that are left come to the same, and what the finder keeps has come here
 abbrev pub invariant-loop-left : goal.invariant-loop-left
 invariant-loop-left g l =
     let before : State = record { grid = g.B.Board.grid l.fn.board; queue = l.fn.queue } in
@@ -17,11 +17,9 @@ invariant-loop-left g l =
     record {
       settled : settled (rules_meaning table l.rules) l.left true now
           ≡ settled (rules_meaning table l.rules) l.most true before;
-      table : g.B.Board.table l.board ≡ table;
-      origin : g.B.Board.origin l.board ≡ g.B.Board.origin l.fn.board;
-      sides : sides_of (g.B.Board.grid l.board) ≡ sides_of (g.B.Board.grid l.fn.board);
+      fixed : fixed_part g.B.Board l.board ≡ fixed_part g.B.Board l.fn.board;
       motions : HasMotionsIn (g.B.Board.grid l.board) l.motions;
-      keeps : Keeps run l.watch l.kept now;
+      keeps : Keeps run l.finder l.kept now;
     }
 
 -- the rounds that are left

@@ -11,6 +11,7 @@ use Rattle.ps_engine.specs.RulesInRoom.{rule_meaning}
 use Rattle.ps_engine.proofs.Idle.{rules_passed, short_of}
 use Rattle.ps_engine.proofs.Sequences.{round_end, round_more}
 use Rattle.ps_engine.proofs.Unchanged.{made_kept}
+use Rattle.ps_match.specs.FixedParts.{same_layers}
 use Rattle.ps_engine.proofs.rounds.round.Goals as goal
 use Rattle.ps_engine.proofs.rounds.round.Goals.{then-attempt, else-attempt}
 
@@ -26,9 +27,9 @@ loop-number-preserved g c =
     let after : Result = record { state = next; changed = more } in
     let made : after ≡ attempt (rule_meaning table rule) now =
     c.attempt.ensures.attempt
-    ∙ ap (λ (t : Option (List ℕ)). attempt (rule_meaning t rule) now) was.table in
+    ∙ ap (λ (t : Option (List ℕ)). attempt (rule_meaning t rule) now) (same_layers was.fixed) in
     let idle : AreIdleBetween now.grid table c.args.rules.now c.loop-number.number at =
-    subst (λ (t : Option (List ℕ)). AreIdleBetween now.grid t c.args.rules.now c.loop-number.number at) was.table
+    subst (λ (t : Option (List ℕ)). AreIdleBetween now.grid t c.args.rules.now c.loop-number.number at) (same_layers was.fixed)
     c.behind_lacking-next.ensures.idle in
     let changed : c.if-attempt.changed ≡ (c.loop-number.changed || more) =
     elim c.if-attempt.branch [
@@ -46,10 +47,8 @@ loop-number-preserved g c =
           ∙ rules_passed table c.args.rules.now c.loop-number.number at c.loop-number.changed now
           c.behind_lacking-next.ensures.from idle
           ∙ was.round;
-      table = c.attempt.ensures.table ∙ was.table;
-      origin = c.attempt.ensures.origin ∙ was.origin;
-      sides = c.attempt.ensures.sides ∙ was.sides;
-      rooms = c.attempt.ensures.rooms ∙ was.rooms;
+      fixed = c.attempt.ensures.fixed ∙ was.fixed;
+      scratch = c.attempt.ensures.scratch ∙ was.scratch;
       motions = elim c.if-attempt.branch [
         | then-attempt w ↦ subst (HasMotionsIn next.grid) (sym w.motions-is) w.motions_there.ensures
         | else-attempt w ↦ subst (HasMotionsIn next.grid) (sym w.motions-is)
@@ -65,24 +64,18 @@ returns-then-next-rules-clause-round g c =
     let at : ℕ = c.behind_lacking-next.result in
     let now : State = record { grid = g.B.Board.grid c.loop-number.board; queue = c.loop-number.queue } in
     let idle : AreIdleBetween now.grid table c.args.rules.now c.loop-number.number at =
-    subst (λ (t : Option (List ℕ)). AreIdleBetween now.grid t c.args.rules.now c.loop-number.number at) was.table
+    subst (λ (t : Option (List ℕ)). AreIdleBetween now.grid t c.args.rules.now c.loop-number.number at) (same_layers was.fixed)
     c.behind_lacking-next.ensures.idle in
     round_end (rule_meaning table) c.args.rules.now at c.loop-number.changed now (omega (arith, c.if-next-rules.true))
     ∙ rules_passed table c.args.rules.now c.loop-number.number at c.loop-number.changed now
     c.behind_lacking-next.ensures.from idle
     ∙ was.round
 
-pub returns-then-next-rules-clause-table : goal.returns-then-next-rules-clause-table
-returns-then-next-rules-clause-table g c = c.loop-number.invariant.table
+pub returns-then-next-rules-clause-fixed : goal.returns-then-next-rules-clause-fixed
+returns-then-next-rules-clause-fixed g c = c.loop-number.invariant.fixed
 
-pub returns-then-next-rules-clause-origin : goal.returns-then-next-rules-clause-origin
-returns-then-next-rules-clause-origin g c = c.loop-number.invariant.origin
-
-pub returns-then-next-rules-clause-sides : goal.returns-then-next-rules-clause-sides
-returns-then-next-rules-clause-sides g c = c.loop-number.invariant.sides
-
-pub returns-then-next-rules-clause-rooms : goal.returns-then-next-rules-clause-rooms
-returns-then-next-rules-clause-rooms g c = c.loop-number.invariant.rooms
+pub returns-then-next-rules-clause-scratch : goal.returns-then-next-rules-clause-scratch
+returns-then-next-rules-clause-scratch g c = c.loop-number.invariant.scratch
 
 pub returns-clause-round : goal.returns-clause-round
 returns-clause-round g c =
@@ -92,36 +85,28 @@ returns-clause-round g c =
     (omega (arith, c.loop-number-test.false))
     ∙ c.loop-number.invariant.round
 
-pub returns-clause-table : goal.returns-clause-table
-returns-clause-table g c = c.loop-number.invariant.table
-
-pub returns-clause-origin : goal.returns-clause-origin
-returns-clause-origin g c = c.loop-number.invariant.origin
-
-pub returns-clause-sides : goal.returns-clause-sides
-returns-clause-sides g c = c.loop-number.invariant.sides
+pub returns-clause-fixed : goal.returns-clause-fixed
+returns-clause-fixed g c = c.loop-number.invariant.fixed
 
 pub loop-number-init : goal.loop-number-init
 loop-number-init g c = record {
   round = refl;
-  table = refl;
-  origin = refl;
-  sides = refl;
-  rooms = refl;
+  fixed = refl;
+  scratch = refl;
   motions = c.requires.motions;
 }
 
 pub attempt-requires : goal.attempt-requires
 attempt-requires g c =
     let rule : CompiledRule = c.index-rules-next.result in
-    subst (λ (count : ℕ). length rule.rows ≤ count) (sym c.loop-number.invariant.rooms)
-    (subst (λ (each : CompiledRule). length each.rows ≤ length c.args.rooms.now) (sym c.index-rules-next.is)
-    (c.requires.rooms c.behind_lacking-next.result rule
+    subst (λ (count : ℕ). length rule.rows ≤ count) (sym c.loop-number.invariant.scratch)
+    (subst (λ (each : CompiledRule). length each.rows ≤ length c.args.scratch.now) (sym c.index-rules-next.is)
+    (c.requires.scratch c.behind_lacking-next.result rule
     (short_of c.behind_lacking-next.result (length c.args.rules.now) c.behind_lacking-next.ensures.within
     c.if-next-rules.false)))
 
-pub returns-clause-rooms : goal.returns-clause-rooms
-returns-clause-rooms g c = c.loop-number.invariant.rooms
+pub returns-clause-scratch : goal.returns-clause-scratch
+returns-clause-scratch g c = c.loop-number.invariant.scratch
 
 pub behind_lacking-next-requires-clause-motions : goal.behind_lacking-next-requires-clause-motions
 behind_lacking-next-requires-clause-motions g c = c.loop-number.invariant.motions

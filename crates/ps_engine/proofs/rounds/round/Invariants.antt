@@ -1,9 +1,9 @@
 use Rattle.std.proofs.Common.{◌≡◌, ◌-◌, drop, length, map}
-use Rattle.ps_match.specs.InRoom.{sides_of}
 use Rattle.ps_match.specs.Nowhere.{HasMotionsIn}
 use Rattle.ps_model.specs.board.Attempts.{State}
 use Rattle.ps_model.specs.board.Programs.{after_change, round}
 use Rattle.ps_engine.specs.RulesInRoom.{rule_meaning, rules_meaning}
+use Rattle.ps_match.specs.FixedParts.{fixed_part}
 use Rattle.ps_engine.proofs.rounds.round.Given as goal
 
 -- the rules passed by were attempted
@@ -15,10 +15,8 @@ invariant-loop-number g l =
     record {
       round : after_change l.changed (round (map (rule_meaning table) (drop l.number l.rules)) now) ≡ round
           (rules_meaning table l.rules) before;
-      table : g.B.Board.table l.board ≡ table;
-      origin : g.B.Board.origin l.board ≡ g.B.Board.origin l.fn.board;
-      sides : sides_of (g.B.Board.grid l.board) ≡ sides_of (g.B.Board.grid l.fn.board);
-      rooms : length l.rooms ≡ length l.fn.rooms;
+      fixed : fixed_part g.B.Board l.board ≡ fixed_part g.B.Board l.fn.board;
+      scratch : length l.scratch ≡ length l.fn.scratch;
       motions : HasMotionsIn (g.B.Board.grid l.board) l.motions;
     }
 

@@ -1,5 +1,5 @@
 use Rattle.ps_engine.specs.TopicsAsked.{HasRows}
-use Rattle.ps_engine.proofs.RoomsFor.{AllBefore}
+use Rattle.ps_engine.proofs.EnoughScratch.{AllBefore}
 use Rattle.ps_engine.proofs.topics_asked.topics_of_rules.Given as goal
 
 -- the topics of what was passed by

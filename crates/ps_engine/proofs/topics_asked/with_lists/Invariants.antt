@@ -1,7 +1,7 @@
 use Rattle.std.specs.Prelude.{All}
 use Rattle.ps_match.specs.Topics.{HasTopicsOf}
 use Rattle.ps_engine.specs.TopicsAsked.{HasObject}
-use Rattle.ps_engine.proofs.RoomsFor.{AllBefore}
+use Rattle.ps_engine.proofs.EnoughScratch.{AllBefore}
 use Rattle.ps_engine.proofs.topics_asked.with_lists.Given as goal
 
 -- the topics of what was passed by

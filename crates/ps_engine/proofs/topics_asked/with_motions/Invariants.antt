@@ -1,6 +1,6 @@
 use Rattle.ps_match.specs.Topics.{HasTopicsOf}
 use Rattle.ps_engine.specs.TopicsAsked.{HasMotion}
-use Rattle.ps_engine.proofs.RoomsFor.{AllBefore}
+use Rattle.ps_engine.proofs.EnoughScratch.{AllBefore}
 use Rattle.ps_engine.proofs.topics_asked.with_motions.Given as goal
 
 -- the topics of what was passed by

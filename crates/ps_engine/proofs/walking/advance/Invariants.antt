@@ -9,9 +9,9 @@ use Rattle.ps_engine.proofs.walking.advance.Given as goal
 abbrev pub invariant-loop-number : goal.invariant-loop-number
 invariant-loop-number g l =
     let fits = all_fit (g.B.Board.grid l.board) (rows_meaning (g.B.Board.table l.board) l.rows) in
-    let choices = choices_of (g.B.Board.grid l.board).height l.rows l.fn.rooms in
+    let choices = choices_of (g.B.Board.grid l.board).height l.rows l.fn.scratch in
     record {
       passed : from_first fits (behind_from l.first choices) ≡ from_first fits (behind_from l.number choices);
-      same : HaveStartsOf l.fn.rooms l.rooms;
-      left : AreLeft l.fn.rooms l.rooms l.number;
+      same : HaveStartsOf l.fn.scratch l.scratch;
+      left : AreLeft l.fn.scratch l.scratch l.number;
     }

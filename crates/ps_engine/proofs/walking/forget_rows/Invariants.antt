@@ -4,6 +4,6 @@ use Rattle.ps_engine.proofs.walking.forget_rows.Given as goal
 -- places of the rows passed by are forgotten
 abbrev pub invariant-loop-number : goal.invariant-loop-number
 invariant-loop-number g l = record {
-  forgotten : AreForgotten l.rows l.fn.rooms l.rooms;
-  left : AreLeft l.fn.rooms l.rooms l.number;
+  forgotten : AreForgotten l.rows l.fn.scratch l.scratch;
+  left : AreLeft l.fn.scratch l.scratch l.number;
 }

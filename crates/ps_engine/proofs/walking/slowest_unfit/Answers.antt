@@ -9,10 +9,10 @@ returns-then-not-fits-clause-passed g c =
     let low : n < length c.args.rows.now = omega (arith, c.loop-number-test.true, c.loop-number.invariant.low) in
     let no : c.fits.result ≡ false = c.if-not-fits.true in
     unfit_passed (g.B.Board.grid c.args.board.now) (g.B.Board.table c.args.board.now) n c.args.rows.now
-    c.args.rooms.now c.index-rows-number.result c.index-rooms-number.result
+    c.args.scratch.now c.index-rows-number.result c.index-scratch-number.result
     (slice_get_read c.args.rows.now _ n c.index-rows-number.result refl low c.index-rows-number.is)
-    (slice_get_read c.args.rooms.now _ n c.index-rooms-number.result refl (omega (arith, low, c.requires))
-    c.index-rooms-number.is)
+    (slice_get_read c.args.scratch.now _ n c.index-scratch-number.result refl (omega (arith, low, c.requires))
+    c.index-scratch-number.is)
     (sym c.fits.ensures ∙ no)
 
 pub loop-number-preserved : goal.loop-number-preserved
@@ -24,26 +24,26 @@ loop-number-preserved g c =
       low = omega (arith, low);
       slower =
           fit_more (g.B.Board.grid c.args.board.now) (g.B.Board.table c.args.board.now) n c.loop-number.number
-          c.args.rows.now c.args.rooms.now c.index-rows-number.result c.index-rooms-number.result
+          c.args.rows.now c.args.scratch.now c.index-rows-number.result c.index-scratch-number.result
           (slice_get_read c.args.rows.now _ n c.index-rows-number.result refl low c.index-rows-number.is)
-          (slice_get_read c.args.rooms.now _ n c.index-rooms-number.result refl (omega (arith, low, c.requires))
-          c.index-rooms-number.is)
+          (slice_get_read c.args.scratch.now _ n c.index-scratch-number.result refl (omega (arith, low, c.requires))
+          c.index-scratch-number.is)
           (sym c.fits.ensures ∙ yes) (omega (arith, c.loop-number-test.true)) c.loop-number.invariant.slower;
     }
 
 pub returns-clause-slower : goal.returns-clause-slower
-returns-clause-slower g c = λ k row room low is there.
-    c.loop-number.invariant.slower k row room (omega (arith, low, c.loop-number-test.false)) is there
+returns-clause-slower g c = λ k row row_scratch low is there.
+    c.loop-number.invariant.slower k row row_scratch (omega (arith, low, c.loop-number-test.false)) is there
 
 pub loop-number-init : goal.loop-number-init
 loop-number-init g c = record {
   low = omega arith;
-  slower = λ k row room far is there. absurd (omega (arith, far, slice_get_within c.args.rows.now k row is));
+  slower = λ k row row_scratch far is there. absurd (omega (arith, far, slice_get_within c.args.rows.now k row is));
 }
 
 pub returns-then-not-fits-clause-slower : goal.returns-then-not-fits-clause-slower
-returns-then-not-fits-clause-slower g c = λ k row room low is there.
-    c.loop-number.invariant.slower k row room (omega (arith, low, c.loop-number-test.true)) is there
+returns-then-not-fits-clause-slower g c = λ k row row_scratch low is there.
+    c.loop-number.invariant.slower k row row_scratch (omega (arith, low, c.loop-number-test.true)) is there
 
 pub returns-clause-passed : goal.returns-clause-passed
 returns-clause-passed g c = refl

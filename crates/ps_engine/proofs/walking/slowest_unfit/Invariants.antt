@@ -6,7 +6,7 @@ use Rattle.ps_engine.proofs.walking.slowest_unfit.Given as goal
 abbrev pub invariant-loop-number : goal.invariant-loop-number
 invariant-loop-number g l = record {
   low : l.number ≤ length l.rows;
-  slower : FitFrom (g.B.Board.grid l.board) (g.B.Board.table l.board) l.rows l.rooms l.number;
+  slower : FitFrom (g.B.Board.grid l.board) (g.B.Board.table l.board) l.rows l.scratch l.number;
 }
 
 -- the rows that are left

@@ -6,11 +6,12 @@ use Rattle.ps_model.specs.meaning.Compiled.{cell_written}
 use Rattle.ps_program.specs.CellsShown.{write_shown}
 use Rattle.ps_board.proofs.ColumnLaws.{first_in}
 use Rattle.ps_board.specs.ColumnSets.{set_columns}
-use Rattle.ps_match.specs.InRoom.{sides_of, write_in_room}
+use Rattle.ps_match.specs.InRoom.{write_in_room}
 use Rattle.ps_match.specs.Together.{rewritten_where}
-use Rattle.ps_match.proofs.RowWritten.{height-where, sides-where, told}
+use Rattle.ps_match.proofs.RowWritten.{height-where, told}
 use Rattle.ps_engine.specs.Writing.{is_behind}
 use Rattle.ps_engine.proofs.WrittenBehind.{all-of, all_rows_behind, fewer-of, no_row_behind, one_row_behind, passed_by}
+use Rattle.ps_match.specs.FixedParts.{same_layers, same_origin}
 use Rattle.ps_engine.proofs.writing.write_targets.Goals as goal
 
 pub loop-row-init : goal.loop-row-init
@@ -20,10 +21,9 @@ loop-row-init g c =
     (write_shown c.args.write.now)) in
     record {
       among = all-of c.args.rows;
-      rewritten = no_row_behind start becomes c.args.axis c.args.steps c.args.rows c.args.room.now.starts.items
+      rewritten = no_row_behind start becomes c.args.axis c.args.steps c.args.rows c.args.row_scratch.now.starts.items
           c.recall_shape.ensures.shape;
-      table = refl;
-      origin = refl;
+      fixed = refl;
     }
 
 pub write_behind-changed-requires : goal.write_behind-changed-requires
@@ -34,7 +34,7 @@ write_behind-changed-requires g c =
     let high : (g.B.Board.grid c.loop-row.board).height ≡ start.height =
     ap (λ (r : Rewritten). r.grid.height) c.loop-row.invariant.rewritten
     ∙ height-where start becomes (passed_by c.args.axis start.height c.args.steps c.args.rows
-    c.args.room.now.starts.items c.loop-row.left) in
+    c.args.row_scratch.now.starts.items c.loop-row.left) in
     let first = first_in c.loop-row.left c.in-Some.row (set_columns c.take_first.new.self) c.in-Some.ensures.some in
     rw high ((c.requires).at c.in-Some.row ((c.loop-row.invariant.among).at c.in-Some.row first.1 first.0))
 
@@ -45,7 +45,7 @@ loop-row-preserved g c =
     let next : Grid = g.B.Board.grid c.write_behind-changed.new.board in
     let table : Option (List ℕ) = g.B.Board.table c.args.board.now in
     let becomes : List Slot → List Slot = cell_written (write_in_room table (write_shown c.args.write.now)) in
-    let starts : List (List Bool) = c.args.room.now.starts.items in
+    let starts : List (List Bool) = c.args.row_scratch.now.starts.items in
     let any : Bool = c.loop-row.changed in
     let high : now.height ≡ start.height =
     ap (λ (r : Rewritten). r.grid.height) c.loop-row.invariant.rewritten
@@ -54,7 +54,7 @@ loop-row-preserved g c =
     rewritten_where now (cell_written (write_in_room t (write_shown c.args.write.now)))
     (is_behind c.args.axis now.height c.args.steps c.in-Some.row c.targets_on-columns.result) in
     let made : told next c.write_behind-changed.result ≡ by table = c.write_behind-changed.ensures.rewritten
-    ∙ ap by c.loop-row.invariant.table in
+    ∙ ap by (same_layers c.loop-row.invariant.fixed) in
     record {
       among = fewer-of c.args.rows c.loop-row.left c.take_first.new.self c.in-Some.row c.in-Some.ensures.some
           c.loop-row.invariant.among;
@@ -66,8 +66,7 @@ loop-row-preserved g c =
           c.in-Some.ensures.some c.loop-row.invariant.among c.targets_on-columns.ensures (ap (λ
           (r : Rewritten). r.grid) made)
           (ap (λ (r : Rewritten). any || r.changed) made);
-      table = c.write_behind-changed.ensures.table ∙ c.loop-row.invariant.table;
-      origin = c.write_behind-changed.ensures.origin ∙ c.loop-row.invariant.origin;
+      fixed = c.write_behind-changed.ensures.fixed ∙ c.loop-row.invariant.fixed;
     }
 
 pub returns-clause-rewritten : goal.returns-clause-rewritten
@@ -75,15 +74,6 @@ returns-clause-rewritten g c =
     let start : Grid = g.B.Board.grid c.args.board.now in
     let becomes : List Slot → List Slot = cell_written (write_in_room (g.B.Board.table c.args.board.now)
     (write_shown c.args.write.now)) in
-    all_rows_behind start becomes c.args.axis c.args.steps c.args.rows c.loop-row.left c.args.room.now.starts.items
+    all_rows_behind start becomes c.args.axis c.args.steps c.args.rows c.loop-row.left c.args.row_scratch.now.starts.items
     (told (g.B.Board.grid c.loop-row.board) c.loop-row.changed) c.recall_shape.ensures.shape
     (c.in_default.ensures.none refl) c.loop-row.invariant.rewritten
-
-pub returns-clause-sides : goal.returns-clause-sides
-returns-clause-sides g c =
-    let start : Grid = g.B.Board.grid c.args.board.now in
-    let becomes : List Slot → List Slot = cell_written (write_in_room (g.B.Board.table c.args.board.now)
-    (write_shown c.args.write.now)) in
-    ap (λ (r : Rewritten). sides_of r.grid) c.loop-row.invariant.rewritten
-    ∙ sides-where start becomes (passed_by c.args.axis start.height c.args.steps c.args.rows
-    c.args.room.now.starts.items c.loop-row.left)

@@ -6,6 +6,7 @@ use Rattle.ps_match.specs.InRoom.{write_in_room}
 use Rattle.ps_match.specs.Together.{rewritten_where}
 use Rattle.ps_match.proofs.RowWritten.{told}
 use Rattle.ps_engine.proofs.WrittenBehind.{AreOf, passed_by}
+use Rattle.ps_match.specs.FixedParts.{fixed_part}
 use Rattle.ps_engine.proofs.writing.write_targets.Given as goal
 
 -- the cells that are written from rows that aren't left
@@ -17,9 +18,8 @@ invariant-loop-row g l =
       among : AreOf l.fn.rows l.left;
       rewritten :
           told (g.B.Board.grid l.board) l.changed
-          ≡ rewritten_where start becomes (passed_by l.axis start.height l.steps l.fn.rows l.room.starts.items l.left);
-      table : g.B.Board.table l.board ≡ g.B.Board.table l.fn.board;
-      origin : g.B.Board.origin l.board ≡ g.B.Board.origin l.fn.board;
+          ≡ rewritten_where start becomes (passed_by l.axis start.height l.steps l.fn.rows l.row_scratch.starts.items l.left);
+      fixed : fixed_part g.B.Board l.board ≡ fixed_part g.B.Board l.fn.board;
     }
 
 abbrev pub decreases-loop-row : goal.decreases-loop-row

@@ -7,6 +7,7 @@ use Rattle.ps_model.specs.meaning.Compiled.{cell_written}
 use Rattle.ps_program.specs.ProgramShown.{write_shown}
 use Rattle.ps_board.proofs.PassedColumns.{cell_below}
 use Rattle.ps_match.specs.InRoom.{sides_of, write_in_room}
+use Rattle.ps_match.specs.FixedParts.{fixed_by}
 use Rattle.ps_match.specs.Together.{rewritten_where}
 use Rattle.ps_match.proofs.RowWritten.{all_columns, no_column_yet, one_column_more, height-where, passed, sides-where}
 use Rattle.ps_match.proofs.RowWritten.{told, width-where}
@@ -80,10 +81,11 @@ returns-clause-rewritten g c =
     (told (g.B.Board.grid c.loop-column.board) c.loop-column.changed) c.requires c.size-width.ensures.shape.cells
     all c.loop-column.invariant.rewritten
 
-pub returns-clause-sides : goal.returns-clause-sides
-returns-clause-sides g c =
+pub returns-clause-fixed : goal.returns-clause-fixed
+returns-clause-fixed g c =
     let start : Grid = g.B.Board.grid c.args.board.now in
     let becomes : List Slot → List Slot = cell_written
     (write_in_room (g.B.Board.table c.args.board.now) (write_shown c.args.write.now)) in
-    ap (λ (r : Rewritten). sides_of r.grid) c.loop-column.invariant.rewritten
-    ∙ sides-where start becomes (passed start.height c.args.row c.args.columns c.loop-column.column)
+    fixed_by c.loop-column.invariant.table c.loop-column.invariant.origin
+    (ap (λ (r : Rewritten). sides_of r.grid) c.loop-column.invariant.rewritten
+    ∙ sides-where start becomes (passed start.height c.args.row c.args.columns c.loop-column.column))

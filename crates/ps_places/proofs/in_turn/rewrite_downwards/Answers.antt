@@ -12,6 +12,7 @@ use Rattle.ps_places.specs.Lines.{part_meaning}
 use Rattle.ps_places.proofs.ChangedBefore.{or_before, row_before}
 use Rattle.ps_places.proofs.DownTurns.{all_in_turn, next_row, rows_in_turn}
 use Rattle.ps_places.proofs.RowsTogether.{room_on_row}
+use Rattle.ps_match.specs.FixedParts.{same_layers, same_sides}
 use Rattle.ps_places.proofs.in_turn.rewrite_downwards.Goals as goal
 
 pub rewrite_fitting-changed-requires-clause-room : goal.rewrite_fitting-changed-requires-clause-room
@@ -20,7 +21,7 @@ rewrite_fitting-changed-requires-clause-room g c =
     let last : length c.args.part.now - 1 < length c.args.part.now = omega (arith, c.requires.whole) in
     let room = room_on_row (g.B.Board.grid c.args.board.now) (g.B.Board.grid c.loop-row.board)
     (g.B.Board.table c.args.board.now) Down c.args.part.now c.args.rows c.args.starts.now
-    c.requires.starts c.loop-row.invariant.sides c.in-Some.row (length c.args.part.now - 1)
+    c.requires.starts (same_sides c.loop-row.invariant.fixed) c.in-Some.row (length c.args.part.now - 1)
     (c.loop-row.invariant.among c.in-Some.row first.1 first.0) last in
     omega (arith, room, c.requires.whole)
 
@@ -33,8 +34,8 @@ loop-row-preserved g c =
     let row : ℕ = c.in-Some.row in
     let columns : List Bool = c.index-starts-row.result in
     let first = first_in c.loop-row.left row _ c.in-Some.ensures.some in
-    let width : now.width ≡ start.width = ap (λ (s : ℕ × ℕ × ℕ). s.0) c.loop-row.invariant.sides in
-    let height : now.height ≡ start.height = ap (λ (s : ℕ × ℕ × ℕ). s.1) c.loop-row.invariant.sides in
+    let width : now.width ≡ start.width = ap (λ (s : ℕ × ℕ × ℕ). s.0) (same_sides c.loop-row.invariant.fixed) in
+    let height : now.height ≡ start.height = ap (λ (s : ℕ × ℕ × ℕ). s.1) (same_sides c.loop-row.invariant.fixed) in
     record {
       among = λ r low on.
           c.loop-row.invariant.among r low
@@ -46,14 +47,12 @@ loop-row-preserved g c =
           ∙ ap₂ (λ (w h : ℕ). row_in_turn w h (part_meaning (g.B.Board.table c.loop-row.board) c.args.part.now) row
           columns (told now false)) width height
           ∙ ap₂ (λ (t : Option (List ℕ)) (cs : List Bool). row_in_turn start.width start.height
-          (part_meaning t c.args.part.now) row cs (told now false)) c.loop-row.invariant.table
+          (part_meaning t c.args.part.now) row cs (told now false)) (same_layers c.loop-row.invariant.fixed)
           (c.index-starts-row.is ∙ get_or_default c.args.starts.now row columns []
           (omega (arith, first.1, c.requires.long))))
           ∙ sym (row_before c.loop-row.changed now start.width start.height all row _))
           ∙ c.loop-row.invariant.rewritten;
-      table = c.rewrite_fitting-changed.ensures.table ∙ c.loop-row.invariant.table;
-      origin = c.rewrite_fitting-changed.ensures.origin ∙ c.loop-row.invariant.origin;
-      sides = c.rewrite_fitting-changed.ensures.sides ∙ c.loop-row.invariant.sides;
+      fixed = c.rewrite_fitting-changed.ensures.fixed ∙ c.loop-row.invariant.fixed;
     }
 
 pub returns-clause-rewritten : goal.returns-clause-rewritten

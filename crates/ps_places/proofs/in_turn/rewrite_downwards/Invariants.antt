@@ -1,10 +1,10 @@
 use Rattle.std.proofs.Common.{◌≡◌, ◌<◌, false, length, true, ℕ}
 use Rattle.ps_model.specs.declared.limits.TheConstants.{SIDE_LIMIT}
 use Rattle.ps_board.specs.ColumnSets.{column_at, set_columns}
-use Rattle.ps_match.specs.InRoom.{sides_of}
 use Rattle.ps_match.proofs.RowWritten.{told}
 use Rattle.ps_places.specs.Lines.{part_meaning}
 use Rattle.ps_places.proofs.DownTurns.{rows_in_turn}
+use Rattle.ps_match.specs.FixedParts.{fixed_part}
 use Rattle.ps_places.proofs.in_turn.rewrite_downwards.Given as goal
 
 -- with the rows that are left the board comes to what it comes to with all from the start
@@ -18,9 +18,7 @@ invariant-loop-row g l =
       rewritten : rows_in_turn start.width start.height all l.starts (told (g.B.Board.grid l.board) l.changed)
           (set_columns l.left)
           ≡ rows_in_turn start.width start.height all l.starts (told start false) (set_columns l.fn.rows);
-      table : g.B.Board.table l.board ≡ table;
-      origin : g.B.Board.origin l.board ≡ g.B.Board.origin l.fn.board;
-      sides : sides_of (g.B.Board.grid l.board) ≡ sides_of start;
+      fixed : fixed_part g.B.Board l.board ≡ fixed_part g.B.Board l.fn.board;
     }
 
 abbrev pub decreases-loop-row : goal.decreases-loop-row

@@ -8,6 +8,7 @@ use Rattle.ps_places.specs.Lines.{cell_meaning, part_meaning, step_along}
 use Rattle.ps_places.proofs.CellsInTurn.{few_cells, fits_from, fits_from-parts, rewritten_from, rewritten_from-next}
 use Rattle.ps_places.proofs.CellsInTurn.{rewritten_past, same_length}
 use Rattle.ps_places.proofs.Untouched.{left-fits, step-some}
+use Rattle.ps_match.specs.FixedParts.{same_layers}
 use Rattle.ps_places.proofs.parts.rewrite_fitting_part.Goals as goal
 
 pub returns-then-number-ge-CELL_LIMIT-clause-rewritten : goal.returns-then-number-ge-CELL_LIMIT-clause-rewritten
@@ -29,7 +30,7 @@ write_fitting-any-requires g c =
     let both = fits_from-parts now table c.args.part.now step c.loop-cell.cell-index c.loop-cell.number
     c.cell-item.result c.loop-cell-test.true c.cell-item.is c.loop-cell.invariant.fit in
     ap (λ (t : Option (List ℕ)). fits_there (cell_meaning t c.cell-item.result)
-    (slice_get now.cells c.loop-cell.number)) c.loop-cell.invariant.table ∙ both.0
+    (slice_get now.cells c.loop-cell.number)) (same_layers c.loop-cell.invariant.fixed) ∙ both.0
 
 pub loop-cell-preserved : goal.loop-cell-preserved
 loop-cell-preserved g c =
@@ -48,7 +49,7 @@ loop-cell-preserved g c =
     let found = slice_get (before.grid).cells number in
     let wrote : after ≡ rewritten_cell before meaning number found =
     c.write_fitting-any.ensures.rewritten ∙ ap (λ (t : Option (List ℕ)).
-    rewritten_cell before (cell_meaning t c.cell-item.result) number found) c.loop-cell.invariant.table in
+    rewritten_cell before (cell_meaning t c.cell-item.result) number found) (same_layers c.loop-cell.invariant.fixed) in
     let step : c.step_along-step.result ≡ along = c.step_along-step.ensures.value
     ∙ ap (step_along c.args.axis) c.size-width.ensures.height in
     let some : 0 < along = step-some c.args.axis grid.height c.size-width.ensures.shape.some_row in
@@ -66,11 +67,9 @@ loop-cell-preserved g c =
           step
           ∙ left-fits before meaning table c.args.part.now along (index + 1) number found some
           ∙ both.1;
-      table = c.write_fitting-any.ensures.table ∙ c.loop-cell.invariant.table;
-      origin = c.write_fitting-any.ensures.origin ∙ c.loop-cell.invariant.origin;
+      fixed = c.write_fitting-any.ensures.fixed ∙ c.loop-cell.invariant.fixed;
       cells =
           ap (λ (r : Rewritten). length (r.grid).cells) wrote
           ∙ same_length before meaning number found
           ∙ c.loop-cell.invariant.cells;
-      sides = c.write_fitting-any.ensures.sides ∙ c.loop-cell.invariant.sides;
     }

@@ -1,8 +1,8 @@
 use Rattle.std.proofs.Common.{◌≡◌, true, length}
 use Rattle.ps_model.specs.board.Attempts.{Rewritten, rewritten_along}
-use Rattle.ps_match.specs.InRoom.{sides_of}
 use Rattle.ps_places.specs.Lines.{line_cells, part_meaning, step_along}
 use Rattle.ps_places.proofs.CellsInTurn.{fits_from, rewritten_from}
+use Rattle.ps_match.specs.FixedParts.{fixed_part}
 use Rattle.ps_places.proofs.parts.rewrite_fitting_part.Given as goal
 
 -- the cells passed by are rewritten, and the others still fit
@@ -18,8 +18,6 @@ invariant-loop-cell g l =
           (line_cells l.fn.axis height l.line l.position (length l.part))
           ≡ rewritten_from now table l.part (step_along l.fn.axis height) l.cell-index l.number;
       fit : fits_from (g.B.Board.grid l.board) table l.part (step_along l.fn.axis height) l.cell-index l.number ≡ true;
-      table : g.B.Board.table l.board ≡ table;
-      origin : g.B.Board.origin l.board ≡ g.B.Board.origin l.fn.board;
+      fixed : fixed_part g.B.Board l.board ≡ fixed_part g.B.Board l.fn.board;
       cells : length (g.B.Board.grid l.board).cells ≡ length (g.B.Board.grid l.fn.board).cells;
-      sides : sides_of (g.B.Board.grid l.board) ≡ sides_of (g.B.Board.grid l.fn.board);
     }

@@ -7,6 +7,7 @@ use Rattle.ps_program.specs.ProgramShown.{write_shown}
 use Rattle.ps_match.specs.InRoom.{meaning_of_write, write_in_room}
 use Rattle.ps_places.specs.Lines.{part_meaning, step_along}
 use Rattle.ps_places.proofs.CellsInTurn.{few_cells, rewritten_from, rewritten_from-on, rewritten_past, same_length}
+use Rattle.ps_match.specs.FixedParts.{same_layers}
 use Rattle.ps_places.proofs.parts.rewrite_part.Goals as goal
 
 pub returns-then-number-ge-CELL_LIMIT : goal.returns-then-number-ge-CELL_LIMIT
@@ -20,9 +21,7 @@ returns-then-number-ge-CELL_LIMIT g c =
           ∙ rewritten_past now (part_meaning table (drop c.loop-cell.cell-index c.args.part.now))
           (step_along c.args.axis grid.height) c.loop-cell.number (length c.args.part.now - c.loop-cell.cell-index)
           (omega (arith, few, c.loop-cell.invariant.cells, c.if-number-ge-CELL_LIMIT.true)));
-      table = c.loop-cell.invariant.table;
-      origin = c.loop-cell.invariant.origin;
-      sides = c.loop-cell.invariant.sides;
+      fixed = c.loop-cell.invariant.fixed;
     }
 
 pub loop-cell-preserved : goal.loop-cell-preserved
@@ -37,7 +36,7 @@ loop-cell-preserved g c =
     c.write-any.ensures.rewritten
     ∙ ap (λ (t : Option (List ℕ)). rewritten_cell before
     (meaning_of_write (write_in_room t (write_shown c.cell-item.result.write))) c.loop-cell.number
-    (slice_get (before.grid).cells c.loop-cell.number)) c.loop-cell.invariant.table in
+    (slice_get (before.grid).cells c.loop-cell.number)) (same_layers c.loop-cell.invariant.fixed) in
     let step : c.step_along-step.result ≡ step_along c.args.axis grid.height = c.step_along-step.ensures.value
     ∙ ap (step_along c.args.axis) c.size-width.ensures.height in
     record {
@@ -47,11 +46,9 @@ loop-cell-preserved g c =
           c.loop-cell.number c.cell-item.result c.loop-cell-test.true c.cell-item.is
           ∙ ap₂ (λ (r : Rewritten) (n : ℕ). rewritten_from r table c.args.part.now (step_along c.args.axis grid.height)
           (c.loop-cell.cell-index + 1) (c.loop-cell.number + n)) (sym wrote) (sym step);
-      table = c.write-any.ensures.table ∙ c.loop-cell.invariant.table;
-      origin = c.write-any.ensures.origin ∙ c.loop-cell.invariant.origin;
+      fixed = c.write-any.ensures.fixed ∙ c.loop-cell.invariant.fixed;
       cells =
           ap (λ (r : Rewritten). length (r.grid).cells) wrote
           ∙ same_length before meaning c.loop-cell.number (slice_get (before.grid).cells c.loop-cell.number)
           ∙ c.loop-cell.invariant.cells;
-      sides = c.write-any.ensures.sides ∙ c.loop-cell.invariant.sides;
     }

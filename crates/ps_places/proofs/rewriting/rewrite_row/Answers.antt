@@ -5,6 +5,7 @@ use Rattle.ps_model.specs.board.Attempts.{Rewritten}
 use Rattle.ps_program.specs.declared.cells.CompiledCell.{CompiledCell}
 use Rattle.ps_program.specs.declared.rows.Axis.{Axis}
 use Rattle.ps_places.specs.WrittenTogether.{cell_changed, cells_changed}
+use Rattle.ps_match.specs.FixedParts.{same_layers}
 use Rattle.ps_places.proofs.rewriting.rewrite_row.Goals as goal
 
 -- one cell, and then the rest
@@ -31,10 +32,8 @@ loop-cell-preserved g c =
       rewritten = c.loop-cell.invariant.rewritten
           ∙ cell_more now after (g.B.Board.table c.args.board.now) (g.B.Board.table c.loop-cell.board) c.args.axis
           c.args.row c.args.columns c.args.part.now c.loop-cell.cell-index c.loop-cell.steps c.cell-item.result
-          c.loop-cell-test.true c.cell-item.is c.loop-cell.invariant.steps c.loop-cell.invariant.table
+          c.loop-cell-test.true c.cell-item.is c.loop-cell.invariant.steps (same_layers c.loop-cell.invariant.fixed)
           c.rewrite_cell-any.ensures.rewritten;
       steps = ap (λ (n : ℕ). n + 1) c.loop-cell.invariant.steps;
-      table = c.rewrite_cell-any.ensures.table ∙ c.loop-cell.invariant.table;
-      origin = c.rewrite_cell-any.ensures.origin ∙ c.loop-cell.invariant.origin;
-      sides = c.rewrite_cell-any.ensures.sides ∙ c.loop-cell.invariant.sides;
+      fixed = c.rewrite_cell-any.ensures.fixed ∙ c.loop-cell.invariant.fixed;
     }

@@ -1,7 +1,7 @@
 use Rattle.std.proofs.Common.{◌≡◌, drop}
 use Rattle.ps_model.specs.board.Attempts.{Rewritten}
-use Rattle.ps_match.specs.InRoom.{sides_of}
 use Rattle.ps_places.specs.WrittenTogether.{cells_changed}
+use Rattle.ps_match.specs.FixedParts.{fixed_part}
 use Rattle.ps_places.proofs.rewriting.rewrite_row.Given as goal
 
 -- the cells passed by are rewritten
@@ -14,7 +14,5 @@ invariant-loop-cell g l =
       rewritten : cells_changed before table l.fn.axis l.fn.row l.fn.columns 0 l.part
           ≡ cells_changed now table l.fn.axis l.fn.row l.fn.columns l.cell-index (drop l.cell-index l.part);
       steps : l.steps ≡ l.cell-index;
-      table : g.B.Board.table l.board ≡ table;
-      origin : g.B.Board.origin l.board ≡ g.B.Board.origin l.fn.board;
-      sides : sides_of (g.B.Board.grid l.board) ≡ sides_of (g.B.Board.grid l.fn.board);
+      fixed : fixed_part g.B.Board l.board ≡ fixed_part g.B.Board l.fn.board;
     }

@@ -7,6 +7,7 @@ use Rattle.ps_board.proofs.Taken.{was_in}
 use Rattle.ps_match.proofs.RowWritten.{told}
 use Rattle.ps_places.specs.WrittenTogether.{cells_changed}
 use Rattle.ps_places.proofs.RowsTogether.{all_done, room_on_row, row_more, rows_none}
+use Rattle.ps_match.specs.FixedParts.{same_layers, same_sides}
 use Rattle.ps_places.proofs.rewriting.rewrite_rows.Goals as goal
 
 pub loop-row-init : goal.loop-row-init
@@ -16,9 +17,7 @@ loop-row-init g c =
       rewritten = λ grid some found alone.
           rows_none (g.B.Board.grid c.args.board.now) (g.B.Board.table c.args.board.now) c.args.axis c.args.part.now
           c.args.rows c.args.starts.now grid some found alone;
-      table = refl;
-      origin = refl;
-      sides = refl;
+      fixed = refl;
     }
 
 pub rewrite_row-changed-requires-clause-room : goal.rewrite_row-changed-requires-clause-room
@@ -26,7 +25,7 @@ rewrite_row-changed-requires-clause-room g c = λ k low.
     let first = first_in c.loop-row.left c.in-Some.row _ c.in-Some.ensures.some in
     room_on_row (g.B.Board.grid c.args.board.now) (g.B.Board.grid c.loop-row.board) (g.B.Board.table c.args.board.now)
     c.args.axis c.args.part.now c.args.rows c.args.starts.now
-    c.requires.starts c.loop-row.invariant.sides c.in-Some.row k
+    c.requires.starts (same_sides c.loop-row.invariant.fixed) c.in-Some.row k
     (c.loop-row.invariant.among c.in-Some.row first.1 first.0) low
 
 pub loop-row-preserved : goal.loop-row-preserved
@@ -49,12 +48,10 @@ loop-row-preserved g c =
           (c.loop-row.invariant.rewritten grid some found alone)
           (c.rewrite_row-changed.ensures.rewritten
           ∙ ap₂ (λ (t : Option (List ℕ)) (cs : List Bool). cells_changed now t c.args.axis row cs 0 c.args.part.now)
-          c.loop-row.invariant.table
+          (same_layers c.loop-row.invariant.fixed)
           (c.index-starts-row.is ∙ get_or_default c.args.starts.now row columns []
           (omega (arith, first.1, c.requires.long))));
-      table = c.rewrite_row-changed.ensures.table ∙ c.loop-row.invariant.table;
-      origin = c.rewrite_row-changed.ensures.origin ∙ c.loop-row.invariant.origin;
-      sides = c.rewrite_row-changed.ensures.sides ∙ c.loop-row.invariant.sides;
+      fixed = c.rewrite_row-changed.ensures.fixed ∙ c.loop-row.invariant.fixed;
     }
 
 pub returns-clause-rewritten : goal.returns-clause-rewritten

@@ -2,12 +2,12 @@ use Rattle.std.proofs.Common.{◌≡◌, ◌<◌, length, true, ℕ}
 use Rattle.ps_model.specs.declared.limits.TheConstants.{SIDE_LIMIT}
 use Rattle.ps_model.specs.board.Grid.{IsGrid}
 use Rattle.ps_board.specs.ColumnSets.{column_at, set_columns}
-use Rattle.ps_match.specs.InRoom.{sides_of}
 use Rattle.ps_match.proofs.RowWritten.{told}
 use Rattle.ps_laws.specs.WholeRows.{HasCells}
 use Rattle.ps_places.specs.LeavingAlone.{PlacesLieAlone}
 use Rattle.ps_places.specs.PartStarts.{AreStarts}
 use Rattle.ps_places.proofs.RowsTogether.{rows_done}
+use Rattle.ps_match.specs.FixedParts.{fixed_part}
 use Rattle.ps_places.proofs.rewriting.rewrite_rows.Given as goal
 
 -- the places on the rows that aren't left are done, and all others are as they were
@@ -22,9 +22,7 @@ invariant-loop-row g l =
           (alone : PlacesLieAlone l.fn.axis l.part l.fn.rows l.starts) →
           told (g.B.Board.grid l.board) l.changed
           ≡ rows_done start table l.fn.axis l.part l.fn.rows l.starts grid some found alone l.left;
-      table : g.B.Board.table l.board ≡ table;
-      origin : g.B.Board.origin l.board ≡ g.B.Board.origin l.fn.board;
-      sides : sides_of (g.B.Board.grid l.board) ≡ sides_of start;
+      fixed : fixed_part g.B.Board l.board ≡ fixed_part g.B.Board l.fn.board;
     }
 
 abbrev pub decreases-loop-row : goal.decreases-loop-row

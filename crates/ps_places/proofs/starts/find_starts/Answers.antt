@@ -13,14 +13,14 @@ returns-clause-places g c =
     let grid = g.B.Board.grid c.args.board.now in
     let table = g.B.Board.table c.args.board.now in
     let row = c.args.row.now in
-    let starts = c.find_lines-room.new.starts in
-    let old = c.args.room.now.starts in
-    let long : length starts ≡ old.len = omega (arith, c.find_lines-room.ensures.long, c.as_mut_slice.ensures.len) in
-    let room : SIDE_LIMIT * length row.parts ≤ length starts = omega (arith, row.few, long, c.args.room.now.long) in
-    places-found grid table row.axis row.parts starts c.find_lines-room.result c.recall_shape.ensures.shape row.some
-    row.whole room
+    let starts = c.find_lines-scratch.new.starts in
+    let old = c.args.scratch.now.starts in
+    let long : length starts ≡ old.len = omega (arith, c.find_lines-scratch.ensures.long, c.as_mut_slice.ensures.len) in
+    let scratch : SIDE_LIMIT * length row.parts ≤ length starts = omega (arith, row.few, long, c.args.scratch.now.long) in
+    places-found grid table row.axis row.parts starts c.find_lines-scratch.result c.recall_shape.ensures.shape row.some
+    row.whole scratch
     (subst (λ (parts : List (List CompiledCell)).
-    AreLinesFound grid table row.axis parts starts c.find_lines-room.result (length parts)) c.as_slice-parts.ensures
-    c.find_lines-room.ensures.lines)
+    AreLinesFound grid table row.axis parts starts c.find_lines-scratch.result (length parts)) c.as_slice-parts.ensures
+    c.find_lines-scratch.ensures.lines)
     ∙ ap (λ (sets : List (List Bool)). places_on_lines row.axis grid.height row.parts sets
-    (set_columns c.find_lines-room.result)) (sym (with_items_is old starts long))
+    (set_columns c.find_lines-scratch.result)) (sym (with_items_is old starts long))

@@ -4,7 +4,7 @@ use Rattle.ps_model.specs.board.Winning.{holds}
 use Rattle.ps_levels.specs.WinsShown.{wins_shown}
 use Rattle.ps_turn.proofs.winning.won.Given as goal
 
--- it rests on the conditions behind those passed by
+-- it rests on the conditions after those passed by
 abbrev pub invariant-loop-win : goal.invariant-loop-win
 invariant-loop-win g l =
     list_all (holds (g.B.Board.grid l.board)) (wins_shown l.wins)

@@ -1,5 +1,4 @@
-use Rattle.std.proofs.Common.{◌≡◌, ◌∙◌, ◌<◌, List, ℕ, ap, arith, length}
-use Rattle.std.specs.Prelude.{Option}
+use Rattle.std.proofs.Common.{◌∙◌, ◌<◌, List, ℕ, ap, arith, length}
 use Rattle.ps_view.specs.Frames.{Frames}
 use Rattle.ps_view.specs.Players.{cell_at, first_cell_of, player_place}
 use Rattle.ps_view.specs.declared.frame_rows.FrameRow.{FrameRow}

@@ -1,5 +1,4 @@
 use Rattle.std.proofs.Common.{◌≡◌, drop, None}
-use Rattle.ps_view.specs.Frames.{texts_of}
 use Rattle.ps_view.specs.Players.{first_player_from}
 use Rattle.ps_view.proofs.frames.Frames.first_player.Given as goal
 

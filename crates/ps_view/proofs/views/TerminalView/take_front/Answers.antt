@@ -1,4 +1,4 @@
-use Rattle.std.proofs.Common.{◌≡◌, ◌∙◌, sym, ap, true, false, refl}
+use Rattle.std.proofs.Common.{◌≡◌, ◌∙◌, sym, ap, true, false}
 use Rattle.ps_view.specs.Views.{View}
 use Rattle.ps_view.proofs.Steps.{front_behind, over_behind}
 use Rattle.ps_view.proofs.views.TerminalView.take_front.Goals as goal

@@ -1,0 +1,6 @@
+pub mod Steps
+pub mod Leads
+pub mod Answers
+pub mod Ways
+pub mod Searched
+pub mod Noted

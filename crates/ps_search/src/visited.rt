@@ -1,0 +1,123 @@
+//! The places that a search has met, numbered as they are met.
+
+ghost use Rattle.std.specs.Prelude.{◌≡◌, ◌<◌, ◌≤◌, ◌∷◌, ◌++◌, [], length, IfErr, OnErr, IfOk, OnOk};
+ghost use Rattle.ps_search.specs.Ways.{way, AreOrdered};
+ghost use Rattle.ps_search.specs.Noted.{IsNoted, IsRefusal};
+
+use indexmap::IndexSet;
+use std::alloc::{AllocError, Global};
+use std::hash::Hash;
+
+/// From which place, and by which input, a place was met first: none at the start.
+#[derive(Clone, Copy)]
+pub struct Link<I> {
+    pub parent: u32,
+    pub input: Option<I>,
+}
+
+/// Why a key isn't kept.
+#[derive(Drop)]
+pub(crate) enum Refused {
+    Limit,
+    Memory,
+}
+
+/// The keys of all places met, with the link of each. The number of a key is its place among the keys.
+pub(crate) struct Visited<K: Eq + Hash + Drop, I: Copy> {
+    pub keys: IndexSet<K>,
+    pub links: Vec<Link<I>>,
+    /// How many keys may be kept.
+    pub limit: u32,
+}
+
+/// Written out, so that a search calls this on every return path, instead of dropping the parts there.
+impl<K: Eq + Hash + Drop, I: Copy> Drop for Visited<K, I> {
+    fn drop(self) {
+        let Visited {
+            keys: _keys,
+            links: _links,
+            limit: _,
+        } = self;
+    }
+}
+
+impl<K: Eq + Hash + Drop, I: Copy> Visited<K, I> {
+    /// No keys.
+    pub(crate) fn new(alloc: Global, limit: u32) -> Visited<K, I>
+        ensures keys { result.keys.keys ≡ [] }
+        ensures links { result.links.items ≡ [] }
+        ensures limit { result.limit ≡ limit }
+    {
+        Visited {
+            keys: IndexSet::new(alloc),
+            links: Vec::new(alloc),
+            limit,
+        }
+    }
+
+    /// How many keys are kept.
+    pub(crate) fn count(&self) -> u32
+        requires { length self.now.keys.keys ≤ self.now.limit }
+        ensures { result ≡ length self.now.keys.keys }
+    {
+        let _limit = self.limit;
+        self.keys.len() as u32
+    }
+
+    /// Keeps a key with its link, unless it is known: then the link that it has stays.
+    ///
+    /// # Errors
+    ///
+    /// The limit where as many keys are kept and this is another one, or out of memory. All is as before.
+    #[tactic(auto, using(crate::proofs::Known::known))]
+    pub(crate) fn note(&mut self, key: K, link: Link<I>) -> Result<(), Refused>
+        requires long { length self.old.links.items ≡ length self.old.keys.keys }
+        requires within { length self.old.keys.keys ≤ self.old.limit }
+        ensures noted { OnOk result (IsNoted K.eq self.old.keys.keys self.old.links.items key link
+            self.new.keys.keys self.new.links.items) }
+        ensures within { length self.new.keys.keys ≤ self.new.limit }
+        ensures limit { self.new.limit ≡ self.old.limit }
+        ensures stay { OnErr result (self.new.keys.keys ≡ self.old.keys.keys) }
+        ensures refused { IfErr result (IsRefusal self.new.limit (length self.new.keys.keys)) }
+    {
+        if self.keys.len() == self.limit as usize {
+            return if self.keys.contains(&key) {
+                Ok(())
+            } else {
+                Err(Refused::Limit)
+            };
+        }
+        if self.links.reserve(1).is_err() {
+            return Err(Refused::Memory);
+        }
+        match self.keys.insert_full(key) {
+            Err(_) => Err(Refused::Memory),
+            Ok((_, false)) => Ok(()),
+            Ok((_, true)) => match self.links.push(link) {
+                Ok(()) => Ok(()),
+                Err(_) => unreachable!(),
+            },
+        }
+    }
+
+    /// The inputs that the link with this number spells, and then one more.
+    ///
+    /// # Errors
+    ///
+    /// Out of memory.
+    pub(crate) fn spell(&self, alloc: Global, number: u32, last: I) -> Result<Vec<I>, AllocError>
+        requires ordered { AreOrdered self.now.links.items }
+        requires below { number < length self.now.links.items }
+        ensures { IfOk result (λ inputs. inputs.items ≡ way self.now.links.items number ++ last ∷ []) }
+    {
+        let mut inputs = Vec::new(alloc);
+        inputs.push(last)?;
+        let mut at = number;
+        while let Some(input) = self.links[at as usize].input {
+            inputs.push(input)?;
+            at = self.links[at as usize].parent;
+        }
+        inputs.reverse();
+        Ok(inputs)
+    }
+}
