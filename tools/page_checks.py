@@ -5,7 +5,7 @@ PATIENCE = 60
 # Within how many milliseconds a page that is stopped has to say so.
 STOPS_IN = 500
 LEAST_BUTTON = 40
-# So many characters are told of the state of a page.
+# At most this many characters of the state of a page are printed.
 MOST_TOLD = 1000
 # A ground that is darker than that, of 255, is dark.
 MIDDLE = 128
