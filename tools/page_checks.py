@@ -5,6 +5,8 @@ PATIENCE = 60
 # Within how many milliseconds a page that is stopped has to say so.
 STOPS_IN = 500
 LEAST_BUTTON = 40
+# At most this many characters of the state of a page are printed.
+MOST_TOLD = 1000
 # A ground that is darker than that, of 255, is dark.
 MIDDLE = 128
 
@@ -37,7 +39,7 @@ class Page:
             if is_so(state):
                 return state
             time.sleep(0.02)
-        raise Otherwise(f"{what} didn't come: {state}")
+        raise Otherwise(f"{what} didn't come: {str(state)[:MOST_TOLD]}")
 
     def click(self, identifier):
         self.browser.run("document.getElementById(values[0]).click()", identifier)

@@ -174,6 +174,7 @@ export class Player {
     if (!isOver) return;
     this.#isOpen = false;
     element("fault").textContent = harmlessLines(said);
+    if (said !== "") element("stopped").hidden = false;
   }
 
   #show({ kind, text, rows }) {

@@ -48,9 +48,10 @@ function filesOf(text) {
   return new Map([[GAME, text]]);
 }
 
+// What the program says of a text without playing it.
 function run(text, ...words) {
-  const { status, output } = runToEnd(engine, ["ps_play", ...words], filesOf(text));
-  return { status, said: textOf(output) };
+  const { status, output, errors } = runToEnd(engine, ["ps_play", ...words], filesOf(text));
+  return { status, said: textOf(output) + textOf(errors) };
 }
 
 // Whether the engine can begin at a level.
@@ -67,11 +68,13 @@ const requests = {
     engine = compiled;
     return {};
   },
-  // What a check says of a text: its fault, or how large the game is and what a page has to know of it.
+  // What a check says of a text: its fault, or what a page has to know of the game.
   check({ text }) {
     const { status, said } = run(text, "--check", "--why", GAME);
     if (status !== 0) return { fault: said };
-    return { size: said.trim(), facts: JSON.parse(run(text, "--describe", GAME).said), beginsAtLevels: beginsAtLevels() };
+    const described = run(text, "--describe", GAME);
+    if (described.status !== 0) return { fault: described.said };
+    return { facts: JSON.parse(described.said), beginsAtLevels: beginsAtLevels() };
   },
   begin({ text, level }) {
     game = new Played(text, level === 1 ? [] : ["--level", String(level)]);
