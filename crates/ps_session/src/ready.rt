@@ -74,7 +74,7 @@ pub fn prepare<B: Board, H: History<B>>(
 }
 
 /// What a key comes to that stopped. Where it leads elsewhere, the text before that is added to the output; without
-/// memory for that it is as if memory had been wanting before, and the output stays as it is.
+/// memory for that it is as if it had run out before, and the output stays as it is.
 pub fn tell_stop<B: Board>(stage: &mut Stage<'_, B>, stop: Stop, output: &mut OutputText) -> Stop
     ensures game { stage.new.game ≡ stage.old.game }
     ensures left { (script : Script) (step : Step) → IsStopped script stop step stage.old.text

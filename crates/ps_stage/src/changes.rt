@@ -1,4 +1,4 @@
-//! What comes of a key in a level: a turn with an input, and going on behind a message.
+//! What comes of a key in a level: a turn with an input, and going on after a message.
 
 ghost use Rattle.std.specs.Prelude.{◌≡◌, IfErr, IfOk, IfSome, OnOk, List, Some, false};
 ghost use Rattle.ps_model.specs.board.Grid.{Grid};
@@ -162,7 +162,7 @@ impl<'g, B: Board> Stage<'g, B> {
     }
 
     /// What follows a done turn of a key, of which this level came: its frame, its message, the end of the level or
-    /// again turns. If memory is wanting, the boards of the level are spare.
+    /// again turns. If memory runs out, the boards of the level are spare.
     fn follow_key<R: Rules<B>>(
         &mut self,
         rules: &mut TurnRules<R>,
@@ -322,7 +322,7 @@ impl<'g, B: Board> Stage<'g, B> {
         level.try_copy(self.alloc, &mut self.spares, self.game.names())
     }
 
-    /// The again turns of a key that are left come behind a message.
+    /// The again turns of a key that are left come after a message.
     fn go_on_with_key<R: Rules<B>>(
         &mut self,
         rules: &mut TurnRules<R>,
@@ -352,7 +352,7 @@ impl<'g, B: Board> Stage<'g, B> {
         self.finish_key(rules, next, end, HistoryChange::Keeps, None)
     }
 
-    /// The again turns of a start that are left come behind a message.
+    /// The again turns of a start that are left come after a message.
     fn go_on_with_start<R: Rules<B>>(
         &mut self,
         rules: &mut TurnRules<R>,
@@ -382,7 +382,7 @@ impl<'g, B: Board> Stage<'g, B> {
         Ok(Change::Goes(located(next, pending), HistoryChange::Keeps, None))
     }
 
-    /// Goes on behind a message of a level that was dismissed. The level stays as it is. Where nothing is to come, no
+    /// Goes on after a message of a level that was dismissed. The level stays as it is. Where nothing is to come, no
     /// memory is taken.
     ///
     /// # Errors

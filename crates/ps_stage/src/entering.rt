@@ -76,7 +76,7 @@ impl<'g, B: Board> Stage<'g, B> {
         Ok(located(played, pending))
     }
 
-    /// An entry begins for which its boards have room: a message waits, a level starts; behind the last entry is the
+    /// An entry begins for which its boards have room: a message waits, a level starts; after the last entry is the
     /// end.
     ///
     /// # Errors

@@ -19,7 +19,7 @@ use ps_board::Board;
 use ps_model::Memory;
 use ps_turn::{DoneTurn, Rules, TurnRules, Turned};
 
-/// What a turn of a key leaves to come behind its message.
+/// What a turn of a key leaves to come after its message.
 fn key_pending(win: bool, again: bool, left: u32) -> Pending
     ensures { pending_shown result ≡ key_pending win again left }
 {
@@ -33,7 +33,7 @@ fn key_pending(win: bool, again: bool, left: u32) -> Pending
 }
 
 impl<'g, B: Board> Stage<'g, B> {
-    /// Tells what comes behind a frame of a key: a message waits; without one the level ends on a win; otherwise the
+    /// Tells what comes after a frame of a key: a message waits; without one the level ends on a win; otherwise the
     /// again turns come, if the turn is to come again.
     fn tell_key(&mut self, done: &DoneTurn, left: u32) -> Result<KeyTold, Memory>
         ensures game { self.new.game ≡ self.old.game }
@@ -55,7 +55,7 @@ impl<'g, B: Board> Stage<'g, B> {
         Ok(KeyTold::Ends(KeyEnd::Stops(None)))
     }
 
-    /// Shows the board behind a done turn of a key, and tells what comes behind the frame.
+    /// Shows the board after a done turn of a key, and tells what comes after the frame.
     pub(crate) fn tell_key_turn(
         &mut self,
         level: &mut PlayedLevel<B>,
@@ -136,7 +136,7 @@ impl<'g, B: Board> Stage<'g, B> {
         self.tell_key_outcome(level, turned, left)
     }
 
-    /// The again turns of a key, so many at most.
+    /// The again turns of a key, at most `most`.
     pub(crate) fn key_turns<R: Rules<B>>(
         &mut self,
         rules: &mut TurnRules<R>,

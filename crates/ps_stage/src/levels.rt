@@ -34,14 +34,14 @@ use std::rc::Rc;
 use std::snapshot::Snapshot;
 
 /// A level that is played. Turns work on the parts of another level, whose board shows the same between them, if there
-/// are any: they become those of the level behind the turn, and this one's parts serve that one's turns. A level is
+/// are any: they become those of the level after the turn, and this one's parts serve that one's turns. A level is
 /// handed from step to step at each key, so that its parts stay where they are and only their place goes on.
 pub struct PlayedLevel<B: Board> {
     parts: Box<LevelParts<B>>,
     spare: Option<Box<LevelParts<B>>>,
 }
 
-/// Written out, so that who owns a level calls this on each way out, instead of dropping its parts there.
+/// Written out, so that a function that owns a level calls this where it returns, instead of dropping its parts.
 impl<B: Board> Drop for PlayedLevel<B> {
     fn drop(self) {
         let PlayedLevel {
@@ -99,7 +99,7 @@ impl Counting {
 }
 
 /// What comes of a turn that leaves the level as it is: nothing; a restart, with a message or without; or the level
-/// behind the turn, and rows outside of which its board shows the same objects. `S` is a set of rows.
+/// after the turn, and rows outside of which its board shows the same objects. `S` is a set of rows.
 #[derive(Drop)]
 pub enum Tried<L, S> {
     Blocked(Option<Text>),
@@ -144,7 +144,7 @@ fn run_turn<B: Board, R: Rules<B>>(
     Ok(turned)
 }
 
-/// A turn of a game on a board, and on a second one that is equal to it before and behind the turn. The board has what
+/// A turn of a game on a board, and on a second one that is equal to it before and after the turn. The board has what
 /// a turn that is done and counts came to, and the text of its frame goes with it; else it is as before.
 ///
 /// # Errors
@@ -502,7 +502,7 @@ impl<B: Board> PlayedLevel<B> {
     ///
     /// # Errors
     ///
-    /// `Memory`, and the level is as before or behind the turn, but for its checkpoint.
+    /// `Memory`, and the level is as before or after the turn, but for its checkpoint.
     pub(crate) fn take_turn<R: Rules<B>>(
         &mut self,
         alloc: Global,
@@ -570,9 +570,9 @@ impl<B: Board> PlayedLevel<B> {
         Ok(())
     }
 
-    /// Tries a turn with an input. The level stays as it is; where the turn is done, the level behind it has the board
+    /// Tries a turn with an input. The level stays as it is; where the turn is done, the level after it has the board
     /// that the turn came to, and the text of its frame, if it was drawn, but no board for turns: it may get this
-    /// level's, once this one is left. No memory is taken for boards, unless the level behind an earlier turn was given
+    /// level's, once this one is left. No memory is taken for boards, unless the level after an earlier turn was given
     /// away and none of the spare boards is alike, or the turn sets a checkpoint, or its rules keep one.
     ///
     /// # Errors

@@ -22,7 +22,7 @@ use ps_model::{AGAIN_LIMIT, Memory};
 use ps_text::Text;
 use ps_turn::{DoneTurn, Rules, TurnRules, Turned};
 
-/// What the turn of a start leaves to come behind its message.
+/// What the turn of a start leaves to come after its message.
 fn start_pending(again: bool, left: u32) -> Pending
     ensures { pending_shown result ≡ start_pending again left }
 {
@@ -72,7 +72,7 @@ pub(crate) fn again_limit() -> u32
 }
 
 impl<'g, B: Board> Stage<'g, B> {
-    /// Tells what comes behind a frame of a start: a message waits; without one the again turns come, if the turn is to
+    /// Tells what comes after a frame of a start: a message waits; without one the again turns come, if the turn is to
     /// come again.
     fn tell_start(
         &mut self,
@@ -107,7 +107,7 @@ impl<'g, B: Board> Stage<'g, B> {
         self.show(level)
     }
 
-    /// Shows the board behind a done turn of a start, if the turn changed it, and tells what comes behind the frame.
+    /// Shows the board after a done turn of a start, if the turn changed it, and tells what comes after the frame.
     fn tell_start_turn(
         &mut self,
         level: &mut PlayedLevel<B>,
@@ -204,7 +204,7 @@ impl<'g, B: Board> Stage<'g, B> {
         told
     }
 
-    /// The again turns of a start, so many at most.
+    /// The again turns of a start, at most `most`.
     pub(crate) fn start_turns<R: Rules<B>>(
         &mut self,
         rules: &mut TurnRules<R>,
