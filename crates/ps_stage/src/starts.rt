@@ -9,7 +9,8 @@ ghost use Rattle.ps_model.specs.board.Turns.{turn};
 ghost use Rattle.ps_model.specs.session.Sessions.{Play, Step, after, shown};
 ghost use Rattle.ps_model.specs.session.StartSteps.{start_pending, start_told, start_turns, all_start_turns};
 ghost use Rattle.ps_model.specs.session.StartSteps.{started, start_step};
-ghost use Rattle.ps_stage.specs.Standings.{basis_of, play_of, script_for, script_of, seen_level};
+ghost use Rattle.ps_stage.specs.Meanings.{meaning_of, script_by};
+ghost use Rattle.ps_stage.specs.Standings.{basis_of, play_of, script_of, seen_level};
 ghost use Rattle.ps_stage.specs.StepsShown.{told_step, start_shown, start_outcome_shown, message_of, is_again};
 ghost use Rattle.ps_stage.specs.StepsShown.{came, stands, pending_shown, taken};
 ghost use Rattle.ps_turn.specs.States.{outcome_shown};
@@ -138,12 +139,11 @@ impl<'g, B: Board> Stage<'g, B> {
     ) -> Result<Turned, Memory>
         requires { level.old.basis ≡ basis_of B.table_for self.old.game.names }
         ensures stage { self.new ≡ self.old }
-        ensures plain { R.meant rules.new.plain ≡ R.meant rules.old.plain }
-        ensures late { R.meant rules.new.late ≡ R.meant rules.old.late }
+        ensures meaning { meaning_of R.Rules rules.new ≡ meaning_of R.Rules rules.old }
         ensures basis { level.new.basis ≡ level.old.basis }
         ensures turned { IfOk result (λ turned. (g : Grid)
             × (outcome_shown turned g
-            ≡ turn (script_for B.table_for self.old.game (R.meant rules.old.plain) (R.meant rules.old.late)) None
+            ≡ turn (script_by B.Board R.Rules self.old.game rules.old) None
             level.old.board)
             × (level.new ≡ taken counting turned level.old g)) }
     {
@@ -188,15 +188,14 @@ impl<'g, B: Board> Stage<'g, B> {
     ) -> Result<StartTold, Memory>
         requires { level.old.basis ≡ basis_of B.table_for self.old.game.names }
         ensures game { self.new.game ≡ self.old.game }
-        ensures plain { R.meant rules.new.plain ≡ R.meant rules.old.plain }
-        ensures late { R.meant rules.new.late ≡ R.meant rules.old.late }
+        ensures meaning { meaning_of R.Rules rules.new ≡ meaning_of R.Rules rules.old }
         ensures basis { level.new.basis ≡ level.old.basis }
         ensures told { IfOk result (λ told. (history : List Grid)
             → after self.old.text (start_turns
-            (script_for B.table_for self.old.game (R.meant rules.old.plain) (R.meant rules.old.late))
+            (script_by B.Board R.Rules self.old.game rules.old)
             (suc left) (play_of history level.old))
             ≡ told_step told (play_of history level.new) self.new.text (start_turns
-            (script_for B.table_for self.old.game (R.meant rules.old.plain) (R.meant rules.old.late)) left)) }
+            (script_by B.Board R.Rules self.old.game rules.old) left)) }
     {
         let turned = self.take_turn(rules, level, Counting::IfChanged)?;
         let told = self.tell_start_outcome(level, &turned, left);
@@ -213,12 +212,11 @@ impl<'g, B: Board> Stage<'g, B> {
     ) -> Result<Option<Pending>, Memory>
         requires { level.old.basis ≡ basis_of B.table_for self.old.game.names }
         ensures game { self.new.game ≡ self.old.game }
-        ensures plain { R.meant rules.new.plain ≡ R.meant rules.old.plain }
-        ensures late { R.meant rules.new.late ≡ R.meant rules.old.late }
+        ensures meaning { meaning_of R.Rules rules.new ≡ meaning_of R.Rules rules.old }
         ensures basis { level.new.basis ≡ level.old.basis }
         ensures came { IfOk result (λ pending. (history : List Grid)
             → after self.old.text (start_turns
-            (script_for B.table_for self.old.game (R.meant rules.old.plain) (R.meant rules.old.late)) most
+            (script_by B.Board R.Rules self.old.game rules.old) most
             (play_of history level.old))
             ≡ came (stands pending (play_of history level.new)) self.new.text) }
     {
@@ -241,12 +239,11 @@ impl<'g, B: Board> Stage<'g, B> {
     ) -> Result<Option<Pending>, Memory>
         requires { level.old.basis ≡ basis_of B.table_for self.old.game.names }
         ensures game { self.new.game ≡ self.old.game }
-        ensures plain { R.meant rules.new.plain ≡ R.meant rules.old.plain }
-        ensures late { R.meant rules.new.late ≡ R.meant rules.old.late }
+        ensures meaning { meaning_of R.Rules rules.new ≡ meaning_of R.Rules rules.old }
         ensures basis { level.new.basis ≡ level.old.basis }
         ensures came { IfOk result (λ pending. (history : List Grid)
             → after self.old.text (all_start_turns
-            (script_for B.table_for self.old.game (R.meant rules.old.plain) (R.meant rules.old.late))
+            (script_by B.Board R.Rules self.old.game rules.old)
             (play_of history level.old))
             ≡ came (stands pending (play_of history level.new)) self.new.text) }
     {
@@ -264,12 +261,11 @@ impl<'g, B: Board> Stage<'g, B> {
     ) -> Result<Option<Pending>, Memory>
         requires { level.old.basis ≡ basis_of B.table_for self.old.game.names }
         ensures game { self.new.game ≡ self.old.game }
-        ensures plain { R.meant rules.new.plain ≡ R.meant rules.old.plain }
-        ensures late { R.meant rules.new.late ≡ R.meant rules.old.late }
+        ensures meaning { meaning_of R.Rules rules.new ≡ meaning_of R.Rules rules.old }
         ensures basis { level.new.basis ≡ level.old.basis }
         ensures came { IfOk result (λ pending. (history : List Grid)
             → after self.old.text (started
-            (script_for B.table_for self.old.game (R.meant rules.old.plain) (R.meant rules.old.late))
+            (script_by B.Board R.Rules self.old.game rules.old)
             (play_of history level.old) message.now again)
             ≡ came (stands pending (play_of history level.new)) self.new.text) }
     {
@@ -290,12 +286,11 @@ impl<'g, B: Board> Stage<'g, B> {
     ) -> Result<Option<Pending>, Memory>
         requires { level.old.basis ≡ basis_of B.table_for self.old.game.names }
         ensures game { self.new.game ≡ self.old.game }
-        ensures plain { R.meant rules.new.plain ≡ R.meant rules.old.plain }
-        ensures late { R.meant rules.new.late ≡ R.meant rules.old.late }
+        ensures meaning { meaning_of R.Rules rules.new ≡ meaning_of R.Rules rules.old }
         ensures basis { level.new.basis ≡ level.old.basis }
         ensures came { IfOk result (λ pending. (history : List Grid)
             → after self.old.text (start_step
-            (script_for B.table_for self.old.game (R.meant rules.old.plain) (R.meant rules.old.late))
+            (script_by B.Board R.Rules self.old.game rules.old)
             (play_of history level.old) message.now)
             ≡ came (stands pending (play_of history level.new)) self.new.text) }
     {
@@ -318,12 +313,11 @@ impl<'g, B: Board> Stage<'g, B> {
     ) -> Result<Option<Pending>, Memory>
         requires { level.old.basis ≡ basis_of B.table_for self.old.game.names }
         ensures game { self.new.game ≡ self.old.game }
-        ensures plain { R.meant rules.new.plain ≡ R.meant rules.old.plain }
-        ensures late { R.meant rules.new.late ≡ R.meant rules.old.late }
+        ensures meaning { meaning_of R.Rules rules.new ≡ meaning_of R.Rules rules.old }
         ensures basis { level.new.basis ≡ level.old.basis }
         ensures came { IfOk result (λ pending. (history : List Grid)
             → after self.old.text (start_step
-            (script_for B.table_for self.old.game (R.meant rules.old.plain) (R.meant rules.old.late))
+            (script_by B.Board R.Rules self.old.game rules.old)
             (play_of history level.old) message)
             ≡ came (stands pending (play_of history level.new)) self.new.text) }
     {
