@@ -24,7 +24,7 @@ fn next_span(keeps: bool, span: u32) -> u32
 }
 
 impl<'r> CycleFinder<'r> {
-    /// One step more, which has come to this state, with so many steps left. Answers how many of these are to be made:
+    /// One step more, which has come to this state, with `left` steps to go. Answers how many of these are to be made:
     /// all of them, or, where the step has come back, what is left of them without whole periods.
     ///
     /// # Errors

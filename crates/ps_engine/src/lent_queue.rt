@@ -117,7 +117,7 @@ impl<'r> LentQueue<'r> {
         }
     }
 
-    /// The commands of a rule enter the queue: behind `cancel` nothing does, behind `restart` nothing but a rule with
+    /// The commands of a rule enter the queue: after `cancel` nothing does, after `restart` nothing but a rule with
     /// `cancel`; a rule with `cancel` or `restart` empties the queue first.
     pub fn enter(&mut self, commands: &'r Commands)
         ensures { self.new ≡ queued self.old (commands_shown commands.entry.now) }

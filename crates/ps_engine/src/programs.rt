@@ -34,8 +34,8 @@ struct Left {
     changed: bool,
 }
 
-/// A loop with so many repeats left: a pass, and a repeat while the last pass changed something, without whole periods
-/// where passes come back.
+/// A loop that may repeat `repeats` times: a pass, and a repeat while the last pass changed something, without whole
+/// periods where passes come back.
 ///
 /// # Errors
 ///
@@ -83,8 +83,8 @@ fn play_loop<'r, B: Scan>(
     }
 }
 
-/// A section with so many repeats left. Most sections have nothing to do, so that a call for each would be felt: this
-/// is in line.
+/// A section whose loop may repeat `repeats` times. Most sections have nothing to do, so that a call for each would be
+/// felt: this is in line.
 ///
 /// # Errors
 ///
@@ -196,8 +196,8 @@ fn play_sections<'r, B: Scan>(
     Ok(())
 }
 
-/// A section of a program with so many repeats left, unless it is known to be a group that has no place. The board
-/// differs from what is kept in these topics alone.
+/// A section of a program, whose loop may repeat `repeats` times, unless it is known to be a group that has no place.
+/// The board differs from what is kept in these topics alone.
 ///
 /// # Errors
 ///

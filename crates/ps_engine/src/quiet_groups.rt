@@ -32,10 +32,10 @@ const LEAST_SECTIONS: usize = 16;
 /// Nor is one on a board of more cells for each section.
 const CELLS_OF_SECTION: usize = 256;
 
-/// After so many runs more of little gain a program rests.
+/// After this many more runs of little gain a program rests.
 const PATIENCE: u32 = 2;
 
-/// For so many runs it isn't searched for quiet groups then.
+/// For this many runs it isn't searched for quiet groups then.
 const REST: u32 = 32;
 
 /// What is known of a section.
@@ -82,14 +82,14 @@ impl<'p, 'r, B: Scan> Model for QuietGroups<'p, 'r, B> {
         × AreKnown (option_map (λ board. (B.grid board, B.table board)) w.board) w.sections.now w.known.items };
 }
 
-/// Whether to known_section so many sections can pay on a board.
+/// Whether a search for quiet groups among `sections` can pay on a board.
 fn pays<B: Scan>(sections: usize, board: &B) -> bool {
     let (width, height) = board.size();
     let cells = width as usize * height as usize;
     LEAST_SECTIONS <= sections && cells <= sections.saturating_mul(CELLS_OF_SECTION)
 }
 
-/// How it goes on behind a run, of little gain or not.
+/// How it goes on after a run, of little gain or not.
 fn next_pace(pace: Pace, little: bool) -> Pace {
     if 0 < pace.rest {
         return Pace {

@@ -21,7 +21,7 @@ use ps_program::{CompiledRule, MotionSet};
 use ps_text::List;
 
 /// A round: the attempts of a group's rules in order, but for those that ask for a motion which nothing has. Answers
-/// whether one changed something. The set has all motions of the board, before and behind.
+/// whether one changed something. The set has all motions of the board, before and after.
 #[inline(always)]
 fn round<'r, B: Scan>(
     rules: &[CompiledRule<'r>],
@@ -56,7 +56,7 @@ fn round<'r, B: Scan>(
     changed
 }
 
-/// The rounds of a group behind one that has changed something: until one changes nothing, so many at most, without
+/// The rounds of a group after one that has changed something: until one changes nothing, at most `most`, without
 /// whole periods where they come back. Few groups come to them, so that they are apart from the first one.
 ///
 /// # Errors
@@ -118,9 +118,9 @@ fn attempt_asked<'r, B: Scan>(
     attempt(rule, board, queue, scratch)
 }
 
-/// The rest of a group behind the first rule that has changed something: the rest of the first round, from the rule of
-/// that number on, and the rounds behind it. Few groups come to it, so that it is apart, and the first rules of a group
-/// are looked at with nothing else to keep. Behind it the set has all motions of the board.
+/// The rest of a group after the first rule that has changed something: the rest of the first round, from the rule of
+/// that number on, and the rounds after it. Few groups come to it, so that it is apart, and the first rules of a group
+/// are looked at with nothing else to keep. After it the set has all motions of the board.
 ///
 /// # Errors
 ///

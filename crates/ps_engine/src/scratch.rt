@@ -10,7 +10,7 @@ use ps_program::{CompiledRule, CompiledSection};
 use ps_text::List;
 use std::alloc::Global;
 
-/// The most rows of a rule, or so many.
+/// The most rows of a rule, but at least `least`.
 fn most_of_rules(rules: &[CompiledRule], least: usize) -> usize
     ensures enough { HaveScratch result rules.now }
     ensures least { least ≤ result }
@@ -22,7 +22,7 @@ fn most_of_rules(rules: &[CompiledRule], least: usize) -> usize
     most
 }
 
-/// The most rows of a rule of some groups, or so many.
+/// The most rows of a rule of some groups, but at least `least`.
 fn most_of_groups(groups: &[List<CompiledRule>], least: usize) -> usize
     ensures enough { GroupsHaveScratch result groups.now }
     ensures least { least ≤ result }
@@ -34,7 +34,7 @@ fn most_of_groups(groups: &[List<CompiledRule>], least: usize) -> usize
     most
 }
 
-/// The most rows of a rule of a section, or so many.
+/// The most rows of a rule of a section, but at least `least`.
 fn most_of_section(section: &CompiledSection, least: usize) -> usize
     ensures enough { SectionHasScratch result section.now }
     ensures least { least ≤ result }

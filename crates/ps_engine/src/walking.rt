@@ -44,7 +44,7 @@ fn rewrite_rows<B: Scan>(
     any
 }
 
-/// The slowest row that doesn't fit any more at its place that is chosen: no combination behind that keeps the place
+/// The slowest row that doesn't fit any more at its place that is chosen: no later combination that keeps the place
 /// can be applied. The first row, where each fits; so it needn't be asked itself.
 fn slowest_unfit<B: Scan>(board: &B, rows: &[CompiledRow], scratch: &[ScratchFor<B>]) -> usize
     requires { length rows.now ≤ length scratch.now }

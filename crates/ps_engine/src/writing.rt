@@ -35,7 +35,7 @@ fn writing_cell(row: &CompiledRow, writer: Writer) -> &CompiledCell
     &part[writer.cell as usize]
 }
 
-/// Writes the cells that lie so many steps along an axis from some columns of a row of the board, and answers whether
+/// Writes the cells that lie `steps` along an axis from some columns of a row of the board, and answers whether
 /// one of them changed.
 fn write_behind<B: Scan>(
     board: &mut B,
@@ -59,7 +59,7 @@ fn write_behind<B: Scan>(
     }
 }
 
-/// Writes the cells that lie so many steps along an axis from the columns that scratch memory keeps of these rows of the
+/// Writes the cells that lie `steps` along an axis from the columns that scratch memory keeps of these rows of the
 /// board, and answers whether one of them changed.
 fn write_targets<B: Scan>(
     board: &mut B,

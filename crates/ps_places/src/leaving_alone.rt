@@ -24,7 +24,7 @@ fn leave_alone(first: &CompiledCell, second: &CompiledCell) -> bool
     !second.changes || write_keeps(&second.write, &first.mask)
 }
 
-/// Whether all cells of a part that lie so many cells apart leave each other alone.
+/// Whether all cells of a part that lie `distance` cells apart leave each other alone.
 fn are_independent(part: &[CompiledCell], distance: usize) -> bool
     ensures { result ≡ true → LieAlone part.now distance }
 {
@@ -49,7 +49,7 @@ pub fn kept_on_row<W: ColumnWords>(rows: Columns<W>, starts: &[Columns<W>], row:
     starts[row as usize]
 }
 
-/// The columns of a row of the board so many cells behind which, along an axis, a place begins.
+/// The columns of a row of the board `distance` cells behind which, along an axis, a place begins.
 fn starts_behind<W: ColumnWords>(
     axis: Axis,
     rows: Columns<W>,
@@ -67,7 +67,7 @@ fn starts_behind<W: ColumnWords>(
     }
 }
 
-/// Whether two places begin so many cells apart.
+/// Whether two places begin `distance` cells apart.
 fn are_apart<W: ColumnWords>(
     axis: Axis,
     rows: Columns<W>,
@@ -87,7 +87,7 @@ fn are_apart<W: ColumnWords>(
     false
 }
 
-/// Whether places of a part leave each other alone that begin so many cells apart.
+/// Whether places of a part leave each other alone that begin `distance` cells apart.
 fn apart_are_independent<W: ColumnWords>(
     axis: Axis,
     part: &[CompiledCell],

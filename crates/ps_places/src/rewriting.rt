@@ -16,7 +16,7 @@ use crate::scratch::RowScratch;
 use ps_match::{ColumnWords, Columns, Scan, recall_shape, rewrite_ahead};
 use ps_program::{Axis, CompiledCell};
 
-/// Rewrites one cell of a part, so many steps behind the first one, of all places that begin in some columns of a row
+/// Rewrites one cell of a part, `steps` behind the first one, of all places that begin in some columns of a row
 /// of the board, if that can change one. Answers whether one changed, or something had `changed` before.
 fn rewrite_cell<B: Scan>(
     board: &mut B,

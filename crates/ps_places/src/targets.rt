@@ -17,7 +17,7 @@ use ps_match::{ColumnWords, Columns, Scan, recall_shape};
 use ps_model::SIDE_LIMIT;
 use ps_program::{Axis, CompiledCell, CompiledRow};
 
-/// Reaches twice as far to the left: what has one of a set less than so many columns to its right has it less than
+/// Reaches twice as far to the left: what has one of a set less than a number of columns to its right has it less than
 /// twice as many.
 fn reach_twice<W: ColumnWords>(reach: Columns<W>, steps: u32) -> Columns<W>
     ensures { (set : List Bool) → IsReach set reach steps → IsReach set result (steps + steps) }

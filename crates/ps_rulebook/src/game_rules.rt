@@ -24,7 +24,7 @@ pub struct GameRules<'p, 'r, B: Scan> {
     kept: KeptBoards<B>,
 }
 
-/// Written out, so that who owns rules calls this on each way out, instead of dropping their parts there.
+/// Written out, so that a function that owns rules calls this where it returns, instead of dropping their parts.
 impl<'p, 'r, B: Scan> Drop for GameRules<'p, 'r, B> {
     fn drop(self) {
         let GameRules {

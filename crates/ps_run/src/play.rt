@@ -48,7 +48,7 @@ impl<'g> Play<'g> {
         }
     }
 
-    /// Plays the key of a byte, if it brings one behind what is held.
+    /// Plays the key of a byte, if it brings one after what is held.
     fn play_byte<W: ByteWriter>(&mut self, byte: u8, writer: &mut W) -> Result<(), PieceFault>
         requires { (W.state writer.old).has_failed ≡ false }
         ensures script { script_in self.new.game ≡ script_in self.old.game }

@@ -21,7 +21,7 @@ pub struct RowPlay<'g, V: ColumnWords> {
     rules: TurnRules<GameRules<'g, 'g, RowBoard<V>>>,
 }
 
-/// Written out, so that who owns a game in play calls this on each way out, instead of dropping its parts there.
+/// Written out, so that a function that owns a game in play calls this where it returns, instead of dropping its parts.
 impl<'g, V: ColumnWords> Drop for RowPlay<'g, V> {
     fn drop(self) {
         let RowPlay {

@@ -24,7 +24,7 @@ pub enum SizedPlay<'g> {
     Four(RowPlay<'g, ManyWords<4>>),
 }
 
-/// The longer sides of levels whose rows are kept by so many words, and by no fewer.
+/// The longer sides of levels whose rows are kept by a number of words, and by no fewer.
 fn sides_of(words: u32) -> BoardSides
     requires { words ≤ 4 }
     ensures above { result.above ≡ words * WORD_BITS - WORD_BITS }

@@ -17,7 +17,7 @@ use std::alloc::Global;
 /// ended, the player quits or the keys end.
 ///
 /// The opening is written before the first key is read, and the text of each key of a piece before the next piece is
-/// read. Each call asks for exactly `CALL_LIMIT` bytes, and none comes behind the end of the game or of the keys.
+/// read. Each call asks for exactly `CALL_LIMIT` bytes, and none comes after the end of the game or of the keys.
 ///
 /// # Errors
 ///

@@ -88,7 +88,7 @@ fn hand_on<B: Board>(
     }
 }
 
-/// The boards of what was to come next and doesn't, as memory was wanting, are there to be used again; but for those of
+/// The boards of what was to come next and doesn't, for lack of memory, are there to be used again; but for those of
 /// another level, in the place of which boards of this one may be kept.
 pub fn give_up<B: Board>(stage: &mut Stage<'_, B>, next: NextLevel<B>)
     ensures { stage.new ≡ stage.old }
@@ -125,7 +125,7 @@ fn add_to_history<B: Board, H: History<B>>(
     hand_on(stage, level, next, rows);
 }
 
-/// The history behind a location that is left. The board of its level is handed on to the one that comes next, where
+/// The history after a location that is left. The board of its level is handed on to the one that comes next, where
 /// some rows are known outside of which the two show the same objects; else its boards are there to be used again.
 fn leave<B: Board, H: History<B>>(
     stage: &mut Stage<'_, B>,

@@ -6,7 +6,8 @@ ghost use Rattle.ps_model.specs.board.Programs.{Section};
 ghost use Rattle.ps_model.specs.session.KeySteps.{input_taken, key_in_level, quit, undone};
 ghost use Rattle.ps_model.specs.session.Sessions.{with_board_in_history};
 ghost use Rattle.ps_model.specs.session.StartSteps.{restarted};
-ghost use Rattle.ps_stage.specs.Standings.{Basis, Standing, basis_of, play_of, script_for, script_of};
+ghost use Rattle.ps_stage.specs.Meanings.{meaning_of, script_by};
+ghost use Rattle.ps_stage.specs.Standings.{Basis, Standing, basis_of, play_of, script_of};
 ghost use Rattle.ps_stage.specs.StepsShown.{IsStopped};
 ghost use Rattle.ps_stage.specs.declared.locations.Location.{Location as MeantLocation};
 ghost use Rattle.ps_stage.specs.declared.locations.Location.TheVariants.{Playing};
@@ -55,16 +56,15 @@ fn moves<B: Board, R: Rules<B>>(
     requires empty { stage.old.text ≡ [] }
     requires basis { level.old.basis ≡ basis_of B.table_for stage.old.game.names }
     ensures game { stage.new.game ≡ stage.old.game }
-    ensures plain { R.meant rules.new.plain ≡ R.meant rules.old.plain }
-    ensures late { R.meant rules.new.late ≡ R.meant rules.old.late }
+    ensures meaning { meaning_of R.Rules rules.new ≡ meaning_of R.Rules rules.old }
     ensures same { level.new ≡ level.old }
     ensures came { IfOk result (λ next. (history : List Grid)
-        → input_taken (script_for B.table_for stage.old.game (R.meant rules.old.plain) (R.meant rules.old.late))
+        → input_taken (script_by B.Board R.Rules stage.old.game rules.old)
         (play_of history level.old) input
         ≡ next_step history (Playing level.old) next stage.new.text) }
     ensures stopped { IfErr result (λ stop. (history : List Grid)
-        → IsStopped (script_for B.table_for stage.old.game (R.meant rules.old.plain) (R.meant rules.old.late)) stop
-        (input_taken (script_for B.table_for stage.old.game (R.meant rules.old.plain) (R.meant rules.old.late))
+        → IsStopped (script_by B.Board R.Rules stage.old.game rules.old) stop
+        (input_taken (script_by B.Board R.Rules stage.old.game rules.old)
         (play_of history level.old) input) stage.new.text) }
     ensures basis { IfOk result (λ next. AnswersOnBasis (basis_of B.table_for stage.old.game.names) next) }
     ensures touched { IfOk result (λ next. AnswersFrom (Playing level.old) next) }
@@ -122,11 +122,10 @@ fn restarts<B: Board, R: Rules<B>>(
     requires empty { stage.old.text ≡ [] }
     requires basis { level.old.basis ≡ basis_of B.table_for stage.old.game.names }
     ensures game { stage.new.game ≡ stage.old.game }
-    ensures plain { R.meant rules.new.plain ≡ R.meant rules.old.plain }
-    ensures late { R.meant rules.new.late ≡ R.meant rules.old.late }
+    ensures meaning { meaning_of R.Rules rules.new ≡ meaning_of R.Rules rules.old }
     ensures same { level.new ≡ level.old }
     ensures came { IfOk result (λ next. (history : List Grid)
-        → restarted (script_for B.table_for stage.old.game (R.meant rules.old.plain) (R.meant rules.old.late))
+        → restarted (script_by B.Board R.Rules stage.old.game rules.old)
         (with_board_in_history (play_of history level.old)) None
         ≡ next_step history (Playing level.old) (Some next) stage.new.text) }
     ensures basis { IfOk result (λ next. ComesOnBasis (basis_of B.table_for stage.old.game.names) next) }
@@ -153,16 +152,15 @@ pub fn key_in_level<B: Board, H: History<B>, R: Rules<B>>(
     requires basis { level.old.basis ≡ basis_of B.table_for stage.old.game.names }
     requires boards { AreOnTable (B.table_for stage.old.game.names.layers) (H.boards history.now) }
     ensures game { stage.new.game ≡ stage.old.game }
-    ensures plain { R.meant rules.new.plain ≡ R.meant rules.old.plain }
-    ensures late { R.meant rules.new.late ≡ R.meant rules.old.late }
+    ensures meaning { meaning_of R.Rules rules.new ≡ meaning_of R.Rules rules.old }
     ensures same { level.new ≡ level.old }
     ensures came { IfOk result (λ next.
-        key_in_level (script_for B.table_for stage.old.game (R.meant rules.old.plain) (R.meant rules.old.late))
+        key_in_level (script_by B.Board R.Rules stage.old.game rules.old)
         (play_of (grids_of (H.boards history.now)) level.old) key
         ≡ next_step (grids_of (H.boards history.now)) (Playing level.old) next stage.new.text) }
     ensures stopped { IfErr result (λ stop.
-        IsStopped (script_for B.table_for stage.old.game (R.meant rules.old.plain) (R.meant rules.old.late)) stop
-        (key_in_level (script_for B.table_for stage.old.game (R.meant rules.old.plain) (R.meant rules.old.late))
+        IsStopped (script_by B.Board R.Rules stage.old.game rules.old) stop
+        (key_in_level (script_by B.Board R.Rules stage.old.game rules.old)
         (play_of (grids_of (H.boards history.now)) level.old) key) stage.new.text) }
     ensures basis { IfOk result (λ next. AnswersOnBasis (basis_of B.table_for stage.old.game.names) next) }
     ensures touched { IfOk result (λ next. AnswersFrom (Playing level.old) next) }

@@ -2,8 +2,9 @@
 
 ghost use Rattle.std.specs.Prelude.{◌≡◌, [], true, IfErr, IfOk, None, Ok};
 ghost use Rattle.ps_model.specs.session.KeySteps.{key_step};
+ghost use Rattle.ps_stage.specs.Meanings.{meaning_of, script_by};
 ghost use Rattle.ps_stage.specs.Locations.{location_shown, IsOnBasis};
-ghost use Rattle.ps_stage.specs.Standings.{basis_of, script_for};
+ghost use Rattle.ps_stage.specs.Standings.{basis_of};
 ghost use Rattle.ps_stage.specs.StepsShown.{IsStopped};
 ghost use Rattle.ps_session.specs.Histories.{AreOnTable, grids_of};
 ghost use Rattle.ps_session.specs.IgnoredKeys.{is_ignored};
@@ -35,16 +36,15 @@ pub fn next_at<B: Board, H: History<B>, R: Rules<B>>(
     requires basis { IsOnBasis (basis_of B.table_for stage.old.game.names) location.old }
     requires boards { AreOnTable (B.table_for stage.old.game.names.layers) (H.boards history.now) }
     ensures game { stage.new.game ≡ stage.old.game }
-    ensures plain { R.meant rules.new.plain ≡ R.meant rules.old.plain }
-    ensures late { R.meant rules.new.late ≡ R.meant rules.old.late }
+    ensures meaning { meaning_of R.Rules rules.new ≡ meaning_of R.Rules rules.old }
     ensures same { location.new ≡ location.old }
     ensures came { IfOk result (λ next.
-        key_step (script_for B.table_for stage.old.game (R.meant rules.old.plain) (R.meant rules.old.late))
+        key_step (script_by B.Board R.Rules stage.old.game rules.old)
         (location_shown (grids_of (H.boards history.now)) location.old) key
         ≡ next_step (grids_of (H.boards history.now)) location.old next stage.new.text) }
     ensures stopped { IfErr result (λ stop.
-        IsStopped (script_for B.table_for stage.old.game (R.meant rules.old.plain) (R.meant rules.old.late)) stop
-        (key_step (script_for B.table_for stage.old.game (R.meant rules.old.plain) (R.meant rules.old.late))
+        IsStopped (script_by B.Board R.Rules stage.old.game rules.old) stop
+        (key_step (script_by B.Board R.Rules stage.old.game rules.old)
         (location_shown (grids_of (H.boards history.now)) location.old) key) stage.new.text) }
     ensures basis { IfOk result (λ next. AnswersOnBasis (basis_of B.table_for stage.old.game.names) next) }
     ensures touched { IfOk result (λ next. AnswersFrom location.old next) }

@@ -3,7 +3,8 @@
 ghost use Rattle.std.specs.Prelude.{◌≡◌, [], true, IfErr, IfOk, List, None, Ok};
 ghost use Rattle.ps_model.specs.board.Grid.{Grid};
 ghost use Rattle.ps_model.specs.session.KeySteps.{key_at_entry, key_at_level_message};
-ghost use Rattle.ps_stage.specs.Standings.{basis_of, play_of, script_for};
+ghost use Rattle.ps_stage.specs.Meanings.{meaning_of, script_by};
+ghost use Rattle.ps_stage.specs.Standings.{basis_of, play_of};
 ghost use Rattle.ps_stage.specs.StepsShown.{IsStopped, pending_shown};
 ghost use Rattle.ps_stage.specs.declared.locations.Location.TheVariants.{AtMessage, Waiting};
 ghost use Rattle.ps_session.specs.IgnoredKeys.{is_ignored_at_message};
@@ -34,17 +35,16 @@ pub fn key_at_level_message<B: Board, R: Rules<B>>(
     requires empty { stage.old.text ≡ [] }
     requires basis { level.old.basis ≡ basis_of B.table_for stage.old.game.names }
     ensures game { stage.new.game ≡ stage.old.game }
-    ensures plain { R.meant rules.new.plain ≡ R.meant rules.old.plain }
-    ensures late { R.meant rules.new.late ≡ R.meant rules.old.late }
+    ensures meaning { meaning_of R.Rules rules.new ≡ meaning_of R.Rules rules.old }
     ensures same { level.new ≡ level.old }
     ensures came { IfOk result (λ next. (history : List Grid)
         → key_at_level_message
-        (script_for B.table_for stage.old.game (R.meant rules.old.plain) (R.meant rules.old.late))
+        (script_by B.Board R.Rules stage.old.game rules.old)
         (play_of history level.old) (pending_shown pending) key
         ≡ next_step history (Waiting level.old pending) next stage.new.text) }
     ensures stopped { IfErr result (λ stop. (history : List Grid)
-        → IsStopped (script_for B.table_for stage.old.game (R.meant rules.old.plain) (R.meant rules.old.late)) stop
-        (key_at_level_message (script_for B.table_for stage.old.game (R.meant rules.old.plain) (R.meant rules.old.late))
+        → IsStopped (script_by B.Board R.Rules stage.old.game rules.old) stop
+        (key_at_level_message (script_by B.Board R.Rules stage.old.game rules.old)
         (play_of history level.old) (pending_shown pending) key) stage.new.text) }
     ensures basis { IfOk result (λ next. AnswersOnBasis (basis_of B.table_for stage.old.game.names) next) }
     ensures touched { IfOk result (λ next. AnswersFrom (Waiting level.old pending) next) }
@@ -74,15 +74,14 @@ pub fn key_at_entry<B: Board, R: Rules<B>>(
 ) -> Result<Option<NextLevel<B>>, Stop>
     requires empty { stage.old.text ≡ [] }
     ensures game { stage.new.game ≡ stage.old.game }
-    ensures plain { R.meant rules.new.plain ≡ R.meant rules.old.plain }
-    ensures late { R.meant rules.new.late ≡ R.meant rules.old.late }
+    ensures meaning { meaning_of R.Rules rules.new ≡ meaning_of R.Rules rules.old }
     ensures came { IfOk result (λ next. (history : List Grid)
-        → key_at_entry (script_for B.table_for stage.old.game (R.meant rules.old.plain) (R.meant rules.old.late))
+        → key_at_entry (script_by B.Board R.Rules stage.old.game rules.old)
         entry.now key
         ≡ next_step history (AtMessage entry.now) next stage.new.text) }
     ensures stopped { IfErr result (λ stop.
-        IsStopped (script_for B.table_for stage.old.game (R.meant rules.old.plain) (R.meant rules.old.late)) stop
-        (key_at_entry (script_for B.table_for stage.old.game (R.meant rules.old.plain) (R.meant rules.old.late))
+        IsStopped (script_by B.Board R.Rules stage.old.game rules.old) stop
+        (key_at_entry (script_by B.Board R.Rules stage.old.game rules.old)
         entry.now key) stage.new.text) }
     ensures basis { IfOk result (λ next. AnswersOnBasis (basis_of B.table_for stage.old.game.names) next) }
     ensures touched { IfOk result (λ next. AnswersFrom (AtMessage entry.now) next) }

@@ -29,7 +29,7 @@ pub enum Next<L, S> {
 /// What comes next in a session on these boards.
 pub type NextLevel<B> = Next<PlayedLevel<B>, Columns<<B as Board>::Words>>;
 
-/// What comes of a key in a level, or behind its message.
+/// What comes of a key in a level, or after its message.
 pub fn next_of<B: Board>(change: LevelChange<B>) -> NextLevel<B>
     ensures playing { (history : List Grid) (level : Standing)
         → next_shown history (Playing level) result ≡ change_shown history level change }

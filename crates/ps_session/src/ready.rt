@@ -4,9 +4,10 @@ ghost use Rattle.std.specs.Prelude.{◌≡◌, ◌++◌, ◌≤◌, [], IfOk, On
 ghost use Rattle.ps_model.specs.board.Turns.{Script};
 ghost use Rattle.ps_model.specs.session.Sessions.{Step};
 ghost use Rattle.ps_model.specs.session.StartSteps.{enter};
+ghost use Rattle.ps_stage.specs.Meanings.{meaning_of, script_by};
 ghost use Rattle.ps_stage.specs.Locations.{location_shown, IsOnBasis};
 ghost use Rattle.ps_stage.specs.Sides.{side_at};
-ghost use Rattle.ps_stage.specs.Standings.{basis_of, script_for};
+ghost use Rattle.ps_stage.specs.Standings.{basis_of};
 ghost use Rattle.ps_stage.specs.StepsShown.{IsStopped};
 ghost use Rattle.ps_session.specs.Behind.{IsBehind};
 ghost use Rattle.ps_session.specs.Histories.{grids_of};
@@ -74,7 +75,7 @@ pub fn prepare<B: Board, H: History<B>>(
 }
 
 /// What a key comes to that stopped. Where it leads elsewhere, the text before that is added to the output; without
-/// memory for that it is as if memory had been wanting before, and the output stays as it is.
+/// memory for that it is as if it had run out before, and the output stays as it is.
 pub fn tell_stop<B: Board>(stage: &mut Stage<'_, B>, stop: Stop, output: &mut OutputText) -> Stop
     ensures game { stage.new.game ≡ stage.old.game }
     ensures left { (script : Script) (step : Step) → IsStopped script stop step stage.old.text
@@ -103,14 +104,13 @@ pub fn begin<B: Board, R: Rules<B>>(
     requires empty { stage.old.text ≡ [] }
     requires room { side_at stage.old.game.entries entry ≤ B.Words.limit }
     ensures game { stage.new.game ≡ stage.old.game }
-    ensures plain { R.meant rules.new.plain ≡ R.meant rules.old.plain }
-    ensures late { R.meant rules.new.late ≡ R.meant rules.old.late }
+    ensures meaning { meaning_of R.Rules rules.new ≡ meaning_of R.Rules rules.old }
     ensures basis { IfOk result (λ location. IsOnBasis (basis_of B.table_for stage.old.game.names) location) }
     ensures shown { IfOk result (λ location. location_shown [] location
-        ≡ (enter (script_for B.table_for stage.old.game (R.meant rules.old.plain) (R.meant rules.old.late))
+        ≡ (enter (script_by B.Board R.Rules stage.old.game rules.old)
         entry).session) }
     ensures written { OnOk result (output.new ≡ output.old
-        ++ (enter (script_for B.table_for stage.old.game (R.meant rules.old.plain) (R.meant rules.old.late))
+        ++ (enter (script_by B.Board R.Rules stage.old.game rules.old)
         entry).text) }
     ensures kept { OnErr result (output.new ≡ output.old) }
 {

@@ -32,7 +32,7 @@ pub struct Session<'g, B: Board, H: History<B>> {
     behind: Option<Columns<B::Words>>,
 }
 
-/// Written out, so that who owns a session calls this on each way out, instead of dropping its parts there.
+/// Written out, so that a function that owns a session calls this where it returns, instead of dropping its parts.
 impl<'g, B: Board, H: History<B>> Drop for Session<'g, B, H> {
     fn drop(self) {
         let Session {

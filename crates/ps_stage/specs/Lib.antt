@@ -6,3 +6,4 @@ pub mod Sides
 pub mod Standings
 pub mod StepsShown
 pub mod Touched
+pub mod Meanings

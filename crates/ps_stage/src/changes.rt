@@ -1,4 +1,4 @@
-//! What comes of a key in a level: a turn with an input, and going on behind a message.
+//! What comes of a key in a level: a turn with an input, and going on after a message.
 
 ghost use Rattle.std.specs.Prelude.{◌≡◌, IfErr, IfOk, IfSome, OnOk, List, Some, false};
 ghost use Rattle.ps_model.specs.board.Grid.{Grid};
@@ -9,9 +9,10 @@ ghost use Rattle.ps_model.specs.board.Turns.{turn};
 ghost use Rattle.ps_model.specs.session.KeySteps.{blocked, all_key_turns, gone_on, input_taken, key_turns, turn_taken};
 ghost use Rattle.ps_model.specs.session.StartSteps.{level_done, start_turns};
 ghost use Rattle.ps_turn.specs.States.{done_shown};
+ghost use Rattle.ps_stage.specs.Meanings.{meaning_of, script_by};
 ghost use Rattle.ps_stage.specs.KeysShown.{IsNext, key_end_step, key_shown, tried_outcome};
 ghost use Rattle.ps_stage.specs.Locations.{change_shown, history_behind, history_change_if, GoesOnBasis};
-ghost use Rattle.ps_stage.specs.Standings.{Standing, basis_of, play_of, script_for};
+ghost use Rattle.ps_stage.specs.Standings.{Standing, basis_of, play_of};
 ghost use Rattle.ps_stage.specs.StepsShown.{IsStopped, came, stands, pending_shown};
 ghost use Rattle.ps_stage.specs.Touched.{AreTouched, GoesFrom, IsTouchedBy};
 
@@ -68,18 +69,17 @@ impl<'g, B: Board> Stage<'g, B> {
         level: &PlayedLevel<B>,
     ) -> Result<LevelChange<B>, Stop>
         ensures game { self.new.game ≡ self.old.game }
-        ensures plain { R.meant rules.new.plain ≡ R.meant rules.old.plain }
-        ensures late { R.meant rules.new.late ≡ R.meant rules.old.late }
+        ensures meaning { meaning_of R.Rules rules.new ≡ meaning_of R.Rules rules.old }
         ensures basis { IfOk result (λ change. GoesOnBasis (basis_of B.table_for self.old.game.names) change) }
         ensures touched { IfOk result (λ change. (before : Grid) → GoesFrom before change) }
         ensures came { IfOk result (λ change. (history before : List Grid) (first : Standing) → after self.old.text
-            (level_done (script_for B.table_for self.old.game (R.meant rules.old.plain) (R.meant rules.old.late))
+            (level_done (script_by B.Board R.Rules self.old.game rules.old)
             (play_of history level.now))
             ≡ came (change_shown before first change) self.new.text) }
         ensures stopped { IfErr result (λ stop. (history : List Grid)
-            → IsStopped (script_for B.table_for self.old.game (R.meant rules.old.plain) (R.meant rules.old.late)) stop
+            → IsStopped (script_by B.Board R.Rules self.old.game rules.old) stop
             (after self.old.text
-            (level_done (script_for B.table_for self.old.game (R.meant rules.old.plain) (R.meant rules.old.late))
+            (level_done (script_by B.Board R.Rules self.old.game rules.old)
             (play_of history level.now)))
             self.new.text) }
     {
@@ -99,18 +99,17 @@ impl<'g, B: Board> Stage<'g, B> {
     ) -> Result<LevelChange<B>, Stop>
         requires { level.basis ≡ basis_of B.table_for self.old.game.names }
         ensures game { self.new.game ≡ self.old.game }
-        ensures plain { R.meant rules.new.plain ≡ R.meant rules.old.plain }
-        ensures late { R.meant rules.new.late ≡ R.meant rules.old.late }
+        ensures meaning { meaning_of R.Rules rules.new ≡ meaning_of R.Rules rules.old }
         ensures basis { IfOk result (λ change. GoesOnBasis (basis_of B.table_for self.old.game.names) change) }
         ensures touched { IfOk result (λ change. (before : Grid)
             → IfSome rows (λ rows. AreTouched rows before level.board) → GoesFrom before change) }
         ensures came { IfOk result (λ change. (history : List Grid) (first : Standing)
-            → key_end_step (script_for B.table_for self.old.game (R.meant rules.old.plain) (R.meant rules.old.late))
+            → key_end_step (script_by B.Board R.Rules self.old.game rules.old)
             end (play_of (history_behind history_change history first.board) level) self.old.text
             ≡ came (change_shown history first change) self.new.text) }
         ensures stopped { IfErr result (λ stop. (history : List Grid) (first : Standing)
-            → IsStopped (script_for B.table_for self.old.game (R.meant rules.old.plain) (R.meant rules.old.late)) stop
-            (key_end_step (script_for B.table_for self.old.game (R.meant rules.old.plain) (R.meant rules.old.late)) end
+            → IsStopped (script_by B.Board R.Rules self.old.game rules.old) stop
+            (key_end_step (script_by B.Board R.Rules self.old.game rules.old) end
             (play_of (history_behind history_change history first.board) level) self.old.text) self.new.text) }
     {
         match end {
@@ -142,16 +141,15 @@ impl<'g, B: Board> Stage<'g, B> {
     ) -> Result<KeyEnd, Memory>
         requires { level.old.basis ≡ basis_of B.table_for self.old.game.names }
         ensures game { self.new.game ≡ self.old.game }
-        ensures plain { R.meant rules.new.plain ≡ R.meant rules.old.plain }
-        ensures late { R.meant rules.new.late ≡ R.meant rules.old.late }
+        ensures meaning { meaning_of R.Rules rules.new ≡ meaning_of R.Rules rules.old }
         ensures basis { level.new.basis ≡ level.old.basis }
         ensures ends { done.now.again ≡ false → OnOk result (level.new.board ≡ level.old.board) }
         ensures came { IfOk result (λ end. (history : List Grid)
             → after self.old.text
-            (key_shown (script_for B.table_for self.old.game (R.meant rules.old.plain) (R.meant rules.old.late))
+            (key_shown (script_by B.Board R.Rules self.old.game rules.old)
             (play_of history level.old) (done_shown done.now level.old.board) AGAIN_LIMIT
-            (all_key_turns (script_for B.table_for self.old.game (R.meant rules.old.plain) (R.meant rules.old.late))))
-            ≡ key_end_step (script_for B.table_for self.old.game (R.meant rules.old.plain) (R.meant rules.old.late)) end
+            (all_key_turns (script_by B.Board R.Rules self.old.game rules.old)))
+            ≡ key_end_step (script_by B.Board R.Rules self.old.game rules.old) end
             (play_of history level.new) self.new.text) }
     {
         let most = again_limit();
@@ -162,7 +160,7 @@ impl<'g, B: Board> Stage<'g, B> {
     }
 
     /// What follows a done turn of a key, of which this level came: its frame, its message, the end of the level or
-    /// again turns. If memory is wanting, the boards of the level are spare.
+    /// again turns. If memory runs out, the boards of the level are spare.
     fn follow_key<R: Rules<B>>(
         &mut self,
         rules: &mut TurnRules<R>,
@@ -172,25 +170,24 @@ impl<'g, B: Board> Stage<'g, B> {
     ) -> Result<LevelChange<B>, Stop>
         requires { level.basis ≡ basis_of B.table_for self.old.game.names }
         ensures game { self.new.game ≡ self.old.game }
-        ensures plain { R.meant rules.new.plain ≡ R.meant rules.old.plain }
-        ensures late { R.meant rules.new.late ≡ R.meant rules.old.late }
+        ensures meaning { meaning_of R.Rules rules.new ≡ meaning_of R.Rules rules.old }
         ensures basis { IfOk result (λ change. GoesOnBasis (basis_of B.table_for self.old.game.names) change) }
         ensures touched { IfOk result (λ change. (before : Grid)
             → AreTouched rows before level.board → GoesFrom before change) }
         ensures came { IfOk result (λ change. (history : List Grid) (first : Standing)
             → after self.old.text
-            (key_shown (script_for B.table_for self.old.game (R.meant rules.old.plain) (R.meant rules.old.late))
+            (key_shown (script_by B.Board R.Rules self.old.game rules.old)
             (play_of (history_behind (history_change_if done.now.changed) history first.board) level)
             (done_shown done.now level.board) AGAIN_LIMIT
-            (all_key_turns (script_for B.table_for self.old.game (R.meant rules.old.plain) (R.meant rules.old.late))))
+            (all_key_turns (script_by B.Board R.Rules self.old.game rules.old)))
             ≡ came (change_shown history first change) self.new.text) }
         ensures stopped { IfErr result (λ stop. (history : List Grid) (first : Standing)
-            → IsStopped (script_for B.table_for self.old.game (R.meant rules.old.plain) (R.meant rules.old.late)) stop
+            → IsStopped (script_by B.Board R.Rules self.old.game rules.old) stop
             (after self.old.text
-            (key_shown (script_for B.table_for self.old.game (R.meant rules.old.plain) (R.meant rules.old.late))
+            (key_shown (script_by B.Board R.Rules self.old.game rules.old)
             (play_of (history_behind (history_change_if done.now.changed) history first.board) level)
             (done_shown done.now level.board) AGAIN_LIMIT
-            (all_key_turns (script_for B.table_for self.old.game (R.meant rules.old.plain) (R.meant rules.old.late)))))
+            (all_key_turns (script_by B.Board R.Rules self.old.game rules.old))))
             self.new.text) }
     {
         let history_change = history_change_if(done.changed);
@@ -214,10 +211,9 @@ impl<'g, B: Board> Stage<'g, B> {
         requires { level.old.basis ≡ basis_of B.table_for self.old.game.names }
         ensures stage { self.new ≡ self.old }
         ensures level { level.new ≡ level.old }
-        ensures plain { R.meant rules.new.plain ≡ R.meant rules.old.plain }
-        ensures late { R.meant rules.new.late ≡ R.meant rules.old.late }
+        ensures meaning { meaning_of R.Rules rules.new ≡ meaning_of R.Rules rules.old }
         ensures outcome { IfOk result (λ tried. tried_outcome tried
-            ≡ turn (script_for B.table_for self.old.game (R.meant rules.old.plain) (R.meant rules.old.late))
+            ≡ turn (script_by B.Board R.Rules self.old.game rules.old)
             (Some input) level.old.board) }
         ensures next { IfOk result (λ tried. IsNext level.old tried) }
         ensures touched { IfOk result (λ tried. IsTouchedBy level.old.board tried) }
@@ -244,18 +240,17 @@ impl<'g, B: Board> Stage<'g, B> {
         requires touched { IsTouchedBy level.old.board tried }
         ensures level { level.new ≡ level.old }
         ensures game { self.new.game ≡ self.old.game }
-        ensures plain { R.meant rules.new.plain ≡ R.meant rules.old.plain }
-        ensures late { R.meant rules.new.late ≡ R.meant rules.old.late }
+        ensures meaning { meaning_of R.Rules rules.new ≡ meaning_of R.Rules rules.old }
         ensures basis { IfOk result (λ change. GoesOnBasis (basis_of B.table_for self.old.game.names) change) }
         ensures touched { IfOk result (λ change. GoesFrom level.old.board change) }
         ensures came { IfOk result (λ change. (history : List Grid) → after self.old.text
-            (turn_taken (script_for B.table_for self.old.game (R.meant rules.old.plain) (R.meant rules.old.late))
+            (turn_taken (script_by B.Board R.Rules self.old.game rules.old)
             (play_of history level.old) (tried_outcome tried))
             ≡ came (change_shown history level.old change) self.new.text) }
         ensures stopped { IfErr result (λ stop. (history : List Grid)
-            → IsStopped (script_for B.table_for self.old.game (R.meant rules.old.plain) (R.meant rules.old.late)) stop
+            → IsStopped (script_by B.Board R.Rules self.old.game rules.old) stop
             (after self.old.text
-            (turn_taken (script_for B.table_for self.old.game (R.meant rules.old.plain) (R.meant rules.old.late))
+            (turn_taken (script_by B.Board R.Rules self.old.game rules.old)
             (play_of history level.old) (tried_outcome tried)))
             self.new.text) }
     {
@@ -293,18 +288,17 @@ impl<'g, B: Board> Stage<'g, B> {
         requires { level.old.basis ≡ basis_of B.table_for self.old.game.names }
         ensures level { level.new ≡ level.old }
         ensures game { self.new.game ≡ self.old.game }
-        ensures plain { R.meant rules.new.plain ≡ R.meant rules.old.plain }
-        ensures late { R.meant rules.new.late ≡ R.meant rules.old.late }
+        ensures meaning { meaning_of R.Rules rules.new ≡ meaning_of R.Rules rules.old }
         ensures basis { IfOk result (λ change. GoesOnBasis (basis_of B.table_for self.old.game.names) change) }
         ensures touched { IfOk result (λ change. GoesFrom level.old.board change) }
         ensures came { IfOk result (λ change. (history : List Grid) → after self.old.text
-            (input_taken (script_for B.table_for self.old.game (R.meant rules.old.plain) (R.meant rules.old.late))
+            (input_taken (script_by B.Board R.Rules self.old.game rules.old)
             (play_of history level.old) input)
             ≡ came (change_shown history level.old change) self.new.text) }
         ensures stopped { IfErr result (λ stop. (history : List Grid)
-            → IsStopped (script_for B.table_for self.old.game (R.meant rules.old.plain) (R.meant rules.old.late)) stop
+            → IsStopped (script_by B.Board R.Rules self.old.game rules.old) stop
             (after self.old.text
-            (input_taken (script_for B.table_for self.old.game (R.meant rules.old.plain) (R.meant rules.old.late))
+            (input_taken (script_by B.Board R.Rules self.old.game rules.old)
             (play_of history level.old) input))
             self.new.text) }
     {
@@ -322,7 +316,7 @@ impl<'g, B: Board> Stage<'g, B> {
         level.try_copy(self.alloc, &mut self.spares, self.game.names())
     }
 
-    /// The again turns of a key that are left come behind a message.
+    /// The again turns of a key that are left come after a message.
     fn go_on_with_key<R: Rules<B>>(
         &mut self,
         rules: &mut TurnRules<R>,
@@ -332,18 +326,17 @@ impl<'g, B: Board> Stage<'g, B> {
         requires { level.old.basis ≡ basis_of B.table_for self.old.game.names }
         ensures level { level.new ≡ level.old }
         ensures game { self.new.game ≡ self.old.game }
-        ensures plain { R.meant rules.new.plain ≡ R.meant rules.old.plain }
-        ensures late { R.meant rules.new.late ≡ R.meant rules.old.late }
+        ensures meaning { meaning_of R.Rules rules.new ≡ meaning_of R.Rules rules.old }
         ensures basis { IfOk result (λ change. GoesOnBasis (basis_of B.table_for self.old.game.names) change) }
         ensures touched { IfOk result (λ change. (before : Grid) → GoesFrom before change) }
         ensures came { IfOk result (λ change. (history : List Grid) (first : Standing) → after self.old.text
-            (key_turns (script_for B.table_for self.old.game (R.meant rules.old.plain) (R.meant rules.old.late)) left
+            (key_turns (script_by B.Board R.Rules self.old.game rules.old) left
             (play_of history level.old))
             ≡ came (change_shown history first change) self.new.text) }
         ensures stopped { IfErr result (λ stop. (history : List Grid)
-            → IsStopped (script_for B.table_for self.old.game (R.meant rules.old.plain) (R.meant rules.old.late)) stop
+            → IsStopped (script_by B.Board R.Rules self.old.game rules.old) stop
             (after self.old.text
-            (key_turns (script_for B.table_for self.old.game (R.meant rules.old.plain) (R.meant rules.old.late)) left
+            (key_turns (script_by B.Board R.Rules self.old.game rules.old) left
             (play_of history level.old)))
             self.new.text) }
     {
@@ -352,7 +345,7 @@ impl<'g, B: Board> Stage<'g, B> {
         self.finish_key(rules, next, end, HistoryChange::Keeps, None)
     }
 
-    /// The again turns of a start that are left come behind a message.
+    /// The again turns of a start that are left come after a message.
     fn go_on_with_start<R: Rules<B>>(
         &mut self,
         rules: &mut TurnRules<R>,
@@ -362,18 +355,17 @@ impl<'g, B: Board> Stage<'g, B> {
         requires { level.old.basis ≡ basis_of B.table_for self.old.game.names }
         ensures level { level.new ≡ level.old }
         ensures game { self.new.game ≡ self.old.game }
-        ensures plain { R.meant rules.new.plain ≡ R.meant rules.old.plain }
-        ensures late { R.meant rules.new.late ≡ R.meant rules.old.late }
+        ensures meaning { meaning_of R.Rules rules.new ≡ meaning_of R.Rules rules.old }
         ensures basis { IfOk result (λ change. GoesOnBasis (basis_of B.table_for self.old.game.names) change) }
         ensures touched { IfOk result (λ change. (before : Grid) → GoesFrom before change) }
         ensures came { IfOk result (λ change. (history : List Grid) (first : Standing) → after self.old.text
-            (start_turns (script_for B.table_for self.old.game (R.meant rules.old.plain) (R.meant rules.old.late)) left
+            (start_turns (script_by B.Board R.Rules self.old.game rules.old) left
             (play_of history level.old))
             ≡ came (change_shown history first change) self.new.text) }
         ensures stopped { IfErr result (λ stop. (history : List Grid)
-            → IsStopped (script_for B.table_for self.old.game (R.meant rules.old.plain) (R.meant rules.old.late)) stop
+            → IsStopped (script_by B.Board R.Rules self.old.game rules.old) stop
             (after self.old.text
-            (start_turns (script_for B.table_for self.old.game (R.meant rules.old.plain) (R.meant rules.old.late)) left
+            (start_turns (script_by B.Board R.Rules self.old.game rules.old) left
             (play_of history level.old)))
             self.new.text) }
     {
@@ -382,7 +374,7 @@ impl<'g, B: Board> Stage<'g, B> {
         Ok(Change::Goes(located(next, pending), HistoryChange::Keeps, None))
     }
 
-    /// Goes on behind a message of a level that was dismissed. The level stays as it is. Where nothing is to come, no
+    /// Goes on after a message of a level that was dismissed. The level stays as it is. Where nothing is to come, no
     /// memory is taken.
     ///
     /// # Errors
@@ -398,18 +390,17 @@ impl<'g, B: Board> Stage<'g, B> {
         requires { level.old.basis ≡ basis_of B.table_for self.old.game.names }
         ensures level { level.new ≡ level.old }
         ensures game { self.new.game ≡ self.old.game }
-        ensures plain { R.meant rules.new.plain ≡ R.meant rules.old.plain }
-        ensures late { R.meant rules.new.late ≡ R.meant rules.old.late }
+        ensures meaning { meaning_of R.Rules rules.new ≡ meaning_of R.Rules rules.old }
         ensures basis { IfOk result (λ change. GoesOnBasis (basis_of B.table_for self.old.game.names) change) }
         ensures touched { IfOk result (λ change. (before : Grid) → GoesFrom before change) }
         ensures came { IfOk result (λ change. (history : List Grid) → after self.old.text
-            (gone_on (script_for B.table_for self.old.game (R.meant rules.old.plain) (R.meant rules.old.late))
+            (gone_on (script_by B.Board R.Rules self.old.game rules.old)
             (play_of history level.old) (pending_shown pending))
             ≡ came (change_shown history level.old change) self.new.text) }
         ensures stopped { IfErr result (λ stop. (history : List Grid)
-            → IsStopped (script_for B.table_for self.old.game (R.meant rules.old.plain) (R.meant rules.old.late)) stop
+            → IsStopped (script_by B.Board R.Rules self.old.game rules.old) stop
             (after self.old.text
-            (gone_on (script_for B.table_for self.old.game (R.meant rules.old.plain) (R.meant rules.old.late))
+            (gone_on (script_by B.Board R.Rules self.old.game rules.old)
             (play_of history level.old) (pending_shown pending)))
             self.new.text) }
     {

@@ -7,8 +7,9 @@ ghost use Rattle.ps_model.specs.session.LevelLines.{LevelEntry};
 ghost use Rattle.ps_model.specs.session.Sessions.{after, level_number};
 ghost use Rattle.ps_model.specs.session.StartSteps.{entered, enter, level_done, restarted};
 ghost use Rattle.ps_levels.specs.EntriesShown.{entries_shown};
+ghost use Rattle.ps_stage.specs.Meanings.{meaning_of, script_by};
 ghost use Rattle.ps_stage.specs.Playable.{IsPlayable, LevelFits};
-ghost use Rattle.ps_stage.specs.Standings.{Basis, basis_of, play_of, script_for, script_of};
+ghost use Rattle.ps_stage.specs.Standings.{Basis, basis_of, play_of, script_of};
 ghost use Rattle.ps_stage.specs.Sides.{side_at};
 ghost use Rattle.ps_stage.specs.StepsShown.{IsStopped, came, stands};
 ghost use Rattle.ps_stage.specs.Locations.{location_shown, IsOnBasis};
@@ -56,11 +57,10 @@ impl<'g, B: Board> Stage<'g, B> {
         requires fits { LevelFits B.Words.limit level.now }
         requires number { number ≡ level_number (script_of self.old.game [] []) entry }
         ensures game { self.new.game ≡ self.old.game }
-        ensures plain { R.meant rules.new.plain ≡ R.meant rules.old.plain }
-        ensures late { R.meant rules.new.late ≡ R.meant rules.old.late }
+        ensures meaning { meaning_of R.Rules rules.new ≡ meaning_of R.Rules rules.old }
         ensures basis { IfOk result (λ location. IsOnBasis (basis_of B.table_for self.old.game.names) location) }
         ensures came { IfOk result (λ location. after self.old.text
-            (entered (script_for B.table_for self.old.game (R.meant rules.old.plain) (R.meant rules.old.late))
+            (entered (script_by B.Board R.Rules self.old.game rules.old)
             entry (Some (LevelEntry level.now)))
             ≡ came (location_shown [] location) self.new.text) }
     {
@@ -76,7 +76,7 @@ impl<'g, B: Board> Stage<'g, B> {
         Ok(located(played, pending))
     }
 
-    /// An entry begins for which its boards have room: a message waits, a level starts; behind the last entry is the
+    /// An entry begins for which its boards have room: a message waits, a level starts; after the last entry is the
     /// end.
     ///
     /// # Errors
@@ -89,11 +89,10 @@ impl<'g, B: Board> Stage<'g, B> {
     ) -> Result<Location<PlayedLevel<B>>, Memory>
         requires { side_at self.old.game.entries entry ≤ B.Words.limit }
         ensures game { self.new.game ≡ self.old.game }
-        ensures plain { R.meant rules.new.plain ≡ R.meant rules.old.plain }
-        ensures late { R.meant rules.new.late ≡ R.meant rules.old.late }
+        ensures meaning { meaning_of R.Rules rules.new ≡ meaning_of R.Rules rules.old }
         ensures basis { IfOk result (λ location. IsOnBasis (basis_of B.table_for self.old.game.names) location) }
         ensures came { IfOk result (λ location. after self.old.text
-            (enter (script_for B.table_for self.old.game (R.meant rules.old.plain) (R.meant rules.old.late)) entry)
+            (enter (script_by B.Board R.Rules self.old.game rules.old) entry)
             ≡ came (location_shown [] location) self.new.text) }
     {
         let entries = self.entries();
@@ -125,16 +124,15 @@ impl<'g, B: Board> Stage<'g, B> {
         entry: usize,
     ) -> Result<Location<PlayedLevel<B>>, Stop>
         ensures game { self.new.game ≡ self.old.game }
-        ensures plain { R.meant rules.new.plain ≡ R.meant rules.old.plain }
-        ensures late { R.meant rules.new.late ≡ R.meant rules.old.late }
+        ensures meaning { meaning_of R.Rules rules.new ≡ meaning_of R.Rules rules.old }
         ensures basis { IfOk result (λ location. IsOnBasis (basis_of B.table_for self.old.game.names) location) }
         ensures came { IfOk result (λ location. after self.old.text
-            (enter (script_for B.table_for self.old.game (R.meant rules.old.plain) (R.meant rules.old.late)) entry)
+            (enter (script_by B.Board R.Rules self.old.game rules.old) entry)
             ≡ came (location_shown [] location) self.new.text) }
         ensures stopped { IfErr result (λ stop.
-            IsStopped (script_for B.table_for self.old.game (R.meant rules.old.plain) (R.meant rules.old.late)) stop
+            IsStopped (script_by B.Board R.Rules self.old.game rules.old) stop
             (after self.old.text
-            (enter (script_for B.table_for self.old.game (R.meant rules.old.plain) (R.meant rules.old.late)) entry))
+            (enter (script_by B.Board R.Rules self.old.game rules.old) entry))
             self.new.text) }
     {
         if !self.sides.has(side_at(self.entries(), entry)) {
@@ -155,17 +153,16 @@ impl<'g, B: Board> Stage<'g, B> {
         level: &PlayedLevel<B>,
     ) -> Result<Location<PlayedLevel<B>>, Stop>
         ensures game { self.new.game ≡ self.old.game }
-        ensures plain { R.meant rules.new.plain ≡ R.meant rules.old.plain }
-        ensures late { R.meant rules.new.late ≡ R.meant rules.old.late }
+        ensures meaning { meaning_of R.Rules rules.new ≡ meaning_of R.Rules rules.old }
         ensures basis { IfOk result (λ location. IsOnBasis (basis_of B.table_for self.old.game.names) location) }
         ensures came { IfOk result (λ location. (history : List Grid) → after self.old.text
-            (level_done (script_for B.table_for self.old.game (R.meant rules.old.plain) (R.meant rules.old.late))
+            (level_done (script_by B.Board R.Rules self.old.game rules.old)
             (play_of history level.now))
             ≡ came (location_shown [] location) self.new.text) }
         ensures stopped { IfErr result (λ stop. (history : List Grid)
-            → IsStopped (script_for B.table_for self.old.game (R.meant rules.old.plain) (R.meant rules.old.late)) stop
+            → IsStopped (script_by B.Board R.Rules self.old.game rules.old) stop
             (after self.old.text
-            (level_done (script_for B.table_for self.old.game (R.meant rules.old.plain) (R.meant rules.old.late))
+            (level_done (script_by B.Board R.Rules self.old.game rules.old)
             (play_of history level.now))) self.new.text) }
     {
         let entry = level.entry();
@@ -189,11 +186,10 @@ impl<'g, B: Board> Stage<'g, B> {
         requires { level.old.basis ≡ basis_of B.table_for self.old.game.names }
         ensures level { level.new ≡ level.old }
         ensures game { self.new.game ≡ self.old.game }
-        ensures plain { R.meant rules.new.plain ≡ R.meant rules.old.plain }
-        ensures late { R.meant rules.new.late ≡ R.meant rules.old.late }
+        ensures meaning { meaning_of R.Rules rules.new ≡ meaning_of R.Rules rules.old }
         ensures basis { IfOk result (λ location. IsOnBasis (basis_of B.table_for self.old.game.names) location) }
         ensures came { IfOk result (λ location. (history : List Grid) → after self.old.text
-            (restarted (script_for B.table_for self.old.game (R.meant rules.old.plain) (R.meant rules.old.late))
+            (restarted (script_by B.Board R.Rules self.old.game rules.old)
             (play_of history level.old) message)
             ≡ came (location_shown history location) self.new.text) }
     {

@@ -139,7 +139,7 @@ impl<'g> SessionGame<'g> {
         }
     }
 
-    /// The longer side of the level at a place among the entries; 0 for a message, and behind the last entry.
+    /// The longer side of the level at a place among the entries; 0 for a message, and after the last entry.
     pub fn side_at(&self, place: usize) -> u32
         ensures { result ≡ side_at self.now.entries place }
     {

@@ -7,8 +7,9 @@ ghost use Rattle.ps_model.specs.board.Turns.{Script};
 ghost use Rattle.ps_model.specs.session.Sessions.{Play, Step, after};
 ghost use Rattle.ps_model.specs.session.KeySteps.{key_pending, key_told, key_turns, all_key_turns};
 ghost use Rattle.ps_turn.specs.States.{done_shown};
+ghost use Rattle.ps_stage.specs.Meanings.{meaning_of, script_by};
 ghost use Rattle.ps_stage.specs.KeysShown.{is_going_on, key_end_step, key_outcome_shown, key_shown, key_told_step};
-ghost use Rattle.ps_stage.specs.Standings.{basis_of, play_of, script_for, script_of};
+ghost use Rattle.ps_stage.specs.Standings.{basis_of, play_of, script_of};
 ghost use Rattle.ps_stage.specs.StepsShown.{pending_shown};
 
 use crate::levels::{Counting, PlayedLevel};
@@ -19,7 +20,7 @@ use ps_board::Board;
 use ps_model::Memory;
 use ps_turn::{DoneTurn, Rules, TurnRules, Turned};
 
-/// What a turn of a key leaves to come behind its message.
+/// What a turn of a key leaves to come after its message.
 fn key_pending(win: bool, again: bool, left: u32) -> Pending
     ensures { pending_shown result ≡ key_pending win again left }
 {
@@ -33,7 +34,7 @@ fn key_pending(win: bool, again: bool, left: u32) -> Pending
 }
 
 impl<'g, B: Board> Stage<'g, B> {
-    /// Tells what comes behind a frame of a key: a message waits; without one the level ends on a win; otherwise the
+    /// Tells what comes after a frame of a key: a message waits; without one the level ends on a win; otherwise the
     /// again turns come, if the turn is to come again.
     fn tell_key(&mut self, done: &DoneTurn, left: u32) -> Result<KeyTold, Memory>
         ensures game { self.new.game ≡ self.old.game }
@@ -55,7 +56,7 @@ impl<'g, B: Board> Stage<'g, B> {
         Ok(KeyTold::Ends(KeyEnd::Stops(None)))
     }
 
-    /// Shows the board behind a done turn of a key, and tells what comes behind the frame.
+    /// Shows the board after a done turn of a key, and tells what comes after the frame.
     pub(crate) fn tell_key_turn(
         &mut self,
         level: &mut PlayedLevel<B>,
@@ -121,22 +122,21 @@ impl<'g, B: Board> Stage<'g, B> {
     ) -> Result<KeyTold, Memory>
         requires { level.old.basis ≡ basis_of B.table_for self.old.game.names }
         ensures game { self.new.game ≡ self.old.game }
-        ensures plain { R.meant rules.new.plain ≡ R.meant rules.old.plain }
-        ensures late { R.meant rules.new.late ≡ R.meant rules.old.late }
+        ensures meaning { meaning_of R.Rules rules.new ≡ meaning_of R.Rules rules.old }
         ensures basis { level.new.basis ≡ level.old.basis }
         ensures told { IfOk result (λ told. (history : List Grid) → after self.old.text
-            (key_turns (script_for B.table_for self.old.game (R.meant rules.old.plain) (R.meant rules.old.late))
+            (key_turns (script_by B.Board R.Rules self.old.game rules.old)
             (suc left) (play_of history level.old))
-            ≡ key_told_step (script_for B.table_for self.old.game (R.meant rules.old.plain) (R.meant rules.old.late))
+            ≡ key_told_step (script_by B.Board R.Rules self.old.game rules.old)
             told (play_of history level.new) self.new.text
-            (key_turns (script_for B.table_for self.old.game (R.meant rules.old.plain) (R.meant rules.old.late))
+            (key_turns (script_by B.Board R.Rules self.old.game rules.old)
             left)) }
     {
         let turned = self.take_turn(rules, level, Counting::IfChangedOrWon)?;
         self.tell_key_outcome(level, turned, left)
     }
 
-    /// The again turns of a key, so many at most.
+    /// The again turns of a key, at most `most`.
     pub(crate) fn key_turns<R: Rules<B>>(
         &mut self,
         rules: &mut TurnRules<R>,
@@ -145,13 +145,12 @@ impl<'g, B: Board> Stage<'g, B> {
     ) -> Result<KeyEnd, Memory>
         requires { level.old.basis ≡ basis_of B.table_for self.old.game.names }
         ensures game { self.new.game ≡ self.old.game }
-        ensures plain { R.meant rules.new.plain ≡ R.meant rules.old.plain }
-        ensures late { R.meant rules.new.late ≡ R.meant rules.old.late }
+        ensures meaning { meaning_of R.Rules rules.new ≡ meaning_of R.Rules rules.old }
         ensures basis { level.new.basis ≡ level.old.basis }
         ensures came { IfOk result (λ end. (history : List Grid) → after self.old.text
-            (key_turns (script_for B.table_for self.old.game (R.meant rules.old.plain) (R.meant rules.old.late)) most
+            (key_turns (script_by B.Board R.Rules self.old.game rules.old) most
             (play_of history level.old))
-            ≡ key_end_step (script_for B.table_for self.old.game (R.meant rules.old.plain) (R.meant rules.old.late)) end
+            ≡ key_end_step (script_by B.Board R.Rules self.old.game rules.old) end
             (play_of history level.new) self.new.text) }
     {
         let mut left = most;
@@ -173,13 +172,12 @@ impl<'g, B: Board> Stage<'g, B> {
     ) -> Result<KeyEnd, Memory>
         requires { level.old.basis ≡ basis_of B.table_for self.old.game.names }
         ensures game { self.new.game ≡ self.old.game }
-        ensures plain { R.meant rules.new.plain ≡ R.meant rules.old.plain }
-        ensures late { R.meant rules.new.late ≡ R.meant rules.old.late }
+        ensures meaning { meaning_of R.Rules rules.new ≡ meaning_of R.Rules rules.old }
         ensures basis { level.new.basis ≡ level.old.basis }
         ensures came { IfOk result (λ end. (history : List Grid) → after self.old.text
-            (all_key_turns (script_for B.table_for self.old.game (R.meant rules.old.plain) (R.meant rules.old.late))
+            (all_key_turns (script_by B.Board R.Rules self.old.game rules.old)
             (play_of history level.old))
-            ≡ key_end_step (script_for B.table_for self.old.game (R.meant rules.old.plain) (R.meant rules.old.late)) end
+            ≡ key_end_step (script_by B.Board R.Rules self.old.game rules.old) end
             (play_of history level.new) self.new.text) }
     {
         let most = again_limit();

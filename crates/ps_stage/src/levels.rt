@@ -8,10 +8,11 @@ ghost use Rattle.ps_model.specs.session.Rooms.{frame_in};
 ghost use Rattle.ps_model.specs.session.StartSteps.{first_room};
 ghost use Rattle.ps_screen.specs.FrameTexts.{IsFrameOf};
 ghost use Rattle.ps_turn.specs.States.{HaveSameSides, outcome_shown, is_done};
+ghost use Rattle.ps_stage.specs.Meanings.{meaning_of, script_by};
 ghost use Rattle.ps_stage.specs.KeysShown.{IsNext, tried_outcome};
 ghost use Rattle.ps_stage.specs.Playable.{IsPlayable, LevelFits};
 ghost use Rattle.ps_stage.specs.Touched.{AreTouched, IsTouchedBy};
-ghost use Rattle.ps_stage.specs.Standings.{basis_of, script_for, seen_level, with_done};
+ghost use Rattle.ps_stage.specs.Standings.{basis_of, seen_level, with_done};
 ghost use Rattle.ps_stage.specs.StepsShown.{board_taken, counts, taken};
 
 use crate::entries::EntryNumber;
@@ -34,14 +35,14 @@ use std::rc::Rc;
 use std::snapshot::Snapshot;
 
 /// A level that is played. Turns work on the parts of another level, whose board shows the same between them, if there
-/// are any: they become those of the level behind the turn, and this one's parts serve that one's turns. A level is
+/// are any: they become those of the level after the turn, and this one's parts serve that one's turns. A level is
 /// handed from step to step at each key, so that its parts stay where they are and only their place goes on.
 pub struct PlayedLevel<B: Board> {
     parts: Box<LevelParts<B>>,
     spare: Option<Box<LevelParts<B>>>,
 }
 
-/// Written out, so that who owns a level calls this on each way out, instead of dropping its parts there.
+/// Written out, so that a function that owns a level calls this where it returns, instead of dropping its parts.
 impl<B: Board> Drop for PlayedLevel<B> {
     fn drop(self) {
         let PlayedLevel {
@@ -99,7 +100,7 @@ impl Counting {
 }
 
 /// What comes of a turn that leaves the level as it is: nothing; a restart, with a message or without; or the level
-/// behind the turn, and rows outside of which its board shows the same objects. `S` is a set of rows.
+/// after the turn, and rows outside of which its board shows the same objects. `S` is a set of rows.
 #[derive(Drop)]
 pub enum Tried<L, S> {
     Blocked(Option<Text>),
@@ -130,21 +131,20 @@ fn run_turn<B: Board, R: Rules<B>>(
     requires table { B.table after.old ≡ B.table before.now }
     requires own { B.table before.now ≡ B.table_for game.now.names.layers }
     ensures outcome { IfOk result (λ turned. outcome_shown turned (B.grid after.new)
-        ≡ turn (script_for B.table_for game.now (R.meant rules.old.plain) (R.meant rules.old.late)) input
+        ≡ turn (script_by B.Board R.Rules game.now rules.old) input
         (B.grid before.now)) }
     ensures undone { IfOk result (λ turned. is_done turned ≡ false → B.grid after.new ≡ B.grid before.now) }
     ensures stands { OnErr result (B.grid after.new ≡ B.grid before.now) }
     ensures sides { HaveSameSides (B.grid after.new) (B.grid before.now) }
     ensures origin { B.origin after.new ≡ B.grid before.now }
     ensures table { B.table after.new ≡ B.table before.now }
-    ensures plain { R.meant rules.new.plain ≡ R.meant rules.old.plain }
-    ensures late { R.meant rules.new.late ≡ R.meant rules.old.late }
+    ensures meaning { meaning_of R.Rules rules.new ≡ meaning_of R.Rules rules.old }
 {
     let turned = turn(game.turns(), rules, input, before, after)?;
     Ok(turned)
 }
 
-/// A turn of a game on a board, and on a second one that is equal to it before and behind the turn. The board has what
+/// A turn of a game on a board, and on a second one that is equal to it before and after the turn. The board has what
 /// a turn that is done and counts came to, and the text of its frame goes with it; else it is as before.
 ///
 /// # Errors
@@ -167,7 +167,7 @@ fn counted_turn<B: Board, R: Rules<B>>(
     requires frame { IsFrameOf picture.old (B.grid board.old.value) frame.old }
     ensures turned { IfOk result (λ turned. (g : Grid)
         × (outcome_shown turned g
-        ≡ turn (script_for B.table_for game.now (R.meant rules.old.plain) (R.meant rules.old.late)) input
+        ≡ turn (script_by B.Board R.Rules game.now rules.old) input
         (B.grid board.old.value))
         × (B.grid board.new.value ≡ board_taken counting turned (B.grid board.old.value) g)) }
     ensures picture { picture.new ≡ picture.old }
@@ -176,8 +176,7 @@ fn counted_turn<B: Board, R: Rules<B>>(
     ensures origin { B.origin spare.new.value ≡ B.grid board.new.value }
     ensures table { B.table board.new.value ≡ B.table board.old.value }
     ensures spare_table { B.table spare.new.value ≡ B.table board.old.value }
-    ensures plain { R.meant rules.new.plain ≡ R.meant rules.old.plain }
-    ensures late { R.meant rules.new.late ≡ R.meant rules.old.late }
+    ensures meaning { meaning_of R.Rules rules.new ≡ meaning_of R.Rules rules.old }
 {
     let turned = run_turn(game, rules, input, &**board, &mut **spare)?;
     let Turned::Done(done) = &turned else {
@@ -502,7 +501,7 @@ impl<B: Board> PlayedLevel<B> {
     ///
     /// # Errors
     ///
-    /// `Memory`, and the level is as before or behind the turn, but for its checkpoint.
+    /// `Memory`, and the level is as before or after the turn, but for its checkpoint.
     pub(crate) fn take_turn<R: Rules<B>>(
         &mut self,
         alloc: Global,
@@ -518,12 +517,11 @@ impl<B: Board> PlayedLevel<B> {
         ensures picture { picture.new ≡ picture.old }
         ensures turned { IfOk result (λ turned. (g : Grid)
             × (outcome_shown turned g
-            ≡ turn (script_for B.table_for game.now (R.meant rules.old.plain) (R.meant rules.old.late)) input
+            ≡ turn (script_by B.Board R.Rules game.now rules.old) input
             self.old.board)
             × (self.new ≡ taken counting turned self.old g)) }
         ensures basis { self.new.basis ≡ self.old.basis }
-        ensures plain { R.meant rules.new.plain ≡ R.meant rules.old.plain }
-        ensures late { R.meant rules.new.late ≡ R.meant rules.old.late }
+        ensures meaning { meaning_of R.Rules rules.new ≡ meaning_of R.Rules rules.old }
     {
         let mut spare = lent(alloc, spares, &*self.parts, game.names(), self.spare.take())?;
         let parts = &mut *self.parts;
@@ -570,9 +568,9 @@ impl<B: Board> PlayedLevel<B> {
         Ok(())
     }
 
-    /// Tries a turn with an input. The level stays as it is; where the turn is done, the level behind it has the board
+    /// Tries a turn with an input. The level stays as it is; where the turn is done, the level after it has the board
     /// that the turn came to, and the text of its frame, if it was drawn, but no board for turns: it may get this
-    /// level's, once this one is left. No memory is taken for boards, unless the level behind an earlier turn was given
+    /// level's, once this one is left. No memory is taken for boards, unless the level after an earlier turn was given
     /// away and none of the spare boards is alike, or the turn sets a checkpoint, or its rules keep one.
     ///
     /// # Errors
@@ -592,12 +590,11 @@ impl<B: Board> PlayedLevel<B> {
         ensures picture { picture.new ≡ picture.old }
         ensures level { self.new ≡ self.old }
         ensures outcome { IfOk result (λ tried. tried_outcome tried
-            ≡ turn (script_for B.table_for game.now (R.meant rules.old.plain) (R.meant rules.old.late)) (Some input)
+            ≡ turn (script_by B.Board R.Rules game.now rules.old) (Some input)
             self.old.board) }
         ensures next { IfOk result (λ tried. IsNext self.old tried) }
         ensures touched { IfOk result (λ tried. IsTouchedBy self.old.board tried) }
-        ensures plain { R.meant rules.new.plain ≡ R.meant rules.old.plain }
-        ensures late { R.meant rules.new.late ≡ R.meant rules.old.late }
+        ensures meaning { meaning_of R.Rules rules.new ≡ meaning_of R.Rules rules.old }
     {
         let mut spare = lent(alloc, spares, &*self.parts, game.names(), self.spare.take())?;
         let parts = &mut *self.parts;

@@ -1,5 +1,5 @@
 //! The way of a player through the entries of a game: levels and messages as they begin, turns at the start of a level
-//! and at keys, restarts, and what comes behind a message that is dismissed.
+//! and at keys, restarts, and what comes after a message that is dismissed.
 //!
 //! A [`Stage`] makes the text of a step on the side, and a step leaves the level that it starts from as it is: what
 //! comes of it is a [`Location`] or a [`Change`] with boards of its own. So a step that wants memory has changed

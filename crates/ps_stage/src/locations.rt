@@ -51,7 +51,7 @@ pub enum Change<L, S> {
     Goes(Location<L>, HistoryChange, Option<S>),
 }
 
-/// What comes behind a frame of the start of a level.
+/// What comes after a frame of the start of a level.
 #[derive(Clone, Copy, PartialEq, Eq, Debug)]
 pub enum StartTold {
     /// No turn: a message waits, or none does.
@@ -71,7 +71,7 @@ pub enum KeyEnd {
     Restarts(Option<Text>),
 }
 
-/// What comes behind a turn of a key.
+/// What comes after a turn of a key.
 #[derive(Drop, Debug)]
 pub enum KeyTold {
     /// No further turn.

@@ -17,8 +17,8 @@ use std::rc::Rc;
 use std::snapshot::Snapshot;
 
 /// What a level that is played has: its entry, its board, the board that a restart goes back to, which the levels
-/// behind its turns share until a checkpoint, and the room that the last frame showed. The text of its board's frame
-/// goes with it, if it was drawn: behind a turn what the turn has changed is drawn anew.
+/// after its turns share until a checkpoint, and the room that the last frame showed. The text of its board's frame
+/// goes with it, if it was drawn: after a turn what the turn has changed is drawn anew.
 pub struct LevelParts<B: Board> {
     pub entry: EntryNumber,
     pub board: Box<B>,
@@ -29,7 +29,7 @@ pub struct LevelParts<B: Board> {
     pub names: Snapshot<Names>,
 }
 
-/// Written out, so that who owns these calls this on each way out, instead of dropping the boards there.
+/// Written out, so that a function that owns these calls this where it returns, instead of dropping the boards.
 impl<B: Board> Drop for LevelParts<B> {
     fn drop(self) {
         let LevelParts {
@@ -58,7 +58,7 @@ fn checkpoint_of<B: Board>(alloc: Global, board: &B) -> Result<Rc<Box<B>, Global
     Ok(shared)
 }
 
-/// The board that a restart goes back to behind a done turn that came to a board: this one, where the turn set a
+/// The board that a restart goes back to after a done turn that came to a board: this one, where the turn set a
 /// checkpoint.
 ///
 /// # Errors
@@ -184,7 +184,7 @@ impl<B: Board> LevelParts<B> {
         self.names = Snapshot::of(names);
     }
 
-    /// Become the parts of the level behind a done turn that came to their board, from that of these: its board showed
+    /// Become the parts of the level after a done turn that came to their board, from that of these: its board showed
     /// the same objects outside of these rows, and the text of its frame, if it was drawn, is handed on, and made that
     /// of their board.
     ///

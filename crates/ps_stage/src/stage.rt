@@ -31,7 +31,7 @@ pub struct Stage<'g, B: Board> {
     pub(crate) text: OutputText,
 }
 
-/// Written out, so that who owns a stage calls this on each way out, instead of dropping its parts there.
+/// Written out, so that a function that owns a stage calls this where it returns, instead of dropping its parts.
 impl<'g, B: Board> Drop for Stage<'g, B> {
     fn drop(self) {
         let Stage {

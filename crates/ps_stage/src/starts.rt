@@ -9,7 +9,8 @@ ghost use Rattle.ps_model.specs.board.Turns.{turn};
 ghost use Rattle.ps_model.specs.session.Sessions.{Play, Step, after, shown};
 ghost use Rattle.ps_model.specs.session.StartSteps.{start_pending, start_told, start_turns, all_start_turns};
 ghost use Rattle.ps_model.specs.session.StartSteps.{started, start_step};
-ghost use Rattle.ps_stage.specs.Standings.{basis_of, play_of, script_for, script_of, seen_level};
+ghost use Rattle.ps_stage.specs.Meanings.{meaning_of, script_by};
+ghost use Rattle.ps_stage.specs.Standings.{basis_of, play_of, script_of, seen_level};
 ghost use Rattle.ps_stage.specs.StepsShown.{told_step, start_shown, start_outcome_shown, message_of, is_again};
 ghost use Rattle.ps_stage.specs.StepsShown.{came, stands, pending_shown, taken};
 ghost use Rattle.ps_turn.specs.States.{outcome_shown};
@@ -22,7 +23,7 @@ use ps_model::{AGAIN_LIMIT, Memory};
 use ps_text::Text;
 use ps_turn::{DoneTurn, Rules, TurnRules, Turned};
 
-/// What the turn of a start leaves to come behind its message.
+/// What the turn of a start leaves to come after its message.
 fn start_pending(again: bool, left: u32) -> Pending
     ensures { pending_shown result ≡ start_pending again left }
 {
@@ -72,7 +73,7 @@ pub(crate) fn again_limit() -> u32
 }
 
 impl<'g, B: Board> Stage<'g, B> {
-    /// Tells what comes behind a frame of a start: a message waits; without one the again turns come, if the turn is to
+    /// Tells what comes after a frame of a start: a message waits; without one the again turns come, if the turn is to
     /// come again.
     fn tell_start(
         &mut self,
@@ -107,7 +108,7 @@ impl<'g, B: Board> Stage<'g, B> {
         self.show(level)
     }
 
-    /// Shows the board behind a done turn of a start, if the turn changed it, and tells what comes behind the frame.
+    /// Shows the board after a done turn of a start, if the turn changed it, and tells what comes after the frame.
     fn tell_start_turn(
         &mut self,
         level: &mut PlayedLevel<B>,
@@ -138,12 +139,11 @@ impl<'g, B: Board> Stage<'g, B> {
     ) -> Result<Turned, Memory>
         requires { level.old.basis ≡ basis_of B.table_for self.old.game.names }
         ensures stage { self.new ≡ self.old }
-        ensures plain { R.meant rules.new.plain ≡ R.meant rules.old.plain }
-        ensures late { R.meant rules.new.late ≡ R.meant rules.old.late }
+        ensures meaning { meaning_of R.Rules rules.new ≡ meaning_of R.Rules rules.old }
         ensures basis { level.new.basis ≡ level.old.basis }
         ensures turned { IfOk result (λ turned. (g : Grid)
             × (outcome_shown turned g
-            ≡ turn (script_for B.table_for self.old.game (R.meant rules.old.plain) (R.meant rules.old.late)) None
+            ≡ turn (script_by B.Board R.Rules self.old.game rules.old) None
             level.old.board)
             × (level.new ≡ taken counting turned level.old g)) }
     {
@@ -188,15 +188,14 @@ impl<'g, B: Board> Stage<'g, B> {
     ) -> Result<StartTold, Memory>
         requires { level.old.basis ≡ basis_of B.table_for self.old.game.names }
         ensures game { self.new.game ≡ self.old.game }
-        ensures plain { R.meant rules.new.plain ≡ R.meant rules.old.plain }
-        ensures late { R.meant rules.new.late ≡ R.meant rules.old.late }
+        ensures meaning { meaning_of R.Rules rules.new ≡ meaning_of R.Rules rules.old }
         ensures basis { level.new.basis ≡ level.old.basis }
         ensures told { IfOk result (λ told. (history : List Grid)
             → after self.old.text (start_turns
-            (script_for B.table_for self.old.game (R.meant rules.old.plain) (R.meant rules.old.late))
+            (script_by B.Board R.Rules self.old.game rules.old)
             (suc left) (play_of history level.old))
             ≡ told_step told (play_of history level.new) self.new.text (start_turns
-            (script_for B.table_for self.old.game (R.meant rules.old.plain) (R.meant rules.old.late)) left)) }
+            (script_by B.Board R.Rules self.old.game rules.old) left)) }
     {
         let turned = self.take_turn(rules, level, Counting::IfChanged)?;
         let told = self.tell_start_outcome(level, &turned, left);
@@ -204,7 +203,7 @@ impl<'g, B: Board> Stage<'g, B> {
         told
     }
 
-    /// The again turns of a start, so many at most.
+    /// The again turns of a start, at most `most`.
     pub(crate) fn start_turns<R: Rules<B>>(
         &mut self,
         rules: &mut TurnRules<R>,
@@ -213,12 +212,11 @@ impl<'g, B: Board> Stage<'g, B> {
     ) -> Result<Option<Pending>, Memory>
         requires { level.old.basis ≡ basis_of B.table_for self.old.game.names }
         ensures game { self.new.game ≡ self.old.game }
-        ensures plain { R.meant rules.new.plain ≡ R.meant rules.old.plain }
-        ensures late { R.meant rules.new.late ≡ R.meant rules.old.late }
+        ensures meaning { meaning_of R.Rules rules.new ≡ meaning_of R.Rules rules.old }
         ensures basis { level.new.basis ≡ level.old.basis }
         ensures came { IfOk result (λ pending. (history : List Grid)
             → after self.old.text (start_turns
-            (script_for B.table_for self.old.game (R.meant rules.old.plain) (R.meant rules.old.late)) most
+            (script_by B.Board R.Rules self.old.game rules.old) most
             (play_of history level.old))
             ≡ came (stands pending (play_of history level.new)) self.new.text) }
     {
@@ -241,12 +239,11 @@ impl<'g, B: Board> Stage<'g, B> {
     ) -> Result<Option<Pending>, Memory>
         requires { level.old.basis ≡ basis_of B.table_for self.old.game.names }
         ensures game { self.new.game ≡ self.old.game }
-        ensures plain { R.meant rules.new.plain ≡ R.meant rules.old.plain }
-        ensures late { R.meant rules.new.late ≡ R.meant rules.old.late }
+        ensures meaning { meaning_of R.Rules rules.new ≡ meaning_of R.Rules rules.old }
         ensures basis { level.new.basis ≡ level.old.basis }
         ensures came { IfOk result (λ pending. (history : List Grid)
             → after self.old.text (all_start_turns
-            (script_for B.table_for self.old.game (R.meant rules.old.plain) (R.meant rules.old.late))
+            (script_by B.Board R.Rules self.old.game rules.old)
             (play_of history level.old))
             ≡ came (stands pending (play_of history level.new)) self.new.text) }
     {
@@ -264,12 +261,11 @@ impl<'g, B: Board> Stage<'g, B> {
     ) -> Result<Option<Pending>, Memory>
         requires { level.old.basis ≡ basis_of B.table_for self.old.game.names }
         ensures game { self.new.game ≡ self.old.game }
-        ensures plain { R.meant rules.new.plain ≡ R.meant rules.old.plain }
-        ensures late { R.meant rules.new.late ≡ R.meant rules.old.late }
+        ensures meaning { meaning_of R.Rules rules.new ≡ meaning_of R.Rules rules.old }
         ensures basis { level.new.basis ≡ level.old.basis }
         ensures came { IfOk result (λ pending. (history : List Grid)
             → after self.old.text (started
-            (script_for B.table_for self.old.game (R.meant rules.old.plain) (R.meant rules.old.late))
+            (script_by B.Board R.Rules self.old.game rules.old)
             (play_of history level.old) message.now again)
             ≡ came (stands pending (play_of history level.new)) self.new.text) }
     {
@@ -290,12 +286,11 @@ impl<'g, B: Board> Stage<'g, B> {
     ) -> Result<Option<Pending>, Memory>
         requires { level.old.basis ≡ basis_of B.table_for self.old.game.names }
         ensures game { self.new.game ≡ self.old.game }
-        ensures plain { R.meant rules.new.plain ≡ R.meant rules.old.plain }
-        ensures late { R.meant rules.new.late ≡ R.meant rules.old.late }
+        ensures meaning { meaning_of R.Rules rules.new ≡ meaning_of R.Rules rules.old }
         ensures basis { level.new.basis ≡ level.old.basis }
         ensures came { IfOk result (λ pending. (history : List Grid)
             → after self.old.text (start_step
-            (script_for B.table_for self.old.game (R.meant rules.old.plain) (R.meant rules.old.late))
+            (script_by B.Board R.Rules self.old.game rules.old)
             (play_of history level.old) message.now)
             ≡ came (stands pending (play_of history level.new)) self.new.text) }
     {
@@ -318,12 +313,11 @@ impl<'g, B: Board> Stage<'g, B> {
     ) -> Result<Option<Pending>, Memory>
         requires { level.old.basis ≡ basis_of B.table_for self.old.game.names }
         ensures game { self.new.game ≡ self.old.game }
-        ensures plain { R.meant rules.new.plain ≡ R.meant rules.old.plain }
-        ensures late { R.meant rules.new.late ≡ R.meant rules.old.late }
+        ensures meaning { meaning_of R.Rules rules.new ≡ meaning_of R.Rules rules.old }
         ensures basis { level.new.basis ≡ level.old.basis }
         ensures came { IfOk result (λ pending. (history : List Grid)
             → after self.old.text (start_step
-            (script_for B.table_for self.old.game (R.meant rules.old.plain) (R.meant rules.old.late))
+            (script_by B.Board R.Rules self.old.game rules.old)
             (play_of history level.old) message)
             ≡ came (stands pending (play_of history level.new)) self.new.text) }
     {

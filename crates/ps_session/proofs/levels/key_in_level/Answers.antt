@@ -32,8 +32,7 @@ returns-then-is_ignored_in_level g c =
     c.game.ensures c.options.ensures c.is_ignored_in_level.ensures c.if-is_ignored_in_level.true in
     record {
       game = refl;
-      plain = refl;
-      late = refl;
+      meaning = refl;
       same = refl;
       came = in_level (script_for g.B.Board.table_for c.args.stage.now.game (g.R.Rules.meant c.args.rules.now.plain)
           (g.R.Rules.meant c.args.rules.now.late)) (play_of (grids_of (g.H.History.boards c.args.history.now))
@@ -57,8 +56,7 @@ returns-in-Move g c =
     moved_by script play c.in-Move.input c.args.key c.in-Move.is heeded in
     record {
       game = c.moves.ensures.game;
-      plain = c.moves.ensures.plain;
-      late = c.moves.ensures.late;
+      meaning = c.moves.ensures.meaning;
       same = c.moves.ensures.same;
       came = if_ok c.moves.result c.moves.ensures.came (λ next comes. moved ∙ comes grids);
       stopped = if_err c.moves.result c.moves.ensures.stopped (λ stop stops.
@@ -79,8 +77,7 @@ returns-in_ok-next-in-Undo g c =
     c.game.ensures c.options.ensures c.is_ignored_in_level.ensures c.if-is_ignored_in_level.false in
     record {
       game = c.in_ok-next-in-Undo.ensures.game;
-      plain = refl;
-      late = refl;
+      meaning = refl;
       same = c.in_ok-next-in-Undo.ensures.same;
       came = undone_by script play c.args.key c.in-Undo.is heeded
           ∙ c.in_ok-next-in-Undo.ensures.came script.plain script.late;
@@ -101,8 +98,7 @@ returns-in_ok-next-in-Restart g c =
     c.game.ensures c.options.ensures c.is_ignored_in_level.ensures c.if-is_ignored_in_level.false in
     record {
       game = c.in_ok-next-in-Restart.ensures.game;
-      plain = c.in_ok-next-in-Restart.ensures.plain;
-      late = c.in_ok-next-in-Restart.ensures.late;
+      meaning = c.in_ok-next-in-Restart.ensures.meaning;
       same = c.in_ok-next-in-Restart.ensures.same;
       came = restarted_by script play c.args.key c.in-Restart.is heeded ∙ c.in_ok-next-in-Restart.ensures.came grids;
       stopped = tt;
@@ -122,8 +118,7 @@ returns-in_ok-next-in-Quit g c =
     c.game.ensures c.options.ensures c.is_ignored_in_level.ensures c.if-is_ignored_in_level.false in
     record {
       game = c.in_ok-next-in-Quit.ensures.game;
-      plain = refl;
-      late = refl;
+      meaning = refl;
       same = refl;
       came = ap (key_in_level script play) c.in-Quit.is
           ∙ c.in_ok-next-in-Quit.ensures.came grids (Playing c.args.level.now);

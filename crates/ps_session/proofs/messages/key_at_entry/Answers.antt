@@ -15,8 +15,7 @@ returns-then-is_ignored_at_message g c =
     sym c.is_ignored_at_message.ensures ∙ c.if-is_ignored_at_message.true in
     record {
       game = refl;
-      plain = refl;
-      late = refl;
+      meaning = refl;
       came = λ history. at_entry (script_for g.B.Board.table_for c.args.stage.now.game
           (g.R.Rules.meant c.args.rules.now.plain) (g.R.Rules.meant c.args.rules.now.late)) c.args.entry.now c.args.key
           ignored;
@@ -37,8 +36,7 @@ returns g c =
     ∙ c.if-is_ignored_at_message.false in
     record {
       game = c.in_ok-location.ensures.game;
-      plain = c.in_ok-location.ensures.plain;
-      late = c.in_ok-location.ensures.late;
+      meaning = c.in_ok-location.ensures.meaning;
       came = λ history. entry_dismissed script c.args.entry.now c.args.key heeded c.in_default.not-Quit
           ∙ ap (enter script) (sym c.next.ensures)
           ∙ ap (λ (text : List ℕ). after text (enter script c.next.result)) (sym c.requires.empty)

@@ -23,8 +23,7 @@ returns g c =
     ∙ c.if-is_ignored_at_message.false in
     record {
       game = c.in_ok-change.ensures.game;
-      plain = c.in_ok-change.ensures.plain;
-      late = c.in_ok-change.ensures.late;
+      meaning = c.in_ok-change.ensures.meaning;
       same = c.in_ok-change.ensures.level;
       came = λ history.
           let play : Play = play_of history c.args.level.now in

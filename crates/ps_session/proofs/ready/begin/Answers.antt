@@ -11,8 +11,7 @@ returns g c =
     (g.R.Rules.meant c.args.rules.now.plain) (g.R.Rules.meant c.args.rules.now.late)) c.args.entry in
     record {
       game = c.in_ok-move_text.ensures.game ∙ c.in_ok-location.ensures.game;
-      plain = c.in_ok-location.ensures.plain;
-      late = c.in_ok-location.ensures.late;
+      meaning = c.in_ok-location.ensures.meaning;
       basis = c.in_ok-location.ensures.basis;
       shown = sym (ap (λ (step : Step). step.session) c.in_ok-location.ensures.came);
       written = begun_text step _ c.args.stage.now.text c.begin.new.self.text c.args.output.now

@@ -10,6 +10,7 @@ use Rattle.ps_session.specs.Bases.{AnswersOnBasis}
 use Rattle.ps_session.specs.Behind.{AnswersFrom}
 use Rattle.ps_session.proofs.KeyEnds.{error_came, game_of_value, ignored_inside, left_of_value, no_text_come}
 use Rattle.ps_session.proofs.KeyEnds.{none_came, same_value, session_come, step_of_value, text_come}
+use Rattle.ps_stage.specs.Meanings.{same_late, same_plain}
 use Rattle.ps_session.proofs.session.Session.key.Goals as goal
 
 pub next_at-found-requires : goal.next_at-found-requires
@@ -60,8 +61,8 @@ returns-in-Ok-None g c =
       same = tt;
       left = tt;
       ignored = λ ignored. refl;
-      plain = c.in-Ok-None.ensures.plain;
-      late = c.in-Ok-None.ensures.late;
+      plain = same_plain c.in-Ok-None.ensures.meaning;
+      late = same_late c.in-Ok-None.ensures.meaning;
     }
 
 pub returns-in-Err : goal.returns-in-Err
@@ -88,8 +89,8 @@ returns-in-Err g c =
       ignored = λ ignored. error_came _ _ (c.next_at-found.ensures.ignored
           (ignored_inside c.forget_text.new.self.game inside c.args.self.now c.args.key c.forget_text.ensures.game
           c.self.view_is ignored)) c.in-Err.is;
-      plain = c.in-Err.ensures.plain;
-      late = c.in-Err.ensures.late;
+      plain = same_plain c.in-Err.ensures.meaning;
+      late = same_late c.in-Err.ensures.meaning;
     }
 
 pub returns-in-Err-done : goal.returns-in-Err-done
@@ -115,8 +116,8 @@ returns-in-Err-done g c =
       ignored = λ ignored. none_came _ _ (c.in-Ok-Some.ensures.ignored
           (ignored_inside c.forget_text.new.self.game inside c.args.self.now c.args.key c.forget_text.ensures.game
           c.self.view_is ignored)) c.in-Ok-Some.field-0-is;
-      plain = c.in-Ok-Some.ensures.plain;
-      late = c.in-Ok-Some.ensures.late;
+      plain = same_plain c.in-Ok-Some.ensures.meaning;
+      late = same_late c.in-Ok-Some.ensures.meaning;
     }
 
 pub returns : goal.returns
@@ -148,8 +149,8 @@ returns g c =
       same = tt;
       left = tt;
       ignored = λ ignored. refl;
-      plain = c.in-Ok-Some.ensures.plain;
-      late = c.in-Ok-Some.ensures.late;
+      plain = same_plain c.in-Ok-Some.ensures.meaning;
+      late = same_late c.in-Ok-Some.ensures.meaning;
     }
 
 pub invariant_of-self-2 : goal.invariant_of-self-2

@@ -3,6 +3,7 @@ use Rattle.ps_stage.specs.Locations.{IsOnBasis}
 use Rattle.ps_stage.specs.Standings.{SessionParts, basis_of}
 use Rattle.ps_session.proofs.HistoryBoards.{none_on_table}
 use Rattle.ps_session.proofs.Starts.{started_session, started_text}
+use Rattle.ps_stage.specs.Meanings.{same_late, same_plain}
 use Rattle.ps_session.proofs.session.Session.start_at.Goals as goal
 
 pub begin-requires : goal.begin-requires
@@ -33,6 +34,6 @@ returns g c = record {
       (g.R.Rules.meant c.args.rules.now.late) c.in_ok-stage.stage.game c.args.game c.args.entry c.args.output.now
       c.begin.new.output c.in_ok-stage.ensures.game c.in_ok-location.ensures.written;
   kept = tt;
-  plain = c.in_ok-location.ensures.plain;
-  late = c.in_ok-location.ensures.late;
+  plain = same_plain c.in_ok-location.ensures.meaning;
+  late = same_late c.in_ok-location.ensures.meaning;
 }

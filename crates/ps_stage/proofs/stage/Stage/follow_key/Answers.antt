@@ -7,6 +7,7 @@ use Rattle.ps_stage.specs.Standings.{SessionParts, basis_of, play_of, script_for
 use Rattle.ps_stage.proofs.KeyChanges.{stopped_as}
 use Rattle.ps_stage.proofs.Results.{if_err, if_ok}
 use Rattle.ps_stage.proofs.Scripts.{same_script}
+use Rattle.ps_stage.specs.Meanings.{same_late, same_plain}
 use Rattle.ps_stage.proofs.stage.Stage.follow_key.Goals as goal
 
 pub returns-in-Ok-clause-came : goal.returns-in-Ok-clause-came
@@ -18,7 +19,7 @@ returns-in-Ok-clause-came g c =
     (g.R.Rules.meant c.end_key.new.rules.plain) (g.R.Rules.meant c.end_key.new.rules.late) in
     let same : then ≡ script = same_script g.B.Board.table_for c.args.self.now.game c.end_key.new.self.game plain late
     (g.R.Rules.meant c.end_key.new.rules.plain) (g.R.Rules.meant c.end_key.new.rules.late)
-    c.in-Ok.ensures.game c.in-Ok.ensures.plain c.in-Ok.ensures.late in
+    c.in-Ok.ensures.game (same_plain c.in-Ok.ensures.meaning) (same_late c.in-Ok.ensures.meaning) in
     if_ok c.finish_key.result c.finish_key.ensures.came (λ change comes history first.
     c.in-Ok.ensures.came (history_behind (history_change_if c.args.done.now.changed) history first.board)
     ∙ ap (λ (s : Script). key_end_step s c.in-Ok.end
@@ -38,7 +39,7 @@ returns-in-Ok-clause-stopped g c =
     (g.R.Rules.meant c.end_key.new.rules.plain) (g.R.Rules.meant c.end_key.new.rules.late) in
     let same : then ≡ script = same_script g.B.Board.table_for c.args.self.now.game c.end_key.new.self.game plain late
     (g.R.Rules.meant c.end_key.new.rules.plain) (g.R.Rules.meant c.end_key.new.rules.late)
-    c.in-Ok.ensures.game c.in-Ok.ensures.plain c.in-Ok.ensures.late in
+    c.in-Ok.ensures.game (same_plain c.in-Ok.ensures.meaning) (same_late c.in-Ok.ensures.meaning) in
     if_err c.finish_key.result c.finish_key.ensures.stopped (λ stop stops history first.
     stopped_as script then stop _ _ c.finish_key.new.self.text same
     (c.in-Ok.ensures.came (history_behind (history_change_if c.args.done.now.changed) history first.board)

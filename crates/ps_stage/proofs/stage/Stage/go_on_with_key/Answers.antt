@@ -3,6 +3,7 @@ use Rattle.ps_stage.specs.Standings.{SessionParts, StageValue, Standing, basis_o
 use Rattle.ps_stage.proofs.KeyChanges.{key_gone_on, stopped_as}
 use Rattle.ps_stage.proofs.Results.{if_err, if_ok}
 use Rattle.ps_stage.proofs.Scripts.{same_script}
+use Rattle.ps_stage.specs.Meanings.{same_late, same_plain}
 use Rattle.ps_stage.proofs.stage.Stage.go_on_with_key.Goals as goal
 
 pub finish_key-requires : goal.finish_key-requires
@@ -21,7 +22,7 @@ returns-clause-came g c =
     key_gone_on g.B.Board.table_for c.args.self.now c.copied.new.self c.key_turns.new.self plain late
     (g.R.Rules.meant c.key_turns.new.rules.plain) (g.R.Rules.meant c.key_turns.new.rules.late) c.args.level.now
     c.in_ok-next.next c.key_turns.new.level history c.args.left c.in_ok-end.end c.in_ok-next.ensures.stage
-    c.in_ok-next.ensures.copy c.in_ok-end.ensures.game c.in_ok-end.ensures.plain c.in_ok-end.ensures.late
+    c.in_ok-next.ensures.copy c.in_ok-end.ensures.game (same_plain c.in_ok-end.ensures.meaning) (same_late c.in_ok-end.ensures.meaning)
     (c.in_ok-end.ensures.came history)
     ∙ comes history first)
 
@@ -36,10 +37,10 @@ returns-clause-stopped g c =
     (same_script g.B.Board.table_for c.args.self.now.game c.key_turns.new.self.game plain late
     (g.R.Rules.meant c.key_turns.new.rules.plain) (g.R.Rules.meant c.key_turns.new.rules.late)
     (c.in_ok-end.ensures.game ∙ ap (λ (stage : StageValue). stage.game) c.in_ok-next.ensures.stage)
-    c.in_ok-end.ensures.plain c.in_ok-end.ensures.late)
+    (same_plain c.in_ok-end.ensures.meaning) (same_late c.in_ok-end.ensures.meaning))
     (key_gone_on g.B.Board.table_for c.args.self.now c.copied.new.self c.key_turns.new.self plain late
     (g.R.Rules.meant c.key_turns.new.rules.plain) (g.R.Rules.meant c.key_turns.new.rules.late) c.args.level.now
     c.in_ok-next.next c.key_turns.new.level history c.args.left c.in_ok-end.end c.in_ok-next.ensures.stage
-    c.in_ok-next.ensures.copy c.in_ok-end.ensures.game c.in_ok-end.ensures.plain c.in_ok-end.ensures.late
+    c.in_ok-next.ensures.copy c.in_ok-end.ensures.game (same_plain c.in_ok-end.ensures.meaning) (same_late c.in_ok-end.ensures.meaning)
     (c.in_ok-end.ensures.came history))
     (stops history c.args.level.now))

@@ -6,6 +6,7 @@ use Rattle.ps_stage.specs.declared.locations.KeyTold.{KeyTold}
 use Rattle.ps_stage.specs.Standings.{script_for, play_of}
 use Rattle.ps_stage.specs.KeysShown.{key_told_step}
 use Rattle.ps_stage.proofs.AgainTurns.{one_more}
+use Rattle.ps_stage.specs.Meanings.{same_late, same_plain}
 use Rattle.ps_stage.proofs.stage.Stage.key_turns.Goals as goal
 
 pub returns-in-Ends-clause-came : goal.returns-in-Ends-clause-came
@@ -21,7 +22,7 @@ returns-in-Ends-clause-came g c history =
     (play_of history c.loop-left.level)
     (λ (s : Script) (turns : Play → Step). key_told_step s c.in_ok-end.field-0 (play_of history c.key_turn.new.level)
     c.key_turn.new.self.text turns)
-    c.loop-left.invariant.game c.loop-left.invariant.plain c.loop-left.invariant.late count
+    c.loop-left.invariant.game (same_plain c.loop-left.invariant.meaning) (same_late c.loop-left.invariant.meaning) count
     (c.loop-left.invariant.rest history) (c.in_ok-end.ensures.told history)
     ∙ ap (λ (told : KeyTold). key_told_step script told (play_of history c.key_turn.new.level) c.key_turn.new.self.text
     (key_turns script (c.loop-left.left - 1))) c.in-Ends.is
@@ -33,8 +34,7 @@ loop-left-preserved g c =
     (g.R.Rules.meant c.args.rules.now.late) in
     record {
       game = c.in_ok-end.ensures.game ∙ c.loop-left.invariant.game;
-      plain = c.in_ok-end.ensures.plain ∙ c.loop-left.invariant.plain;
-      late = c.in_ok-end.ensures.late ∙ c.loop-left.invariant.late;
+      meaning = c.in_ok-end.ensures.meaning ∙ c.loop-left.invariant.meaning;
       basis = c.in_ok-end.ensures.basis ∙ c.loop-left.invariant.basis;
       rest = λ history.
           one_more key_turns g.B.Board.table_for c.args.self.now.game c.loop-left.self.game
@@ -45,7 +45,7 @@ loop-left-preserved g c =
           (play_of history c.loop-left.level)
           (λ (s : Script) (turns : Play → Step).
           key_told_step s c.in_ok-end.field-0 (play_of history c.key_turn.new.level) c.key_turn.new.self.text turns)
-          c.loop-left.invariant.game c.loop-left.invariant.plain c.loop-left.invariant.late count
+          c.loop-left.invariant.game (same_plain c.loop-left.invariant.meaning) (same_late c.loop-left.invariant.meaning) count
           (c.loop-left.invariant.rest history) (c.in_ok-end.ensures.told history)
           ∙ ap (λ (told : KeyTold). key_told_step script told (play_of history c.key_turn.new.level)
           c.key_turn.new.self.text (key_turns script (c.loop-left.left - 1))) c.in-GoesOn.is;

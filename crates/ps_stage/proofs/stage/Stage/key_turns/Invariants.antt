@@ -4,6 +4,7 @@ use Rattle.ps_model.specs.board.Turns.{Script}
 use Rattle.ps_model.specs.session.Sessions.{after}
 use Rattle.ps_model.specs.session.KeySteps.{key_turns}
 use Rattle.ps_stage.specs.Standings.{script_for, play_of}
+use Rattle.ps_stage.specs.Meanings.{meaning_of}
 use Rattle.ps_stage.proofs.stage.Stage.key_turns.Given as goal
 
 abbrev pub decreases-loop-left : goal.decreases-loop-left
@@ -16,8 +17,7 @@ invariant-loop-left g l =
     (g.R.Rules.meant l.fn.rules.late) in
     record {
       game : l.self.game ≡ l.fn.self.game;
-      plain : g.R.Rules.meant l.rules.plain ≡ g.R.Rules.meant l.fn.rules.plain;
-      late : g.R.Rules.meant l.rules.late ≡ g.R.Rules.meant l.fn.rules.late;
+      meaning : meaning_of g.R.Rules l.rules ≡ meaning_of g.R.Rules l.fn.rules;
       basis : l.level.basis ≡ l.fn.level.basis;
       rest : (history : List Grid) → after l.fn.self.text (key_turns script l.most (play_of history l.fn.level)) ≡
           after l.self.text (key_turns script l.left (play_of history l.level));

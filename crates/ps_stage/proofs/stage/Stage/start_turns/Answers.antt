@@ -6,6 +6,7 @@ use Rattle.ps_stage.specs.declared.locations.StartTold.{StartTold}
 use Rattle.ps_stage.specs.Standings.{script_for, play_of}
 use Rattle.ps_stage.specs.StepsShown.{told_step}
 use Rattle.ps_stage.proofs.AgainTurns.{one_more}
+use Rattle.ps_stage.specs.Meanings.{same_late, same_plain}
 use Rattle.ps_stage.proofs.stage.Stage.start_turns.Goals as goal
 
 pub returns-in-Stops-clause-came : goal.returns-in-Stops-clause-came
@@ -19,7 +20,7 @@ returns-in-Stops-clause-came g c history =
     (play_of history c.loop-left.level)
     (λ (script : Script) (turns : Play → Step).
     told_step c.in_ok-pending.field-0 (play_of history c.start_turn.new.level) c.start_turn.new.self.text turns)
-    c.loop-left.invariant.game c.loop-left.invariant.plain c.loop-left.invariant.late count
+    c.loop-left.invariant.game (same_plain c.loop-left.invariant.meaning) (same_late c.loop-left.invariant.meaning) count
     (c.loop-left.invariant.rest history) (c.in_ok-pending.ensures.told history)
     ∙ ap (λ (told : StartTold). told_step told (play_of history c.start_turn.new.level) c.start_turn.new.self.text
     (start_turns (script_for g.B.Board.table_for c.args.self.now.game (g.R.Rules.meant c.args.rules.now.plain)
@@ -30,8 +31,7 @@ loop-left-preserved g c =
     let count : c.loop-left.left ≡ suc (c.loop-left.left - 1) = omega arith in
     record {
       game = c.in_ok-pending.ensures.game ∙ c.loop-left.invariant.game;
-      plain = c.in_ok-pending.ensures.plain ∙ c.loop-left.invariant.plain;
-      late = c.in_ok-pending.ensures.late ∙ c.loop-left.invariant.late;
+      meaning = c.in_ok-pending.ensures.meaning ∙ c.loop-left.invariant.meaning;
       basis = c.in_ok-pending.ensures.basis ∙ c.loop-left.invariant.basis;
       rest = λ history.
           one_more start_turns g.B.Board.table_for c.args.self.now.game c.loop-left.self.game
@@ -43,7 +43,7 @@ loop-left-preserved g c =
           (λ (script : Script) (turns : Play → Step).
           told_step c.in_ok-pending.field-0 (play_of history c.start_turn.new.level) c.start_turn.new.self.text
           turns)
-          c.loop-left.invariant.game c.loop-left.invariant.plain c.loop-left.invariant.late count
+          c.loop-left.invariant.game (same_plain c.loop-left.invariant.meaning) (same_late c.loop-left.invariant.meaning) count
           (c.loop-left.invariant.rest history) (c.in_ok-pending.ensures.told history)
           ∙ ap (λ (told : StartTold). told_step told (play_of history c.start_turn.new.level) c.start_turn.new.self.text
           (start_turns (script_for g.B.Board.table_for c.args.self.now.game (g.R.Rules.meant c.args.rules.now.plain)

@@ -4,6 +4,7 @@ use Rattle.std.specs.Option.{option_or}
 use Rattle.ps_stage.specs.Standings.{StageValue, basis_of}
 use Rattle.ps_stage.proofs.Results.{if_ok}
 use Rattle.ps_stage.proofs.ShownLevels.{start_ran_of}
+use Rattle.ps_stage.specs.Meanings.{same_late, same_plain}
 use Rattle.ps_stage.proofs.stage.Stage.start_with.Goals as goal
 
 pub returns-clause-came : goal.returns-clause-came
@@ -14,7 +15,7 @@ returns-clause-came g c =
     (g.R.Rules.meant c.args.rules.now.late) (g.R.Rules.meant c.take_turn.new.rules.plain)
     (g.R.Rules.meant c.take_turn.new.rules.late) c.args.level.now c.take_turn.new.level history c.in_ok-turned.turned
     c.in_ok-turned.ensures.turned.0 c.args.message.now _ _ runs c.in_ok-turned.ensures.stage
-    c.in_ok-turned.ensures.plain c.in_ok-turned.ensures.late c.in_ok-turned.ensures.turned.1
+    (same_plain c.in_ok-turned.ensures.meaning) (same_late c.in_ok-turned.ensures.meaning) c.in_ok-turned.ensures.turned.1
     c.in_ok-turned.ensures.turned.2
     (c.first_message-message.ensures
     ∙ ap (λ (own : Option (List ℕ)). option_or own c.args.message.now) c.message_of.ensures)

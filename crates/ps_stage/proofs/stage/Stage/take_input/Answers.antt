@@ -6,6 +6,7 @@ use Rattle.ps_stage.specs.StepsShown.{came}
 use Rattle.ps_stage.proofs.KeyChanges.{stopped_as, taken_of}
 use Rattle.ps_stage.proofs.Results.{if_err, if_ok}
 use Rattle.ps_stage.proofs.Scripts.{same_script}
+use Rattle.ps_stage.specs.Meanings.{same_late, same_plain}
 use Rattle.ps_stage.proofs.stage.Stage.take_input.Goals as goal
 
 pub returns-clause-came : goal.returns-clause-came
@@ -16,7 +17,7 @@ returns-clause-came g c =
     taken_of g.B.Board.table_for c.args.self.now c.try_turn.new.self plain late
     (g.R.Rules.meant c.try_turn.new.rules.plain) (g.R.Rules.meant c.try_turn.new.rules.late) c.args.level.now
     c.try_turn.new.level history c.args.input (tried_outcome c.in_ok-tried.tried) c.in_ok-tried.ensures.stage
-    c.in_ok-tried.ensures.plain c.in_ok-tried.ensures.late c.in_ok-tried.ensures.level c.in_ok-tried.ensures.outcome
+    (same_plain c.in_ok-tried.ensures.meaning) (same_late c.in_ok-tried.ensures.meaning) c.in_ok-tried.ensures.level c.in_ok-tried.ensures.outcome
     ∙ comes history
     ∙ ap (λ (level : Standing). came (change_shown history level change) c.follow_tried.new.self.text)
     c.in_ok-tried.ensures.level)
@@ -30,11 +31,11 @@ returns-clause-stopped g c =
     (same_script g.B.Board.table_for c.args.self.now.game c.try_turn.new.self.game plain late
     (g.R.Rules.meant c.try_turn.new.rules.plain) (g.R.Rules.meant c.try_turn.new.rules.late)
     (ap (λ (stage : StageValue). stage.game) c.in_ok-tried.ensures.stage)
-    c.in_ok-tried.ensures.plain c.in_ok-tried.ensures.late)
+    (same_plain c.in_ok-tried.ensures.meaning) (same_late c.in_ok-tried.ensures.meaning))
     (taken_of g.B.Board.table_for c.args.self.now c.try_turn.new.self plain late
     (g.R.Rules.meant c.try_turn.new.rules.plain) (g.R.Rules.meant c.try_turn.new.rules.late) c.args.level.now
     c.try_turn.new.level history c.args.input (tried_outcome c.in_ok-tried.tried) c.in_ok-tried.ensures.stage
-    c.in_ok-tried.ensures.plain c.in_ok-tried.ensures.late c.in_ok-tried.ensures.level c.in_ok-tried.ensures.outcome)
+    (same_plain c.in_ok-tried.ensures.meaning) (same_late c.in_ok-tried.ensures.meaning) c.in_ok-tried.ensures.level c.in_ok-tried.ensures.outcome)
     (stops history))
 
 pub follow_tried-requires-clause-basis : goal.follow_tried-requires-clause-basis
