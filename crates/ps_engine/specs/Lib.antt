@@ -9,3 +9,4 @@ pub mod TopicsAsked
 pub mod QuietGroups
 pub mod Waking
 pub mod Lacking
+pub mod Workspaces

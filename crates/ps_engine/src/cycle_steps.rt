@@ -6,8 +6,8 @@ ghost use Rattle.ps_engine.specs.CycleSteps.{AreLeft, HasStepped};
 
 use crate::cycle_finder::CycleFinder;
 use crate::kept_board::KeptBoard;
-use crate::lent_queue::LentQueue;
-use ps_match::Board;
+use crate::workspace::Workspace;
+use ps_match::Scan;
 use ps_model::{Memory, ROUND_LIMIT};
 
 /// After how many steps the next state is kept: after twice as many, but for the first time.
@@ -30,19 +30,18 @@ impl<'r> CycleFinder<'r> {
     /// # Errors
     ///
     /// `Memory`.
-    pub fn step<B: Board>(
+    pub fn step<B: Scan>(
         &mut self,
         left: u32,
-        board: &B,
-        queue: &LentQueue<'r>,
+        work: &Workspace<'_, '_, '_, 'r, B>,
         kept: &mut KeptBoard<B>,
     ) -> Result<u32, Memory>
-        ensures rest { IfOk result (λ rest. AreLeft self.old kept.old (B.grid board.now) queue.now left rest) }
+        ensures rest { IfOk result (λ rest. AreLeft self.old kept.old (B.grid work.now.board.now) work.now.queue.now left rest) }
         ensures fewer { IfOk result (λ rest. rest ≤ left) }
-        ensures goes { OnOk result (HasStepped self.old self.new kept.old kept.new (B.grid board.now) queue.now) }
+        ensures goes { OnOk result (HasStepped self.old self.new kept.old kept.new (B.grid work.now.board.now) work.now.queue.now) }
     {
         let age = self.age + 1;
-        if self.keeps && kept.is_shown_by(board) && self.queue.is_same(queue) {
+        if self.keeps && kept.is_shown_by(work.board) && self.queue.is_same(work.queue) {
             self.age = 0;
             return Ok(left % age);
         }
@@ -50,10 +49,10 @@ impl<'r> CycleFinder<'r> {
             self.age = age;
             return Ok(left);
         }
-        kept.keep(board)?;
+        kept.keep(work.board)?;
         *self = CycleFinder {
             keeps: true,
-            queue: queue.copy(),
+            queue: work.queue.copy(),
             age: 0,
             span: next_span(self.keeps, self.span),
         };

@@ -14,10 +14,12 @@ ghost use Rattle.ps_engine.specs.Scratch.{HaveScratch, SectionHasScratch, Sectio
 ghost use Rattle.ps_model.specs.board.Grid.{Grid};
 ghost use Rattle.ps_engine.specs.QuietGroups.{AreIdleOn, IsIdleOn};
 ghost use Rattle.ps_engine.specs.declared.quiet_groups.KnownSection.{KnownSection};
+ghost use Rattle.ps_engine.specs.Workspaces.{fixed_in, state_of};
 ghost use Rattle.ps_engine.specs.Waking.{AreForgotten, AreUnknown, AreWoken, IsSameBut, IsWoken};
 
 use crate::attempts::is_idle;
 use crate::lacking::behind_lacking;
+use crate::workspace::Workspace;
 use crate::topics_asked::topics_of_section;
 use ps_match::{Columns, Scan, Topics, recall_shape};
 use ps_model::Memory;
@@ -337,25 +339,25 @@ impl<'p, 'r, B: Scan> QuietGroups<'p, 'r, B> {
 
     /// Whether a section may be passed over on a board, which differs from what is kept in these topics alone: it is a
     /// group of which no rule has a combination. No memory is taken.
-    pub(crate) fn passes(
+    pub(crate) fn passes<'q>(
         &mut self,
         number: usize,
         stirred: Topics,
         motions: MotionSet,
-        board: &B,
-        scratch: &mut [ScratchFor<B>],
+        work: &mut Workspace<'_, '_, '_, 'q, B>,
     ) -> bool
         requires number { number < length self.old.sections }
-        requires scratch { SectionsHaveScratch (length scratch.old) self.old.sections }
-        requires motions { HasMotionsIn (B.grid board.now) motions }
+        requires scratch { SectionsHaveScratch (length work.old.scratch.now) self.old.sections }
+        requires motions { HasMotionsIn (B.grid work.old.board.now) motions }
         requires same { (g : Grid) (table : Option (List ℕ)) → self.old.kept ≡ Some (g, table) →
-            IsSameBut stirred (B.grid board.now) (B.table board.now) g table }
+            IsSameBut stirred (B.grid work.old.board.now) (B.table work.old.board.now) g table }
         ensures idle { (section : CompiledSection) → slice_get self.old.sections number ≡ Some section →
-            result ≡ true → IsIdleOn (B.grid board.now) (B.table board.now) section }
+            result ≡ true → IsIdleOn (B.grid work.old.board.now) (B.table work.old.board.now) section }
         ensures program { self.new ≡ self.old }
-        ensures scratch { length scratch.new ≡ length scratch.old }
+        ensures state { state_of B.Board work.new ≡ state_of B.Board work.old }
+        ensures fixed { fixed_in B.Board work.new ≡ fixed_in B.Board work.old }
     {
-        recall_shape(board);
+        recall_shape(work.board);
         if self.board.is_none() || !is_apart(self.known[number], stirred) {
             return false;
         }
@@ -364,24 +366,29 @@ impl<'p, 'r, B: Scan> QuietGroups<'p, 'r, B> {
             return true;
         }
         let sections = self.sections;
-        let idle = is_idle_section(&sections[number], motions, board, scratch);
+        let idle = is_idle_section(
+            &sections[number],
+            motions,
+            work.board,
+            work.scratch,
+        );
         note(&mut self.known, number, idle);
         idle
     }
 
     /// The topics about which a board, of the same size, with as many layers and the same room, differs from what is
     /// kept; all of them, where nothing is.
-    pub(crate) fn stirred_on(&self, board: &B) -> Topics
+    pub(crate) fn stirred_on(&self, work: &Workspace<'_, '_, '_, '_, B>) -> Topics
         ensures { (g : Grid) (table : Option (List ℕ)) → self.now.kept ≡ Some (g, table) →
-            sides_of g ≡ sides_of (B.grid board.now) → table ≡ B.table board.now →
-            DifferOnlyAbout result (B.grid board.now) g }
+            sides_of g ≡ sides_of (B.grid work.now.board.now) → table ≡ B.table work.now.board.now →
+            DifferOnlyAbout result (B.grid work.now.board.now) g }
     {
         let Some(kept) = &self.board else {
             return Columns::all();
         };
-        if !board.is_alike(kept) {
+        if !work.board.is_alike(kept) {
             return Columns::all();
         }
-        board.topics_differing(kept)
+        work.board.topics_differing(kept)
     }
 }

@@ -1,25 +1,24 @@
-use Rattle.std.proofs.Common.{◌≡◌, ◌∙◌, ◌-◌, true, Option, List, ℕ, drop, ap, subst}
+use Rattle.std.proofs.Common.{◌≡◌, ◌∙◌, ◌-◌, true, Option, List, ℕ, drop, ap, subst, sym}
 use Rattle.std.specs.Prelude.{OnOk}
 use Rattle.ps_model.specs.declared.limits.TheConstants.{ROUND_LIMIT}
 use Rattle.ps_model.specs.board.Attempts.{State, Result}
 use Rattle.ps_model.specs.board.Programs.{round, settled}
 use Rattle.ps_program.specs.declared.rules.CompiledRule.{CompiledRule}
 use Rattle.ps_engine.specs.RulesInRoom.{rules_meaning}
-use Rattle.ps_match.specs.FixedParts.{same_layers}
+use Rattle.ps_engine.specs.Workspaces.{same_layers_lent, state_of}
 use Rattle.ps_engine.proofs.rounds.play_on.Goals as goal
 
 pub returns-clause-settled : goal.returns-clause-settled
 returns-clause-settled g c =
-    let table : Option (List ℕ) = g.B.Board.table c.args.board.now in
-    let now : State = record { grid = g.B.Board.grid c.args.board.now; queue = c.args.queue.now } in
-    let next : State = record { grid = g.B.Board.grid c.round.new.board; queue = c.round.new.queue } in
-    let last : State = record { grid = g.B.Board.grid c.play_rounds.new.board; queue = c.play_rounds.new.queue } in
+    let table : Option (List ℕ) = g.B.Board.table c.args.run.now.work.now.board.now in
+    let now : State = state_of g.B.Board c.args.run.now.work.now in
+    let next : State = state_of g.B.Board c.round.new.run.work.now in
     let rest : next ≡ (round (rules_meaning table (drop c.args.first c.args.rules.now)) now).state =
     ap (λ (r : Result). r.state) c.round.ensures.round
     ∙ ap (λ (rules : List CompiledRule). (round (rules_meaning table rules) now).state) c.split_at.ensures.back in
-    let all : Result = record { state = last; changed = true } in
+    let all : Result = record { state = state_of g.B.Board c.play_rounds.new.run.work.now; changed = true } in
     subst (λ (r : Result). OnOk c.play_rounds.result (all ≡ r))
     (ap (λ (t : Option (List ℕ)). settled (rules_meaning t c.args.rules.now) (ROUND_LIMIT - 1) true next)
-    (same_layers c.round.ensures.fixed)
+    (same_layers_lent c.round.ensures.fixed)
     ∙ ap (settled (rules_meaning table c.args.rules.now) (ROUND_LIMIT - 1) true) rest)
     c.play_rounds.ensures.settled
