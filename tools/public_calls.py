@@ -2,8 +2,8 @@
 
 Public are the functions that a crate exports, the methods of types that it exports, and those of traits that it
 exports, once for all types; of crates that others stand on. A call can answer that it is out of memory where its answer
-is a `Result` whose error is `AllocError`, or one of these crates' types that is called `Memory` or has a variant of
-that name; and so can the command line.
+is a `Result` whose error is `AllocError`, or one of these crates' types that is called `Memory`, has a variant of that name, or
+has a variant with such an error; and so can the command line.
 """
 import re
 
@@ -11,9 +11,11 @@ from crates import TOP, read_uses
 
 # What answers a status, and says on standard error that it is out of memory.
 TELLING = ["run_command_line"]
-# The names that a crate exports; a type that can say out of memory; what stands in a source, by lines.
+# The names that a crate exports; a type that can say out of memory, and one that may have a variant with such a type; what
+# stands in a source, by lines.
 EXPORT = re.compile(r"^pub use [\w:]*?(\w+|\{[^}]*\});", re.M)
 WANTING = re.compile(r"^pub (?:struct (Memory);|enum (\w+) \{\n(?:(?!\}).*\n)*?    Memory,\n)", re.M)
+HOLDING = re.compile(r"^pub enum (\w+) \{\n((?:(?!\}).*\n)*)", re.M)
 FUNCTION = r"^ *(?P<open>pub )?fn (?P<name>\w+)(?P<rest>[^{;]*)"
 PART = re.compile(r"^(?:pub )?(?P<block>(?:impl|trait)\b[^{;]*)\{|^(?P<end>\})|" + FUNCTION, re.M)
 CONTRACT = re.compile(r"\n\s*(?:requires|ensures|where)\b")
@@ -52,12 +54,18 @@ def exports_of(crate):
     return {name for match in EXPORT.finditer(library) for name in re.findall(r"\w+", match[1])}
 
 
+def errors_in(texts):
+    """The types of errors that can say out of memory."""
+    errors = {"AllocError"} | {match[1] or match[2] for text in texts for match in WANTING.finditer(text)}
+    holders = [match for text in texts for match in HOLDING.finditer(text)]
+    return errors | {match[1] for match in holders if errors & set(re.findall(r"^    \w+\((\w+)\),$", match[2], re.M))}
+
+
 def public_calls():
     """Those calls by name, a method after its type or trait and `::`, each once."""
     uses = read_uses()
     crates = {crate: sources_of(crate) for crate in uses if any(crate in rest for rest in uses.values())}
-    found = [match for sources in crates.values() for source in sources for match in WANTING.finditer(source)]
-    errors = {"AllocError"} | {match[1] or match[2] for match in found}
+    errors = errors_in([source for sources in crates.values() for source in sources])
     calls = []
     for crate, sources in crates.items():
         exported = exports_of(crate)
