@@ -141,10 +141,12 @@ fn line_of(alloc: Global, source: &Source, game: &Game) -> Result<String, Memory
     Ok(line)
 }
 
-/// What a text is that is a game, as a line of JSON: an object with `title`; `levels`, how many there are;
-/// `ignored_keys`, of `act`, `undo` and `restart`; `glyphs`, each with its character as `glyph` and the names of the
-/// `objects` that it shows; `player_glyphs`, the characters of those that show an object of Player; and `without_glyph`,
-/// the names of the objects that no glyph shows alone.
+/// What a text is that is a game, as a line of JSON. It is an object with these members:
+///
+/// - `title`; `levels`, how many there are; `ignored_keys`, of `act`, `undo` and `restart`;
+/// - `glyphs`, each with its character as `glyph` and the names of the `objects` that it shows;
+/// - `player_glyphs`, the characters of those that show an object of Player;
+/// - `without_glyph`, the names of the objects that no glyph shows alone.
 ///
 /// # Errors
 ///

@@ -52,9 +52,9 @@ pub fn is_idle_part<'r, B: Scan>(
     scratch[0].find_part(board, rule.axis, part).is_empty()
 }
 
-/// The rest of an attempt of a rule whose only part this is, and begins on these rows of the board in the columns that
-/// the first scratch memory keeps. Where it goes right and a place of it asks for what another one's cells may change, its
-/// combinations are walked one after the other. Answers whether a cell changed. No memory is taken.
+/// The rest of an attempt of a rule whose only part this is. It begins on these rows of the board, in the columns that
+/// the first scratch memory keeps. Where it goes right and a place of it asks for what another one's cells may change,
+/// its combinations are walked one after the other. Answers whether a cell changed. No memory is taken.
 #[inline(never)]
 fn rewrite_found<'r, B: Scan>(
     rule: &CompiledRule<'r>,

@@ -1,5 +1,5 @@
-//! Laws of sessions: again turns, steps and what they write, the boards of sessions, scripts that are alike, and by what
-//! a level goes on.
+//! Laws of sessions: again turns, steps and what they write, the boards of sessions, scripts that are alike, and what a
+//! level goes on by.
 //!
 //! Each function here is a law: it has no body, and its contract is proved.
 

@@ -1,8 +1,8 @@
 //! Breadth-first search, with answers that are theorems.
 //!
 //! [`search`] looks for the shortest list of inputs that leads past a graph's places. It knows no games: [`Moves`] says
-//! how places follow one another, and keys stand for places where they are kept. Its contract is that of the answer: a
-//! list of inputs that leads past, and that no shorter list does; that no list does; or that no list up to a length does.
+//! how places follow one another, and keys stand for places where they are kept. Its contract is that of the answer. A
+//! list of inputs leads past, and no shorter one does; or no list does; or none up to some length does.
 #![tactic(auto)]
 
 mod answers;

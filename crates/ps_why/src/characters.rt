@@ -1,4 +1,5 @@
-//! Texts as they are shown: without a character that a terminal takes as an order, or that turns the direction of others.
+//! Texts as they are shown: without a character that a terminal takes as an order, or that turns the direction of
+//! others.
 
 ghost use Rattle.std.specs.Prelude.{◌≡◌, IfOk, string_bytes};
 ghost use Rattle.ps_why.specs.Shown.{is_order, sets_direction, shown_character, shown_characters, shown_text};
