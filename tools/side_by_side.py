@@ -57,11 +57,17 @@ class Run:
     process: subprocess.Popen
 
 
+def processors():
+    """How many processors may be used: those of this process, or as many as the variable RT_JOBS says, as for `rt`."""
+    said = os.environ.get("RT_JOBS", "")
+    return int(said) if said.isdecimal() else len(os.sched_getaffinity(0))
+
+
 def lanes():
     """How many tasks may go on side by side: one a processor, and as many as memory holds."""
     available = re.search(r"MemAvailable:\s+(\d+) kB", pathlib.Path("/proc/meminfo").read_text())
     memory = int(available[1]) << 10 if available else 0
-    return max(1, min(len(os.sched_getaffinity(0)), memory // BYTES_OF_A_CHECK))
+    return max(1, min(processors(), memory // BYTES_OF_A_CHECK))
 
 
 def copy_sources(crates, copy):
