@@ -9,3 +9,5 @@ pub mod TopicsAsked
 pub mod QuietGroups
 pub mod Waking
 pub mod Lacking
+pub mod Workspaces
+pub mod Runs

@@ -1,11 +1,12 @@
 //! An attempt of a rule of commands alone: it asks whether each row has a place, and no place is kept.
 
 ghost use Rattle.std.specs.Prelude.{◌≡◌, ◌≢◌, ◌≤◌, [], false, length, true};
-ghost use Rattle.ps_model.specs.board.Attempts.{Result as Meant, State, attempt, combinations_on};
+ghost use Rattle.ps_model.specs.board.Attempts.{attempt, combinations_on};
 ghost use Rattle.ps_engine.specs.Choosing.{row_places};
 ghost use Rattle.ps_engine.specs.RulesInRoom.{rule_meaning};
+ghost use Rattle.ps_engine.specs.Workspaces.{fixed_in, state_of};
 
-use crate::lent_queue::LentQueue;
+use crate::workspace::Workspace;
 use ps_match::{Scan, recall_shape};
 use ps_places::{ScratchFor, find_starts};
 use ps_program::{CompiledRow, CompiledRule};
@@ -53,20 +54,16 @@ pub fn rows_have_places<'r, B: Scan>(
 /// taken.
 pub fn attempt_commands<'r, B: Scan>(
     rule: &CompiledRule<'r>,
-    board: &B,
-    queue: &mut LentQueue<'r>,
-    scratch: &mut [ScratchFor<B>],
+    work: &mut Workspace<'_, '_, '_, 'r, B>,
 )
-    requires long { length rule.now.rows ≤ length scratch.old }
+    requires long { length rule.now.rows ≤ length work.old.scratch.now }
     requires commands { rule.now.rewrites ≡ false }
-    ensures attempt { let before : State = record { grid = B.grid board.now; queue = queue.old } in
-        let after : State = record { grid = B.grid board.now; queue = queue.new } in
-        let all : Meant = record { state = after; changed = false } in
-        all ≡ attempt (rule_meaning (B.table board.now) rule.now) before }
-    ensures scratch { length scratch.new ≡ length scratch.old }
+    ensures attempt { record { state = state_of B.Board work.new; changed = false }
+        ≡ attempt (rule_meaning (B.table work.old.board.now) rule.now) (state_of B.Board work.old) }
+    ensures fixed { fixed_in B.Board work.new ≡ fixed_in B.Board work.old }
 {
-    recall_shape(board);
-    if rows_have_places(board, rule, scratch) {
-        queue.enter(rule.commands);
+    recall_shape(work.board);
+    if rows_have_places(work.board, rule, work.scratch) {
+        work.queue.enter(rule.commands);
     }
 }

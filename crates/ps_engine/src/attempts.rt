@@ -1,16 +1,16 @@
 //! An attempt of a rule.
 
 ghost use Rattle.std.specs.Prelude.{◌≡◌, ◌≤◌, ◌∷◌, [], false, length, true};
-ghost use Rattle.ps_model.specs.board.Attempts.{Result as Meant, State, all_fit, attempt, combinations_on};
-ghost use Rattle.ps_match.specs.FixedParts.{fixed_part};
+ghost use Rattle.ps_model.specs.board.Attempts.{all_fit, attempt, combinations_on};
 ghost use Rattle.ps_engine.specs.Choices.{behind, choices_of, chosen};
 ghost use Rattle.ps_engine.specs.Choosing.{ArePlaced, HaveLinesOf, rows_meaning};
 ghost use Rattle.ps_engine.specs.RulesInRoom.{rule_meaning};
+ghost use Rattle.ps_engine.specs.Workspaces.{fixed_in, state_of};
 
 use crate::asking::{attempt_commands, rows_have_places};
-use crate::lent_queue::LentQueue;
 use crate::one_part::{attempt_part, is_idle_part, only_part};
 use crate::walking::walk;
+use crate::workspace::Workspace;
 use crate::writing::attempt_writer;
 use ps_match::Scan;
 use ps_places::{ScratchFor, find_starts};
@@ -97,25 +97,20 @@ pub fn is_idle<'r, B: Scan>(
 /// taken.
 pub fn attempt_rows<'r, B: Scan>(
     rule: &CompiledRule<'r>,
-    board: &mut B,
-    queue: &mut LentQueue<'r>,
-    scratch: &mut [ScratchFor<B>],
+    work: &mut Workspace<'_, '_, '_, 'r, B>,
 ) -> bool
-    requires long { length rule.now.rows ≤ length scratch.old }
+    requires long { length rule.now.rows ≤ length work.old.scratch.now }
     requires rewrites { rule.now.rewrites ≡ true }
-    ensures attempt { let before : State = record { grid = B.grid board.old; queue = queue.old } in
-        let after : State = record { grid = B.grid board.new; queue = queue.new } in
-        let all : Meant = record { state = after; changed = result } in
-        all ≡ attempt (rule_meaning (B.table board.old) rule.now) before }
-    ensures fixed { fixed_part B.Board board.new ≡ fixed_part B.Board board.old }
-    ensures scratch { length scratch.new ≡ length scratch.old }
+    ensures attempt { record { state = state_of B.Board work.new; changed = result }
+        ≡ attempt (rule_meaning (B.table work.old.board.now) rule.now) (state_of B.Board work.old) }
+    ensures fixed { fixed_in B.Board work.new ≡ fixed_in B.Board work.old }
 {
     let rows = rule.rows.as_slice();
-    if !choose_first(board, rule, scratch) {
+    if !choose_first(work.board, rule, work.scratch) {
         return false;
     }
-    queue.enter(rule.commands);
-    walk(board, rows, scratch, rule.sleeps)
+    work.queue.enter(rule.commands);
+    walk(work.board, rows, work.scratch, rule.sleeps)
 }
 
 /// An attempt of a rule by its kind: of commands alone, with a writer, or of any rows. A rule of commands alone tells
@@ -123,29 +118,24 @@ pub fn attempt_rows<'r, B: Scan>(
 #[inline(never)]
 fn attempt_by_kind<'r, B: Scan>(
     rule: &CompiledRule<'r>,
-    board: &mut B,
-    queue: &mut LentQueue<'r>,
-    scratch: &mut [ScratchFor<B>],
+    work: &mut Workspace<'_, '_, '_, 'r, B>,
 ) -> bool
-    requires { length rule.now.rows ≤ length scratch.old }
-    ensures attempt { let before : State = record { grid = B.grid board.old; queue = queue.old } in
-        let after : State = record { grid = B.grid board.new; queue = queue.new } in
-        let all : Meant = record { state = after; changed = result } in
-        all ≡ attempt (rule_meaning (B.table board.old) rule.now) before }
-    ensures fixed { fixed_part B.Board board.new ≡ fixed_part B.Board board.old }
-    ensures scratch { length scratch.new ≡ length scratch.old }
+    requires { length rule.now.rows ≤ length work.old.scratch.now }
+    ensures attempt { record { state = state_of B.Board work.new; changed = result }
+        ≡ attempt (rule_meaning (B.table work.old.board.now) rule.now) (state_of B.Board work.old) }
+    ensures fixed { fixed_in B.Board work.new ≡ fixed_in B.Board work.old }
 {
     if !rule.rewrites {
-        attempt_commands(rule, board, queue, scratch);
+        attempt_commands(rule, work);
         return false;
     }
-    if lacks_object(board, rule) {
+    if lacks_object(work.board, rule) {
         return false;
     }
     if let Some(writer) = rule.writer {
-        return attempt_writer(rule, writer, board, queue, &mut scratch[0]);
+        return attempt_writer(rule, writer, work);
     }
-    attempt_rows(rule, board, queue, scratch)
+    attempt_rows(rule, work)
 }
 
 /// An attempt of a rule: all combinations of its places are applied in order, each if every row still fits, and its
@@ -155,25 +145,25 @@ fn attempt_by_kind<'r, B: Scan>(
 #[inline(always)]
 pub fn attempt<'r, B: Scan>(
     rule: &CompiledRule<'r>,
-    board: &mut B,
-    queue: &mut LentQueue<'r>,
-    scratch: &mut [ScratchFor<B>],
+    work: &mut Workspace<'_, '_, '_, 'r, B>,
 ) -> bool
-    requires { length rule.now.rows ≤ length scratch.old }
-    ensures attempt { let before : State = record { grid = B.grid board.old; queue = queue.old } in
-        let after : State = record { grid = B.grid board.new; queue = queue.new } in
-        let all : Meant = record { state = after; changed = result } in
-        all ≡ attempt (rule_meaning (B.table board.old) rule.now) before }
-    ensures fixed { fixed_part B.Board board.new ≡ fixed_part B.Board board.old }
-    ensures scratch { length scratch.new ≡ length scratch.old }
+    requires { length rule.now.rows ≤ length work.old.scratch.now }
+    ensures attempt { record { state = state_of B.Board work.new; changed = result }
+        ≡ attempt (rule_meaning (B.table work.old.board.now) rule.now) (state_of B.Board work.old) }
+    ensures fixed { fixed_in B.Board work.new ≡ fixed_in B.Board work.old }
 {
-    if lacks_last(board, rule) {
+    if lacks_last(work.board, rule) {
         return false;
     }
     if rule.rewrites {
         if let Some(part) = only_part(rule.rows.as_slice()) {
-            return attempt_part(rule, part, board, queue, scratch);
+            return attempt_part(rule, part, work);
         }
     }
-    attempt_by_kind(rule, board, queue, scratch)
+    let mut lent = Workspace {
+        board: &mut *work.board,
+        queue: &mut *work.queue,
+        scratch: &mut *work.scratch,
+    };
+    attempt_by_kind(rule, &mut lent)
 }

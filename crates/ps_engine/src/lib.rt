@@ -12,9 +12,11 @@ mod one_part;
 mod programs;
 mod quiet_groups;
 mod rounds;
+mod runs;
 mod scratch;
 mod topics_asked;
 mod walking;
+mod workspace;
 mod writing;
 
 pub use cycle_finder::KeptBoards;

@@ -3,17 +3,17 @@
 //! row those that still fit.
 
 ghost use Rattle.std.specs.Prelude.{◌≡◌, ◌≢◌, ◌≤◌, ◌∷◌, IfSome, [], length, true};
-ghost use Rattle.ps_model.specs.board.Attempts.{Result as Meant, State, attempt, combinations_on};
+ghost use Rattle.ps_model.specs.board.Attempts.{attempt, combinations_on};
 ghost use Rattle.ps_model.specs.board.Places.{places};
 ghost use Rattle.ps_program.specs.Axes.{direction_of};
 ghost use Rattle.ps_places.specs.Lines.{part_meaning};
-ghost use Rattle.ps_match.specs.FixedParts.{fixed_part};
 ghost use Rattle.ps_laws.specs.WholeRows.{HasCells};
 ghost use Rattle.ps_engine.specs.OnePart.{FirstKeeps, one_part, rows_parts};
 ghost use Rattle.ps_engine.specs.RulesInRoom.{rule_meaning};
+ghost use Rattle.ps_engine.specs.Workspaces.{fixed_in, state_of};
 
 use crate::attempts::attempt_rows;
-use crate::lent_queue::LentQueue;
+use crate::workspace::Workspace;
 use ps_match::{Columns, Scan};
 use ps_places::{ScratchFor, begins_nowhere};
 use ps_program::{Axis, CompiledCell, CompiledRow, CompiledRule};
@@ -60,35 +60,30 @@ fn rewrite_found<'r, B: Scan>(
     rule: &CompiledRule<'r>,
     part: &[CompiledCell],
     starts: Columns<B::Words>,
-    board: &mut B,
-    queue: &mut LentQueue<'r>,
-    scratch: &mut [ScratchFor<B>],
+    work: &mut Workspace<'_, '_, '_, 'r, B>,
 ) -> bool
     requires only { rows_parts rule.now.rows ≡ one_part part.now }
     requires whole { HasCells part.now }
     requires rewrites { rule.now.rewrites ≡ true }
-    requires scratch { length rule.now.rows ≤ length scratch.old }
-    requires some { let meant = part_meaning (B.table board.old) part.now in
-        places (B.grid board.old) (direction_of rule.now.axis) (meant ∷ []) ≢ [] }
-    requires kept { FirstKeeps (B.grid board.old) (B.table board.old) rule.now.axis part.now starts scratch.old }
-    ensures attempt { let before : State = record { grid = B.grid board.old; queue = queue.old } in
-        let after : State = record { grid = B.grid board.new; queue = queue.new } in
-        let all : Meant = record { state = after; changed = result } in
-        all ≡ attempt (rule_meaning (B.table board.old) rule.now) before }
-    ensures fixed { fixed_part B.Board board.new ≡ fixed_part B.Board board.old }
-    ensures scratch { length scratch.new ≡ length scratch.old }
+    requires scratch { length rule.now.rows ≤ length work.old.scratch.now }
+    requires some { let meant = part_meaning (B.table work.old.board.now) part.now in
+        places (B.grid work.old.board.now) (direction_of rule.now.axis) (meant ∷ []) ≢ [] }
+    requires kept { FirstKeeps (B.grid work.old.board.now) (B.table work.old.board.now) rule.now.axis part.now starts work.old.scratch.now }
+    ensures attempt { record { state = state_of B.Board work.new; changed = result }
+        ≡ attempt (rule_meaning (B.table work.old.board.now) rule.now) (state_of B.Board work.old) }
+    ensures fixed { fixed_in B.Board work.new ≡ fixed_in B.Board work.old }
 {
-    let row_scratch = &scratch[0];
+    let row_scratch = &mut work.scratch[0];
     if row_scratch.are_independent(rule.axis, part, starts) {
-        queue.enter(rule.commands);
-        return row_scratch.rewrite_places(board, rule.axis, part, starts);
+        work.queue.enter(rule.commands);
+        return row_scratch.rewrite_places(work.board, rule.axis, part, starts);
     }
     match rule.axis {
         Axis::Down => {
-            queue.enter(rule.commands);
-            row_scratch.rewrite_in_turn(board, part, starts)
+            work.queue.enter(rule.commands);
+            row_scratch.rewrite_in_turn(work.board, part, starts)
         }
-        Axis::Right => attempt_rows(rule, board, queue, scratch),
+        Axis::Right => attempt_rows(rule, work),
     }
 }
 
@@ -98,24 +93,25 @@ fn rewrite_found<'r, B: Scan>(
 pub fn attempt_part<'r, B: Scan>(
     rule: &CompiledRule<'r>,
     part: &[CompiledCell],
-    board: &mut B,
-    queue: &mut LentQueue<'r>,
-    scratch: &mut [ScratchFor<B>],
+    work: &mut Workspace<'_, '_, '_, 'r, B>,
 ) -> bool
     requires only { rows_parts rule.now.rows ≡ one_part part.now }
     requires whole { HasCells part.now }
     requires rewrites { rule.now.rewrites ≡ true }
-    requires scratch { length rule.now.rows ≤ length scratch.old }
-    ensures attempt { let before : State = record { grid = B.grid board.old; queue = queue.old } in
-        let after : State = record { grid = B.grid board.new; queue = queue.new } in
-        let all : Meant = record { state = after; changed = result } in
-        all ≡ attempt (rule_meaning (B.table board.old) rule.now) before }
-    ensures fixed { fixed_part B.Board board.new ≡ fixed_part B.Board board.old }
-    ensures scratch { length scratch.new ≡ length scratch.old }
+    requires scratch { length rule.now.rows ≤ length work.old.scratch.now }
+    ensures attempt { record { state = state_of B.Board work.new; changed = result }
+        ≡ attempt (rule_meaning (B.table work.old.board.now) rule.now) (state_of B.Board work.old) }
+    ensures fixed { fixed_in B.Board work.new ≡ fixed_in B.Board work.old }
 {
-    let starts = scratch[0].find_part(board, rule.axis, part);
+    let starts = work.scratch[0].find_part(work.board, rule.axis, part);
     if starts.is_empty() {
         return false;
     }
-    rewrite_found(rule, part, starts, board, queue, scratch)
+    // A workspace of its own is lent, so that the one of most rules, which have no place, needn't lie in memory.
+    let mut lent = Workspace {
+        board: &mut *work.board,
+        queue: &mut *work.queue,
+        scratch: &mut *work.scratch,
+    };
+    rewrite_found(rule, part, starts, &mut lent)
 }

@@ -14,10 +14,12 @@ ghost use Rattle.ps_engine.specs.Scratch.{HaveScratch, SectionHasScratch, Sectio
 ghost use Rattle.ps_model.specs.board.Grid.{Grid};
 ghost use Rattle.ps_engine.specs.QuietGroups.{AreIdleOn, IsIdleOn};
 ghost use Rattle.ps_engine.specs.declared.quiet_groups.KnownSection.{KnownSection};
+ghost use Rattle.ps_engine.specs.Runs.{fixed_in_run, state_of_run};
 ghost use Rattle.ps_engine.specs.Waking.{AreForgotten, AreUnknown, AreWoken, IsSameBut, IsWoken};
 
 use crate::attempts::is_idle;
 use crate::lacking::behind_lacking;
+use crate::runs::Run;
 use crate::topics_asked::topics_of_section;
 use ps_match::{Columns, Scan, Topics, recall_shape};
 use ps_model::Memory;
@@ -337,26 +339,27 @@ impl<'p, 'r, B: Scan> QuietGroups<'p, 'r, B> {
 
     /// Whether a section may be passed over on a board, which differs from what is kept in these topics alone: it is a
     /// group of which no rule has a combination. No memory is taken.
-    pub(crate) fn passes(
+    pub(crate) fn passes<'q>(
         &mut self,
         number: usize,
         stirred: Topics,
-        motions: MotionSet,
-        board: &B,
-        scratch: &mut [ScratchFor<B>],
+        run: &mut Run<'_, '_, '_, 'q, B>,
     ) -> bool
         requires number { number < length self.old.sections }
-        requires scratch { SectionsHaveScratch (length scratch.old) self.old.sections }
-        requires motions { HasMotionsIn (B.grid board.now) motions }
+        requires scratch { SectionsHaveScratch (length run.old.scratch.now) self.old.sections }
         requires same { (g : Grid) (table : Option (List ℕ)) → self.old.kept ≡ Some (g, table) →
-            IsSameBut stirred (B.grid board.now) (B.table board.now) g table }
+            IsSameBut stirred (B.grid run.old.board.now) (B.table run.old.board.now) g table }
         ensures idle { (section : CompiledSection) → slice_get self.old.sections number ≡ Some section →
-            result ≡ true → IsIdleOn (B.grid board.now) (B.table board.now) section }
+            result ≡ true → IsIdleOn (B.grid run.old.board.now) (B.table run.old.board.now) section }
         ensures program { self.new ≡ self.old }
-        ensures scratch { length scratch.new ≡ length scratch.old }
+        ensures state { state_of_run B.Board run.new ≡ state_of_run B.Board run.old }
+        ensures fixed { fixed_in_run B.Board run.new ≡ fixed_in_run B.Board run.old }
     {
-        recall_shape(board);
-        if self.board.is_none() || !is_apart(self.known[number], stirred) {
+        recall_shape(run.board);
+        if self.board.is_none() {
+            return false;
+        }
+        if !is_apart(self.known[number], stirred) {
             return false;
         }
         if self.known[number].quiet {
@@ -364,7 +367,7 @@ impl<'p, 'r, B: Scan> QuietGroups<'p, 'r, B> {
             return true;
         }
         let sections = self.sections;
-        let idle = is_idle_section(&sections[number], motions, board, scratch);
+        let idle = is_idle_section(&sections[number], run.motions, run.board, run.scratch);
         note(&mut self.known, number, idle);
         idle
     }

@@ -2,54 +2,39 @@
 
 ghost use Rattle.std.specs.Prelude.{◌≡◌, ◌≤◌, ◌-◌, IfOk, OnOk, drop, length, true};
 ghost use Rattle.ps_model.specs.declared.limits.TheConstants.{ROUND_LIMIT};
-ghost use Rattle.ps_model.specs.board.Attempts.{Result as Meant, State, attempt};
+ghost use Rattle.ps_model.specs.board.Attempts.{Result as Meant, attempt};
 ghost use Rattle.ps_model.specs.board.Programs.{group, pass, round, settled};
 ghost use Rattle.ps_engine.specs.RulesInRoom.{groups_meaning, rule_meaning, rules_meaning};
 ghost use Rattle.ps_engine.specs.Scratch.{GroupsHaveScratch, HaveScratch};
-ghost use Rattle.ps_match.specs.FixedParts.{fixed_part};
-ghost use Rattle.ps_match.specs.Nowhere.{HasMotionsIn};
+ghost use Rattle.ps_engine.specs.Runs.{fixed_in_run, state_of_run};
 
-use crate::attempts::attempt;
 use crate::cycle_finder::CycleFinder;
 use crate::kept_board::KeptBoard;
 use crate::lacking::{asks_for_others, behind_lacking};
-use crate::lent_queue::LentQueue;
+use crate::runs::Run;
 use ps_match::Scan;
 use ps_model::{Memory, ROUND_LIMIT};
-use ps_places::ScratchFor;
-use ps_program::{CompiledRule, MotionSet};
+use ps_program::CompiledRule;
 use ps_text::List;
 
 /// A round: the attempts of a group's rules in order, but for those that ask for a motion which nothing has. Answers
-/// whether one changed something. The set has all motions of the board, before and after.
+/// whether one changed something.
 #[inline(always)]
-fn round<'r, B: Scan>(
-    rules: &[CompiledRule<'r>],
-    board: &mut B,
-    queue: &mut LentQueue<'r>,
-    scratch: &mut [ScratchFor<B>],
-    motions: &mut MotionSet,
-) -> bool
-    requires scratch { HaveScratch (length scratch.old) rules.now }
-    requires motions { HasMotionsIn (B.grid board.old) motions.old }
-    ensures round { let before : State = record { grid = B.grid board.old; queue = queue.old } in
-        let after : State = record { grid = B.grid board.new; queue = queue.new } in
-        record { state = after; changed = result }
-        ≡ round (rules_meaning (B.table board.old) rules.now) before }
-    ensures fixed { fixed_part B.Board board.new ≡ fixed_part B.Board board.old }
-    ensures scratch { length scratch.new ≡ length scratch.old }
-    ensures motions { HasMotionsIn (B.grid board.new) motions.new }
+fn round<'r, B: Scan>(rules: &[CompiledRule<'r>], run: &mut Run<'_, '_, '_, 'r, B>) -> bool
+    requires { HaveScratch (length run.old.scratch.now) rules.now }
+    ensures round { record { state = state_of_run B.Board run.new; changed = result }
+        ≡ round (rules_meaning (B.table run.old.board.now) rules.now) (state_of_run B.Board run.old) }
+    ensures fixed { fixed_in_run B.Board run.new ≡ fixed_in_run B.Board run.old }
 {
     let mut changed = false;
     let mut number = 0;
     while number < rules.len() {
-        let next = behind_lacking(board, *motions, rules, number);
+        let next = behind_lacking(run.board, run.motions, rules, number);
         if next == rules.len() {
             return changed;
         }
-        if attempt(&rules[next], board, queue, scratch) {
+        if run.attempt(&rules[next]) {
             changed = true;
-            *motions = board.motions_there();
         }
         number = next + 1;
     }
@@ -66,61 +51,44 @@ fn round<'r, B: Scan>(
 fn play_rounds<'r, B: Scan>(
     rules: &[CompiledRule<'r>],
     most: u32,
-    board: &mut B,
-    queue: &mut LentQueue<'r>,
-    scratch: &mut [ScratchFor<B>],
-    motions: &mut MotionSet,
+    run: &mut Run<'_, '_, '_, 'r, B>,
     kept: &mut KeptBoard<B>,
 ) -> Result<(), Memory>
-    requires scratch { HaveScratch (length scratch.old) rules.now }
-    requires motions { HasMotionsIn (B.grid board.old) motions.old }
-    ensures settled { let before : State = record { grid = B.grid board.old; queue = queue.old } in
-        let after : State = record { grid = B.grid board.new; queue = queue.new } in
-        let all : Meant = record { state = after; changed = true } in
-        OnOk result (all ≡ settled (rules_meaning (B.table board.old) rules.now) most true before) }
-    ensures fixed { fixed_part B.Board board.new ≡ fixed_part B.Board board.old }
-    ensures scratch { length scratch.new ≡ length scratch.old }
-    ensures motions { HasMotionsIn (B.grid board.new) motions.new }
+    requires { HaveScratch (length run.old.scratch.now) rules.now }
+    ensures settled { let all : Meant = record { state = state_of_run B.Board run.new; changed = true } in
+        let meant = rules_meaning (B.table run.old.board.now) rules.now in
+        OnOk result (all ≡ settled meant most true (state_of_run B.Board run.old)) }
+    ensures fixed { fixed_in_run B.Board run.new ≡ fixed_in_run B.Board run.old }
 {
     let mut finder = CycleFinder::new();
-    let mut left = finder.step(most, board, queue, kept)?;
+    let mut left = finder.step(most, run.board, run.queue, kept)?;
     while 0 < left {
-        if !round(rules, board, queue, scratch, motions) {
+        if !round(rules, run) {
             return Ok(());
         }
-        left = finder.step(left - 1, board, queue, kept)?;
+        left = finder.step(left - 1, run.board, run.queue, kept)?;
     }
     Ok(())
 }
 
-/// An attempt of a rule, unless it asks for a motion which isn't in the set: then it has no combination. The set has
-/// all motions of the board. Answers whether a cell changed.
+/// An attempt of a rule, unless it asks for a motion that nothing on the board has: then it has no combination. Answers
+/// whether a cell changed.
 #[inline(always)]
-fn attempt_asked<'r, B: Scan>(
-    rule: &CompiledRule<'r>,
-    motions: MotionSet,
-    board: &mut B,
-    queue: &mut LentQueue<'r>,
-    scratch: &mut [ScratchFor<B>],
-) -> bool
-    requires scratch { length rule.now.rows ≤ length scratch.old }
-    requires motions { HasMotionsIn (B.grid board.old) motions }
-    ensures attempt { let before : State = record { grid = B.grid board.old; queue = queue.old } in
-        let after : State = record { grid = B.grid board.new; queue = queue.new } in
-        let all : Meant = record { state = after; changed = result } in
-        all ≡ attempt (rule_meaning (B.table board.old) rule.now) before }
-    ensures fixed { fixed_part B.Board board.new ≡ fixed_part B.Board board.old }
-    ensures scratch { length scratch.new ≡ length scratch.old }
+fn attempt_asked<'r, B: Scan>(rule: &CompiledRule<'r>, run: &mut Run<'_, '_, '_, 'r, B>) -> bool
+    requires { length rule.now.rows ≤ length run.old.scratch.now }
+    ensures attempt { record { state = state_of_run B.Board run.new; changed = result }
+        ≡ attempt (rule_meaning (B.table run.old.board.now) rule.now) (state_of_run B.Board run.old) }
+    ensures fixed { fixed_in_run B.Board run.new ≡ fixed_in_run B.Board run.old }
 {
-    if asks_for_others(board, motions, rule) {
+    if asks_for_others(run.board, run.motions, rule) {
         return false;
     }
-    attempt(rule, board, queue, scratch)
+    run.attempt(rule)
 }
 
 /// The rest of a group after the first rule that has changed something: the rest of the first round, from the rule of
 /// that number on, and the rounds after it. Few groups come to it, so that it is apart, and the first rules of a group
-/// are looked at with nothing else to keep. After it the set has all motions of the board.
+/// are looked at with nothing else to keep.
 ///
 /// # Errors
 ///
@@ -129,28 +97,20 @@ fn attempt_asked<'r, B: Scan>(
 fn play_on<'r, B: Scan>(
     rules: &[CompiledRule<'r>],
     first: usize,
-    board: &mut B,
-    queue: &mut LentQueue<'r>,
-    scratch: &mut [ScratchFor<B>],
-    motions: &mut MotionSet,
+    run: &mut Run<'_, '_, '_, 'r, B>,
     kept: &mut KeptBoard<B>,
 ) -> Result<(), Memory>
-    requires scratch { HaveScratch (length scratch.old) rules.now }
+    requires scratch { HaveScratch (length run.old.scratch.now) rules.now }
     requires first { first ≤ length rules.now }
-    ensures settled { let before : State = record { grid = B.grid board.old; queue = queue.old } in
-        let after : State = record { grid = B.grid board.new; queue = queue.new } in
-        let all : Meant = record { state = after; changed = true } in
-        let meant = rules_meaning (B.table board.old) rules.now in
-        let rest = round (rules_meaning (B.table board.old) (drop first rules.now)) before in
-        OnOk result (all ≡ settled meant (ROUND_LIMIT - 1) true rest.state) }
-    ensures fixed { fixed_part B.Board board.new ≡ fixed_part B.Board board.old }
-    ensures scratch { length scratch.new ≡ length scratch.old }
-    ensures motions { HasMotionsIn (B.grid board.new) motions.new }
+    ensures settled { let all : Meant = record { state = state_of_run B.Board run.new; changed = true } in
+        let table = B.table run.old.board.now in
+        let rest = round (rules_meaning table (drop first rules.now)) (state_of_run B.Board run.old) in
+        OnOk result (all ≡ settled (rules_meaning table rules.now) (ROUND_LIMIT - 1) true rest.state) }
+    ensures fixed { fixed_in_run B.Board run.new ≡ fixed_in_run B.Board run.old }
 {
-    *motions = board.motions_there();
     let (_front, rest) = rules.split_at(first);
-    round(rest, board, queue, scratch, motions);
-    play_rounds(rules, ROUND_LIMIT - 1, board, queue, scratch, motions, kept)
+    round(rest, run);
+    play_rounds(rules, ROUND_LIMIT - 1, run, kept)
 }
 
 /// A group: rounds until one changes nothing, as many as are allowed, without whole periods where they come back.
@@ -163,29 +123,17 @@ fn play_on<'r, B: Scan>(
 #[inline(always)]
 pub fn play_group<'r, B: Scan>(
     rules: &[CompiledRule<'r>],
-    board: &mut B,
-    queue: &mut LentQueue<'r>,
-    scratch: &mut [ScratchFor<B>],
-    motions: &mut MotionSet,
+    run: &mut Run<'_, '_, '_, 'r, B>,
     kept: &mut KeptBoard<B>,
 ) -> Result<bool, Memory>
-    requires scratch { HaveScratch (length scratch.old) rules.now }
-    requires motions { HasMotionsIn (B.grid board.old) motions.old }
-    ensures group { let before : State = record { grid = B.grid board.old; queue = queue.old } in
-        let after : State = record { grid = B.grid board.new; queue = queue.new } in
-        IfOk result (λ changed. record { state = after; changed = changed }
-        ≡ group (rules_meaning (B.table board.old) rules.now) before) }
-    ensures fixed { fixed_part B.Board board.new ≡ fixed_part B.Board board.old }
-    ensures scratch { length scratch.new ≡ length scratch.old }
-    ensures motions { HasMotionsIn (B.grid board.new) motions.new }
+    requires { HaveScratch (length run.old.scratch.now) rules.now }
+    ensures group { IfOk result (λ changed. record { state = state_of_run B.Board run.new; changed = changed }
+        ≡ group (rules_meaning (B.table run.old.board.now) rules.now) (state_of_run B.Board run.old)) }
+    ensures fixed { fixed_in_run B.Board run.new ≡ fixed_in_run B.Board run.old }
 {
     for number in 0..rules.len() {
-        if attempt_asked(&rules[number], *motions, board, queue, scratch) {
-            // A copy is lent, so that the set needn't lie in memory as long as nothing has changed.
-            let mut moved = *motions;
-            let played = play_on(rules, number + 1, board, queue, scratch, &mut moved, kept);
-            *motions = moved;
-            played?;
+        if attempt_asked(&rules[number], run) {
+            play_on(rules, number + 1, run, kept)?;
             return Ok(true);
         }
     }
@@ -199,25 +147,17 @@ pub fn play_group<'r, B: Scan>(
 /// `Memory`, as for a group; a part of the pass has been made.
 pub fn pass<'r, B: Scan>(
     groups: &[List<CompiledRule<'r>>],
-    board: &mut B,
-    queue: &mut LentQueue<'r>,
-    scratch: &mut [ScratchFor<B>],
-    motions: &mut MotionSet,
+    run: &mut Run<'_, '_, '_, 'r, B>,
     kept: &mut KeptBoard<B>,
 ) -> Result<bool, Memory>
-    requires scratch { GroupsHaveScratch (length scratch.old) groups.now }
-    requires motions { HasMotionsIn (B.grid board.old) motions.old }
-    ensures pass { let before : State = record { grid = B.grid board.old; queue = queue.old } in
-        let after : State = record { grid = B.grid board.new; queue = queue.new } in
-        IfOk result (λ changed. record { state = after; changed = changed }
-        ≡ pass (groups_meaning (B.table board.old) groups.now) before) }
-    ensures fixed { fixed_part B.Board board.new ≡ fixed_part B.Board board.old }
-    ensures scratch { length scratch.new ≡ length scratch.old }
-    ensures motions { HasMotionsIn (B.grid board.new) motions.new }
+    requires { GroupsHaveScratch (length run.old.scratch.now) groups.now }
+    ensures pass { IfOk result (λ changed. record { state = state_of_run B.Board run.new; changed = changed }
+        ≡ pass (groups_meaning (B.table run.old.board.now) groups.now) (state_of_run B.Board run.old)) }
+    ensures fixed { fixed_in_run B.Board run.new ≡ fixed_in_run B.Board run.old }
 {
     let mut changed = false;
     for rules in groups {
-        let more = play_group(rules.as_slice(), board, queue, scratch, motions, kept)?;
+        let more = play_group(rules.as_slice(), run, kept)?;
         changed |= more;
     }
     Ok(changed)

@@ -2,8 +2,8 @@
 //! masks of all others. Wherever the row fits at the start it comes to that cell written, once: no place is kept, and
 //! the cells are written row by row of the board.
 
-ghost use Rattle.std.specs.Prelude.{◌≡◌, ◌<◌, Some, slice_get, true};
-ghost use Rattle.ps_model.specs.board.Attempts.{Result as Meant, State, attempt};
+ghost use Rattle.std.specs.Prelude.{◌≡◌, ◌<◌, Some, length, slice_get, true};
+ghost use Rattle.ps_model.specs.board.Attempts.{attempt};
 ghost use Rattle.ps_model.specs.meaning.Compiled.{cell_written};
 ghost use Rattle.ps_program.specs.CellsShown.{write_shown};
 ghost use Rattle.ps_program.specs.Writers.{parts_writer};
@@ -13,9 +13,10 @@ ghost use Rattle.ps_match.specs.Together.{rewritten_where};
 ghost use Rattle.ps_places.specs.FoundStarts.{part_of};
 ghost use Rattle.ps_places.specs.PartTargets.{own_part};
 ghost use Rattle.ps_engine.specs.RulesInRoom.{rule_meaning};
+ghost use Rattle.ps_engine.specs.Workspaces.{fixed_in, state_of};
 ghost use Rattle.ps_engine.specs.Writing.{AreWithin, is_behind, is_written, row_behind};
 
-use crate::lent_queue::LentQueue;
+use crate::workspace::Workspace;
 use ps_match::{Columns, Scan, recall_shape, rewrite_ahead};
 use ps_places::ScratchFor;
 use ps_program::{Axis, CellWrite, CompiledCell, CompiledRow, CompiledRule, Writer};
@@ -35,45 +36,50 @@ fn writing_cell(row: &CompiledRow, writer: Writer) -> &CompiledCell
     &part[writer.cell as usize]
 }
 
-/// Writes the cells that lie `steps` along an axis from some columns of a row of the board, and answers whether
-/// one of them changed.
+/// Where a cell of a part lies from where the part begins: `steps` along an axis.
+#[derive(Clone, Copy)]
+struct CellOffset {
+    axis: Axis,
+    steps: u32,
+}
+
+/// Writes the cells at this offset from some columns of a row of the board, and answers whether one of them changed.
 fn write_behind<B: Scan>(
     board: &mut B,
     write: &CellWrite,
-    axis: Axis,
-    steps: u32,
+    offset: CellOffset,
     row: u32,
     columns: Columns<B::Words>,
 ) -> bool
-    requires { row_behind axis row steps < (B.grid board.old).height }
+    requires { row_behind offset.axis row offset.steps < (B.grid board.old).height }
     ensures rewritten { let before = B.grid board.old in
         let becomes = cell_written (write_in_room (B.table board.old) (write_shown write.now)) in
         record { grid = B.grid board.new; changed = result }
-        ≡ rewritten_where before becomes (is_behind axis before.height steps row columns) }
+        ≡ rewritten_where before becomes (is_behind offset.axis before.height offset.steps row columns) }
     ensures fixed { fixed_part B.Board board.new ≡ fixed_part B.Board board.old }
 {
     recall_shape(board);
-    match axis {
-        Axis::Down => board.rewrite(write, row + steps, &columns),
-        Axis::Right => rewrite_ahead(board, write, row, columns, steps),
+    match offset.axis {
+        Axis::Down => board.rewrite(write, row + offset.steps, &columns),
+        Axis::Right => rewrite_ahead(board, write, row, columns, offset.steps),
     }
 }
 
-/// Writes the cells that lie `steps` along an axis from the columns that scratch memory keeps of these rows of the
-/// board, and answers whether one of them changed.
+/// Writes the cells at this offset from the columns that scratch memory keeps of these rows of the board, and answers
+/// whether one of them changed.
 fn write_targets<B: Scan>(
     board: &mut B,
     write: &CellWrite,
-    axis: Axis,
-    steps: u32,
+    offset: CellOffset,
     rows: Columns<B::Words>,
     row_scratch: &ScratchFor<B>,
 ) -> bool
-    requires { AreWithin axis (B.grid board.old).height steps rows }
+    requires { AreWithin offset.axis (B.grid board.old).height offset.steps rows }
     ensures rewritten { let before = B.grid board.old in
         let becomes = cell_written (write_in_room (B.table board.old) (write_shown write.now)) in
         record { grid = B.grid board.new; changed = result }
-        ≡ rewritten_where before becomes (is_written axis before.height steps rows row_scratch.now.starts.items) }
+        ≡ rewritten_where before becomes
+        (is_written offset.axis before.height offset.steps rows row_scratch.now.starts.items) }
     ensures fixed { fixed_part B.Board board.new ≡ fixed_part B.Board board.old }
 {
     recall_shape(board);
@@ -81,7 +87,7 @@ fn write_targets<B: Scan>(
     let mut changed = false;
     while let Some(row) = left.take_first() {
         let columns = row_scratch.targets_on(row);
-        changed |= write_behind(board, write, axis, steps, row, columns);
+        changed |= write_behind(board, write, offset, row, columns);
     }
     changed
 }
@@ -92,25 +98,27 @@ fn write_targets<B: Scan>(
 pub fn attempt_writer<'r, B: Scan>(
     rule: &CompiledRule<'r>,
     writer: Writer,
-    board: &mut B,
-    queue: &mut LentQueue<'r>,
-    row_scratch: &mut ScratchFor<B>,
+    work: &mut Workspace<'_, '_, '_, 'r, B>,
 ) -> bool
     requires writer { rule.now.writer ≡ Some writer }
+    requires scratch { 0 < length work.old.scratch.now }
     requires rewrites { rule.now.rewrites ≡ true }
-    ensures attempt { let before : State = record { grid = B.grid board.old; queue = queue.old } in
-        let after : State = record { grid = B.grid board.new; queue = queue.new } in
-        let all : Meant = record { state = after; changed = result } in
-        all ≡ attempt (rule_meaning (B.table board.old) rule.now) before }
-    ensures fixed { fixed_part B.Board board.new ≡ fixed_part B.Board board.old }
+    ensures attempt { record { state = state_of B.Board work.new; changed = result }
+        ≡ attempt (rule_meaning (B.table work.old.board.now) rule.now) (state_of B.Board work.old) }
+    ensures fixed { fixed_in B.Board work.new ≡ fixed_in B.Board work.old }
 {
-    recall_shape(board);
+    recall_shape(work.board);
     let row = &rule.rows.as_slice()[0];
     let cell = writing_cell(row, writer);
-    let rows = row_scratch.find_targets(board, row, writer.leads);
+    let row_scratch = &mut work.scratch[0];
+    let rows = row_scratch.find_targets(work.board, row, writer.leads);
     if rows.is_empty() {
         return false;
     }
-    queue.enter(rule.commands);
-    write_targets(board, &cell.write, row.axis, writer.cell, rows, row_scratch)
+    work.queue.enter(rule.commands);
+    let offset = CellOffset {
+        axis: row.axis,
+        steps: writer.cell,
+    };
+    write_targets(work.board, &cell.write, offset, rows, row_scratch)
 }

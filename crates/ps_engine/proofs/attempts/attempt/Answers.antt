@@ -11,30 +11,21 @@ use Rattle.ps_engine.proofs.attempts.attempt.Goals as goal
 
 pub returns-then-lacks_last-clause-attempt : goal.returns-then-lacks_last-clause-attempt
 returns-then-lacks_last-clause-attempt g c =
-    let grid : Grid = g.B.Board.grid c.args.board.now in
-    let table : Option (List ℕ) = g.B.Board.table c.args.board.now in
+    let grid : Grid = g.B.Board.grid c.args.work.now.board.now in
+    let table : Option (List ℕ) = g.B.Board.table c.args.work.now.board.now in
     let rule = c.args.rule.now in
     attempt_none (direction_of rule.axis) (rows_meaning table rule.rows) rule.rewrites
-    (commands_shown rule.commands.now) grid c.args.queue.now
+    (commands_shown rule.commands.now) grid c.args.work.now.queue.now
     (combinations_on grid (rule_meaning table rule)) (c.lacks_last.ensures c.if-lacks_last.true)
 
 pub returns-then-lacks_last-clause-fixed : goal.returns-then-lacks_last-clause-fixed
 returns-then-lacks_last-clause-fixed g c = refl
-
-pub returns-then-lacks_last-clause-scratch : goal.returns-then-lacks_last-clause-scratch
-returns-then-lacks_last-clause-scratch g c = refl
 
 pub attempt_by_kind-requires : goal.attempt_by_kind-requires
 attempt_by_kind-requires g c = c.requires
 
 pub returns-clause-attempt : goal.returns-clause-attempt
 returns-clause-attempt g c = c.attempt_by_kind.ensures.attempt
-
-pub returns-clause-fixed : goal.returns-clause-fixed
-returns-clause-fixed g c = c.attempt_by_kind.ensures.fixed
-
-pub returns-clause-scratch : goal.returns-clause-scratch
-returns-clause-scratch g c = c.attempt_by_kind.ensures.scratch
 
 pub attempt_part-requires-clause-only : goal.attempt_part-requires-clause-only
 attempt_part-requires-clause-only g c = ap rows_parts (sym c.as_slice.ensures) ∙ c.in-Some.ensures.only
@@ -53,6 +44,3 @@ returns-in-Some-clause-attempt g c = c.attempt_part.ensures.attempt
 
 pub returns-in-Some-clause-fixed : goal.returns-in-Some-clause-fixed
 returns-in-Some-clause-fixed g c = c.attempt_part.ensures.fixed
-
-pub returns-in-Some-clause-scratch : goal.returns-in-Some-clause-scratch
-returns-in-Some-clause-scratch g c = c.attempt_part.ensures.scratch

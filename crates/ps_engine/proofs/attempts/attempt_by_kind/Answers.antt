@@ -1,5 +1,4 @@
 use Rattle.std.proofs.Common.{ℕ, Option, List, refl, length}
-use Rattle.std.proofs.lemmas.List.{length-set}
 use Rattle.ps_model.specs.board.Grid.{Grid}
 use Rattle.ps_model.specs.board.Attempts.{combinations_on}
 use Rattle.ps_program.specs.CommandsShown.{commands_shown}
@@ -20,25 +19,19 @@ pub attempt_commands-requires-clause-commands : goal.attempt_commands-requires-c
 attempt_commands-requires-clause-commands g c = c.if-not-rule.true
 
 pub returns-then-not-rule-clause-fixed : goal.returns-then-not-rule-clause-fixed
-returns-then-not-rule-clause-fixed g c = refl
-
-pub returns-then-not-rule-clause-scratch : goal.returns-then-not-rule-clause-scratch
-returns-then-not-rule-clause-scratch g c = c.attempt_commands.ensures.scratch
+returns-then-not-rule-clause-fixed g c = c.attempt_commands.ensures.fixed
 
 pub returns-then-lacks_object-clause-attempt : goal.returns-then-lacks_object-clause-attempt
 returns-then-lacks_object-clause-attempt g c =
-    let grid : Grid = g.B.Board.grid c.args.board.now in
-    let table : Option (List ℕ) = g.B.Board.table c.args.board.now in
+    let grid : Grid = g.B.Board.grid c.args.work.now.board.now in
+    let table : Option (List ℕ) = g.B.Board.table c.args.work.now.board.now in
     let rule = c.args.rule.now in
     attempt_none (direction_of rule.axis) (rows_meaning table rule.rows) rule.rewrites
-    (commands_shown rule.commands.now) grid c.args.queue.now
+    (commands_shown rule.commands.now) grid c.args.work.now.queue.now
     (combinations_on grid (rule_meaning table rule)) (c.lacks_object.ensures c.if-lacks_object.true)
 
 pub returns-then-lacks_object-clause-fixed : goal.returns-then-lacks_object-clause-fixed
 returns-then-lacks_object-clause-fixed g c = refl
-
-pub returns-then-lacks_object-clause-scratch : goal.returns-then-lacks_object-clause-scratch
-returns-then-lacks_object-clause-scratch g c = refl
 
 pub attempt_writer-requires-clause-writer : goal.attempt_writer-requires-clause-writer
 attempt_writer-requires-clause-writer g c = c.in-Some.is
@@ -52,9 +45,6 @@ returns-in-Some-clause-attempt g c = c.attempt_writer.ensures.attempt
 pub returns-in-Some-clause-fixed : goal.returns-in-Some-clause-fixed
 returns-in-Some-clause-fixed g c = c.attempt_writer.ensures.fixed
 
-pub returns-in-Some-clause-scratch : goal.returns-in-Some-clause-scratch
-returns-in-Some-clause-scratch g c = length-set c.args.scratch.now 0 c.attempt_writer.new.row_scratch
-
 pub attempt_rows-requires-clause-long : goal.attempt_rows-requires-clause-long
 attempt_rows-requires-clause-long g c = c.requires
 
@@ -67,10 +57,7 @@ returns-clause-attempt g c = c.attempt_rows.ensures.attempt
 pub returns-clause-fixed : goal.returns-clause-fixed
 returns-clause-fixed g c = c.attempt_rows.ensures.fixed
 
-pub returns-clause-scratch : goal.returns-clause-scratch
-returns-clause-scratch g c = c.attempt_rows.ensures.scratch
-
-pub bounds-scratch-0 : goal.bounds-scratch-0
-bounds-scratch-0 g c =
-    writer_room c.args.rule.now.rows c.args.rule.now.writer c.in-Some.writer (length c.args.scratch.now)
+pub attempt_writer-requires-clause-scratch : goal.attempt_writer-requires-clause-scratch
+attempt_writer-requires-clause-scratch g c =
+    writer_room c.args.rule.now.rows c.args.rule.now.writer c.in-Some.writer (length c.args.work.now.scratch.now)
     c.args.rule.now.alone c.in-Some.is c.requires

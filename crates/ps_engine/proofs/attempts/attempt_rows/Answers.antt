@@ -10,34 +10,35 @@ use Rattle.ps_engine.specs.Choices.{Choice, behind, choices_of, chosen}
 use Rattle.ps_engine.specs.Choosing.{ArePlaced, HaveLinesOf, rows_meaning}
 use Rattle.ps_engine.specs.RulesInRoom.{rule_meaning}
 use Rattle.ps_engine.proofs.Attempting.{attempt_none, attempt_walked, unchanged}
+use Rattle.ps_engine.specs.Workspaces.{fixed_by}
 use Rattle.ps_engine.proofs.attempts.attempt_rows.Goals as goal
 
 pub returns-then-not-choose_first-clause-attempt : goal.returns-then-not-choose_first-clause-attempt
 returns-then-not-choose_first-clause-attempt g c =
-    let grid : Grid = g.B.Board.grid c.args.board.now in
-    let table : Option (List ℕ) = g.B.Board.table c.args.board.now in
+    let grid : Grid = g.B.Board.grid c.args.work.now.board.now in
+    let table : Option (List ℕ) = g.B.Board.table c.args.work.now.board.now in
     let rule = c.args.rule.now in
     let no : c.choose_first.result ≡ false = c.if-not-choose_first.true in
     attempt_none (direction_of rule.axis) (rows_meaning table rule.rows) rule.rewrites
-    (commands_shown rule.commands.now) grid c.args.queue.now
+    (commands_shown rule.commands.now) grid c.args.work.now.queue.now
     (combinations_on grid (rule_meaning table rule)) (c.choose_first.ensures.none no)
 
 pub walk-requires-clause-lines : goal.walk-requires-clause-lines
 walk-requires-clause-lines g c =
     let yes : c.choose_first.result ≡ true = c.if-not-choose_first.false in
-    subst (λ (rows : List CompiledRow). HaveLinesOf (g.B.Board.grid c.args.board.now) rows c.choose_first.new.scratch)
+    subst (λ (rows : List CompiledRow). HaveLinesOf (g.B.Board.grid c.args.work.now.board.now) rows c.choose_first.new.scratch)
     (sym c.as_slice-rows.ensures) (c.choose_first.ensures.lines yes)
 
 pub walk-requires-clause-places : goal.walk-requires-clause-places
 walk-requires-clause-places g c =
     let yes : c.choose_first.result ≡ true = c.if-not-choose_first.false in
-    subst (λ (rows : List CompiledRow). ArePlaced (g.B.Board.grid c.args.board.now) rows c.choose_first.new.scratch)
+    subst (λ (rows : List CompiledRow). ArePlaced (g.B.Board.grid c.args.work.now.board.now) rows c.choose_first.new.scratch)
     (sym c.as_slice-rows.ensures) (c.choose_first.ensures.places yes)
 
 pub returns-clause-attempt : goal.returns-clause-attempt
 returns-clause-attempt g c =
-    let grid : Grid = g.B.Board.grid c.args.board.now in
-    let table : Option (List ℕ) = g.B.Board.table c.args.board.now in
+    let grid : Grid = g.B.Board.grid c.args.work.now.board.now in
+    let table : Option (List ℕ) = g.B.Board.table c.args.work.now.board.now in
     let rule = c.args.rule.now in
     let yes : c.choose_first.result ≡ true = c.if-not-choose_first.false in
     let does : rule.rewrites ≡ true = c.requires.rewrites in
@@ -57,17 +58,14 @@ returns-clause-attempt g c =
           after.changed;
     } in r) c.enter.ensures
     ∙ attempt_walked (direction_of rule.axis) (rows_meaning table rule.rows) rule.rewrites
-    (commands_shown rule.commands.now) grid c.args.queue.now
+    (commands_shown rule.commands.now) grid c.args.work.now.queue.now
     (combinations_on grid (rule_meaning table rule)) (chosen choices) (behind choices) after all does made
 
 pub choose_first-requires : goal.choose_first-requires
 choose_first-requires g c = c.requires.long
 
 pub returns-then-not-choose_first-clause-fixed : goal.returns-then-not-choose_first-clause-fixed
-returns-then-not-choose_first-clause-fixed g c = refl
-
-pub returns-then-not-choose_first-clause-scratch : goal.returns-then-not-choose_first-clause-scratch
-returns-then-not-choose_first-clause-scratch g c = c.choose_first.ensures.long
+returns-then-not-choose_first-clause-fixed g c = fixed_by refl c.choose_first.ensures.long
 
 pub walk-requires-clause-asleep : goal.walk-requires-clause-asleep
 walk-requires-clause-asleep g c = λ sleeps.
@@ -80,13 +78,10 @@ walk-requires-clause-long g c =
 
 pub walk-requires-clause-fit : goal.walk-requires-clause-fit
 walk-requires-clause-fit g c =
-    let grid : Grid = g.B.Board.grid c.args.board.now in
-    subst (λ (rows : List CompiledRow). all_fit grid (rows_meaning (g.B.Board.table c.args.board.now) rows)
+    let grid : Grid = g.B.Board.grid c.args.work.now.board.now in
+    subst (λ (rows : List CompiledRow). all_fit grid (rows_meaning (g.B.Board.table c.args.work.now.board.now) rows)
     (chosen (choices_of grid.height rows c.choose_first.new.scratch)) ≡ true) (sym c.as_slice-rows.ensures)
     (c.choose_first.ensures.fit c.if-not-choose_first.false)
 
 pub returns-clause-fixed : goal.returns-clause-fixed
-returns-clause-fixed g c = c.walk.ensures.fixed
-
-pub returns-clause-scratch : goal.returns-clause-scratch
-returns-clause-scratch g c = c.walk.ensures.long ∙ c.choose_first.ensures.long
+returns-clause-fixed g c = fixed_by c.walk.ensures.fixed (c.walk.ensures.long ∙ c.choose_first.ensures.long)

@@ -8,7 +8,8 @@ use Rattle.ps_engine.specs.RulesInRoom.{groups_meaning}
 use Rattle.ps_engine.specs.Scratch.{GroupsHaveScratch}
 use Rattle.ps_engine.proofs.ComingBack.{IsStep, keeps_on, rest_is}
 use Rattle.ps_engine.proofs.Sequences.{looped_off, looped_on, looped_stop}
-use Rattle.ps_match.specs.FixedParts.{same_layers}
+use Rattle.ps_engine.specs.Runs.{state_of_run}
+use Rattle.ps_engine.specs.Workspaces.{same_layers, same_rows}
 use Rattle.ps_engine.proofs.programs.play_loop.Goals as goal
 
 pub loop-again-init : goal.loop-again-init
@@ -16,16 +17,15 @@ loop-again-init g c =
     record {
       looped = refl;
       fixed = refl;
-      motions = c.requires.motions;
       keeps = λ on. absurd (false≢true (sym c.new-finder.ensures ∙ on));
     }
 
 pub returns-then-not-again-clause-looped : goal.returns-then-not-again-clause-looped
 returns-then-not-again-clause-looped g c =
-    let table : Option (List ℕ) = g.B.Board.table c.args.board.now in
+    let table : Option (List ℕ) = g.B.Board.table c.args.run.now.board.now in
     let meant : List (List RuleMeaning) = groups_meaning table c.args.groups.now in
-    let now : State = record { grid = g.B.Board.grid c.loop-again.board; queue = c.loop-again.queue } in
-    let next : State = record { grid = g.B.Board.grid c.pass.new.board; queue = c.pass.new.queue } in
+    let now : State = state_of_run g.B.Board c.loop-again.run in
+    let next : State = state_of_run g.B.Board c.pass.new.run in
     let made : (let r : Result = record { state = next; changed = false } in r) ≡ pass meant now =
     ap (λ (b : Bool). let r : Result = record { state = next; changed = b } in r) (sym c.if-not-again.true)
     ∙ c.in_ok-again.ensures.pass
@@ -34,10 +34,10 @@ returns-then-not-again-clause-looped g c =
 
 pub loop-again-preserved : goal.loop-again-preserved
 loop-again-preserved g c =
-    let table : Option (List ℕ) = g.B.Board.table c.args.board.now in
+    let table : Option (List ℕ) = g.B.Board.table c.args.run.now.board.now in
     let meant : List (List RuleMeaning) = groups_meaning table c.args.groups.now in
-    let now : State = record { grid = g.B.Board.grid c.loop-again.board; queue = c.loop-again.queue } in
-    let next : State = record { grid = g.B.Board.grid c.pass.new.board; queue = c.pass.new.queue } in
+    let now : State = state_of_run g.B.Board c.loop-again.run in
+    let next : State = state_of_run g.B.Board c.pass.new.run in
     let run : ℕ → State → Progress = looped meant in
     let made : (let r : Result = record { state = next; changed = true } in r) ≡ pass meant now =
     ap (λ (b : Bool). let r : Result = record { state = next; changed = b } in r) (sym c.if-not-again.false)
@@ -52,7 +52,6 @@ loop-again-preserved g c =
           ∙ looped_on meant c.loop-again.left now next (c.loop-again.left - 1) (omega arith) made
           ∙ c.loop-again.invariant.looped;
       fixed = c.pass.ensures.fixed ∙ c.loop-again.invariant.fixed;
-      motions = c.in_ok-again.ensures.motions;
       keeps = keeps_on run finder c.step.new.self kept c.step.new.kept now next step c.loop-again.invariant.keeps
           c.in_ok-left.ensures.goes;
     }
@@ -81,37 +80,19 @@ returns-then-left-eq0-clause-changed g c = refl
 
 pub returns-then-left-eq0-clause-looped : goal.returns-then-left-eq0-clause-looped
 returns-then-left-eq0-clause-looped g c =
-    let table : Option (List ℕ) = g.B.Board.table c.args.board.now in
+    let table : Option (List ℕ) = g.B.Board.table c.args.run.now.board.now in
     let meant : List (List RuleMeaning) = groups_meaning table c.args.groups.now in
-    let now : State = record { grid = g.B.Board.grid c.loop-again.board; queue = c.loop-again.queue } in
-    let next : State = record { grid = g.B.Board.grid c.pass.new.board; queue = c.pass.new.queue } in
+    let now : State = state_of_run g.B.Board c.loop-again.run in
+    let next : State = state_of_run g.B.Board c.pass.new.run in
     let made : (let r : Result = record { state = next; changed = true } in r) ≡ pass meant now =
     ap (λ (b : Bool). let r : Result = record { state = next; changed = b } in r) (sym c.if-not-again.false)
     ∙ c.in_ok-again.ensures.pass
     ∙ ap (λ (t : Option (List ℕ)). pass (groups_meaning t c.args.groups.now) now) (same_layers c.loop-again.invariant.fixed) in
     looped_stop meant c.loop-again.left now next c.if-left-eq0.true made ∙ c.loop-again.invariant.looped
 
-pub pass-requires-clause-scratch : goal.pass-requires-clause-scratch
-pass-requires-clause-scratch g c =
-    subst (λ (count : ℕ). GroupsHaveScratch count c.args.groups.now) (sym c.loop-again.auto.scratch) c.requires.scratch
-
-pub pass-requires-clause-motions : goal.pass-requires-clause-motions
-pass-requires-clause-motions g c = c.loop-again.invariant.motions
-
-pub returns-in_err-again-clause-motions : goal.returns-in_err-again-clause-motions
-returns-in_err-again-clause-motions g c = c.in_err-again.ensures.motions
-
-pub returns-in_err-left-clause-motions : goal.returns-in_err-left-clause-motions
-returns-in_err-left-clause-motions g c = c.in_ok-again.ensures.motions
-
-pub returns-then-left-eq0-clause-motions : goal.returns-then-left-eq0-clause-motions
-returns-then-left-eq0-clause-motions g c = c.in_ok-again.ensures.motions
-
-pub returns-then-not-again-clause-motions : goal.returns-then-not-again-clause-motions
-returns-then-not-again-clause-motions g c = c.in_ok-again.ensures.motions
-
-pub returns-then-not-again-clause-scratch : goal.returns-then-not-again-clause-scratch
-returns-then-not-again-clause-scratch g c = c.in_ok-again.ensures.scratch ∙ c.loop-again.auto.scratch
+pub pass-requires : goal.pass-requires
+pass-requires g c =
+    subst (λ (count : ℕ). GroupsHaveScratch count c.args.groups.now) (sym (same_rows c.loop-again.invariant.fixed)) c.requires
 
 pub returns-in_err-again-clause-fixed : goal.returns-in_err-again-clause-fixed
 returns-in_err-again-clause-fixed g c = c.in_err-again.ensures.fixed ∙ c.loop-again.invariant.fixed
@@ -124,12 +105,3 @@ returns-then-left-eq0-clause-fixed g c = c.in_ok-again.ensures.fixed ∙ c.loop-
 
 pub returns-then-not-again-clause-fixed : goal.returns-then-not-again-clause-fixed
 returns-then-not-again-clause-fixed g c = c.in_ok-again.ensures.fixed ∙ c.loop-again.invariant.fixed
-
-pub returns-then-left-eq0-clause-scratch : goal.returns-then-left-eq0-clause-scratch
-returns-then-left-eq0-clause-scratch g c = c.in_ok-again.ensures.scratch ∙ c.loop-again.auto.scratch
-
-pub returns-in_err-left-clause-scratch : goal.returns-in_err-left-clause-scratch
-returns-in_err-left-clause-scratch g c = c.in_ok-again.ensures.scratch ∙ c.loop-again.auto.scratch
-
-pub returns-in_err-again-clause-scratch : goal.returns-in_err-again-clause-scratch
-returns-in_err-again-clause-scratch g c = c.in_err-again.ensures.scratch ∙ c.loop-again.auto.scratch

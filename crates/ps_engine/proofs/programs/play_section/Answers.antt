@@ -8,46 +8,29 @@ use Rattle.ps_program.specs.declared.program.CompiledSection.TheVariants.{Group,
 use Rattle.ps_engine.specs.RulesInRoom.{rules_meaning, section_meaning}
 use Rattle.ps_engine.specs.Scratch.{GroupsHaveScratch, HaveScratch}
 use Rattle.ps_engine.proofs.Unchanged.{group_kept}
+use Rattle.ps_engine.specs.Runs.{state_of_run}
 use Rattle.ps_engine.proofs.programs.play_section.Goals as goal
 
 pub returns-in_ok-changed-in-Group-clause-unchanged : goal.returns-in_ok-changed-in-Group-clause-unchanged
 returns-in_ok-changed-in-Group-clause-unchanged g c = λ off.
-    let before : State = record { grid = g.B.Board.grid c.args.board.now; queue = c.args.queue.now } in
-    let after : State = record {
-      grid = g.B.Board.grid c.play_group.new.board;
-      queue = c.play_group.new.queue;
-    } in
+    let before : State = state_of_run g.B.Board c.args.run.now in
+    let after : State = state_of_run g.B.Board c.play_group.new.run in
     let made : (let r : Result = record { state = after; changed = c.in_ok-changed-in-Group.changed } in r) ≡ group
-    (rules_meaning (g.B.Board.table c.args.board.now) c.as_slice.result.now) before =
+    (rules_meaning (g.B.Board.table c.args.run.now.board.now) c.as_slice.result.now) before =
     c.in_ok-changed-in-Group.ensures.group in
     ap (λ (r : Result). (r.state).grid) made
-    ∙ group_kept (rules_meaning (g.B.Board.table c.args.board.now) c.as_slice.result.now) before
+    ∙ group_kept (rules_meaning (g.B.Board.table c.args.run.now.board.now) c.as_slice.result.now) before
     (ap (λ (r : Result). r.changed) (sym made) ∙ off)
 
-pub play_group-requires-clause-scratch : goal.play_group-requires-clause-scratch
-play_group-requires-clause-scratch g c =
-    subst (HaveScratch (length c.args.scratch.now)) (sym c.as_slice.ensures)
-    (c.requires.scratch.group c.in-Group.rules c.in-Group.is)
+pub play_group-requires : goal.play_group-requires
+play_group-requires g c =
+    subst (HaveScratch (length c.args.run.now.scratch.now)) (sym c.as_slice.ensures)
+    (c.requires.group c.in-Group.rules c.in-Group.is)
 
-pub play_loop-requires-clause-scratch : goal.play_loop-requires-clause-scratch
-play_loop-requires-clause-scratch g c =
-    subst (GroupsHaveScratch (length c.args.scratch.now)) (sym c.as_slice-in-Loop.ensures)
-    (c.requires.scratch.groups c.in-Loop.groups c.in-Loop.is)
-
-pub play_group-requires-clause-motions : goal.play_group-requires-clause-motions
-play_group-requires-clause-motions g c = c.requires.motions
-
-pub play_loop-requires-clause-motions : goal.play_loop-requires-clause-motions
-play_loop-requires-clause-motions g c = c.requires.motions
-
-pub returns-in_err-changed-in-Group-clause-motions : goal.returns-in_err-changed-in-Group-clause-motions
-returns-in_err-changed-in-Group-clause-motions g c = c.in_err-changed-in-Group.ensures.motions
-
-pub returns-in_ok-changed-in-Group-clause-motions : goal.returns-in_ok-changed-in-Group-clause-motions
-returns-in_ok-changed-in-Group-clause-motions g c = c.in_ok-changed-in-Group.ensures.motions
-
-pub returns-in-Loop-clause-motions : goal.returns-in-Loop-clause-motions
-returns-in-Loop-clause-motions g c = c.play_loop.ensures.motions
+pub play_loop-requires : goal.play_loop-requires
+play_loop-requires g c =
+    subst (GroupsHaveScratch (length c.args.run.now.scratch.now)) (sym c.as_slice-in-Loop.ensures)
+    (c.requires.groups c.in-Loop.groups c.in-Loop.is)
 
 pub returns-in_err-changed-in-Group-clause-section : goal.returns-in_err-changed-in-Group-clause-section
 returns-in_err-changed-in-Group-clause-section g c = IfOk-from_err c.from_residual.result _ c.from_residual.ensures.0
@@ -64,19 +47,10 @@ returns-in_ok-changed-in-Group-clause-fixed g c = c.in_ok-changed-in-Group.ensur
 pub returns-in-Loop-clause-fixed : goal.returns-in-Loop-clause-fixed
 returns-in-Loop-clause-fixed g c = c.play_loop.ensures.fixed
 
-pub returns-in_err-changed-in-Group-clause-scratch : goal.returns-in_err-changed-in-Group-clause-scratch
-returns-in_err-changed-in-Group-clause-scratch g c = c.in_err-changed-in-Group.ensures.scratch
-
-pub returns-in_ok-changed-in-Group-clause-scratch : goal.returns-in_ok-changed-in-Group-clause-scratch
-returns-in_ok-changed-in-Group-clause-scratch g c = c.in_ok-changed-in-Group.ensures.scratch
-
-pub returns-in-Loop-clause-scratch : goal.returns-in-Loop-clause-scratch
-returns-in-Loop-clause-scratch g c = c.play_loop.ensures.scratch
-
 pub returns-in_ok-changed-in-Group-clause-section : goal.returns-in_ok-changed-in-Group-clause-section
 returns-in_ok-changed-in-Group-clause-section g c =
-    let table = g.B.Board.table c.args.board.now in
-    let before : State = record { grid = g.B.Board.grid c.args.board.now; queue = c.args.queue.now } in
+    let table = g.B.Board.table c.args.run.now.board.now in
+    let before : State = state_of_run g.B.Board c.args.run.now in
     ap (λ (r : Result).
     let p : Progress = record { state = r.state; repeats = c.args.repeats; stopped = false } in p)
     c.in_ok-changed-in-Group.ensures.group
@@ -85,9 +59,9 @@ returns-in_ok-changed-in-Group-clause-section g c =
 
 pub returns-in-Loop-clause-section : goal.returns-in-Loop-clause-section
 returns-in-Loop-clause-section g c =
-    let table = g.B.Board.table c.args.board.now in
-    let before : State = record { grid = g.B.Board.grid c.args.board.now; queue = c.args.queue.now } in
-    let after : State = record { grid = g.B.Board.grid c.play_loop.new.board; queue = c.play_loop.new.queue } in
+    let table = g.B.Board.table c.args.run.now.board.now in
+    let before : State = state_of_run g.B.Board c.args.run.now in
+    let after : State = state_of_run g.B.Board c.play_loop.new.run in
     subst (λ (s : CompiledSection). IfOk c.play_loop.result (λ left.
     (let p : Progress = record { state = after; repeats = left.repeats; stopped = left.stopped } in p)
     ≡ section_run (section_meaning table s) c.args.repeats before))
@@ -96,5 +70,5 @@ returns-in-Loop-clause-section g c =
 pub returns-in-Loop-clause-unchanged : goal.returns-in-Loop-clause-unchanged
 returns-in-Loop-clause-unchanged g c =
     IfOk-weaker c.play_loop.result (λ left. left.changed ≡ true) (λ left. left.changed ≡ false →
-    g.B.Board.grid c.play_loop.new.board ≡ g.B.Board.grid c.args.board.now)
+    g.B.Board.grid c.play_loop.new.run.board.now ≡ g.B.Board.grid c.args.run.now.board.now)
     (λ left on off. absurd (false≢true (sym off ∙ on))) c.play_loop.ensures.changed

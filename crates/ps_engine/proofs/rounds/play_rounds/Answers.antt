@@ -4,53 +4,55 @@ use Rattle.ps_model.specs.board.Programs.{round, settled}
 use Rattle.ps_model.specs.meaning.RuleMeanings.{RuleMeaning}
 use Rattle.ps_engine.specs.RulesInRoom.{rules_meaning}
 use Rattle.ps_engine.specs.Scratch.{HaveScratch}
+use Rattle.ps_engine.specs.Runs.{state_of_run}
+use Rattle.ps_engine.specs.Workspaces.{same_layers, same_rows}
 use Rattle.ps_engine.proofs.ComingBack.{IsStep, all_left, keeps_first, keeps_on, rest_is}
 use Rattle.ps_engine.proofs.Sequences.{settled_end, settled_on, settled_off}
-use Rattle.ps_match.specs.FixedParts.{same_layers}
 use Rattle.ps_engine.proofs.rounds.play_rounds.Goals as goal
 
 pub loop-left-init : goal.loop-left-init
 loop-left-init g c =
-    let now : State = record { grid = g.B.Board.grid c.args.board.now; queue = c.args.queue.now } in
-    let meant : List RuleMeaning = rules_meaning (g.B.Board.table c.args.board.now) c.args.rules.now in
+    let now : State = state_of_run g.B.Board c.args.run.now in
+    let meant : List RuleMeaning = rules_meaning (g.B.Board.table c.args.run.now.board.now) c.args.rules.now in
     let run : ℕ → State → Result = λ n state. settled meant n true state in
     let finder = c.new-finder.result in
     record {
       settled = ap (λ (n : ℕ). run n now)
-          (all_left finder c.args.kept.now now.grid now.queue c.args.most c.in_ok-left.left c.new-finder.ensures
-          c.in_ok-left.ensures.rest);
+          (all_left finder c.args.kept.now now.grid now.queue c.args.most c.in_ok-left.left
+          c.new-finder.ensures c.in_ok-left.ensures.rest);
       fixed = refl;
-      motions = c.requires.motions;
       keeps = keeps_first run finder c.step.new.self c.args.kept.now c.step.new.kept now c.new-finder.ensures
           c.in_ok-left.ensures.goes;
     }
 
 pub returns-then-not-round-clause-settled : goal.returns-then-not-round-clause-settled
 returns-then-not-round-clause-settled g c =
-    let table : Option (List ℕ) = g.B.Board.table c.args.board.now in
+    let table : Option (List ℕ) = g.B.Board.table c.args.run.now.board.now in
     let meant : List RuleMeaning = rules_meaning table c.args.rules.now in
-    let now : State = record { grid = g.B.Board.grid c.loop-left.board; queue = c.loop-left.queue } in
-    let next : State = record { grid = g.B.Board.grid c.round.new.board; queue = c.round.new.queue } in
+    let now : State = state_of_run g.B.Board c.loop-left.run in
+    let next : State = state_of_run g.B.Board c.round.new.run in
     let off : c.round.result ≡ false = c.if-not-round.true in
     let made : (let r : Result = record { state = next; changed = false } in r) ≡ round meant now =
     ap (λ (b : Bool). let r : Result = record { state = next; changed = b } in r) (sym off)
     ∙ c.round.ensures.round
-    ∙ ap (λ (t : Option (List ℕ)). round (rules_meaning t c.args.rules.now) now) (same_layers c.loop-left.invariant.fixed) in
+    ∙ ap (λ (t : Option (List ℕ)). round (rules_meaning t c.args.rules.now) now)
+    (same_layers c.loop-left.invariant.fixed) in
     settled_off meant c.loop-left.left (c.loop-left.left - 1) true now next
     (omega (arith, c.loop-left-test.true)) made ∙ c.loop-left.invariant.settled
 
 pub loop-left-preserved : goal.loop-left-preserved
 loop-left-preserved g c =
-    let table : Option (List ℕ) = g.B.Board.table c.args.board.now in
+    let table : Option (List ℕ) = g.B.Board.table c.args.run.now.board.now in
     let meant : List RuleMeaning = rules_meaning table c.args.rules.now in
-    let now : State = record { grid = g.B.Board.grid c.loop-left.board; queue = c.loop-left.queue } in
-    let next : State = record { grid = g.B.Board.grid c.round.new.board; queue = c.round.new.queue } in
+    let now : State = state_of_run g.B.Board c.loop-left.run in
+    let next : State = state_of_run g.B.Board c.round.new.run in
     let run : ℕ → State → Result = λ n state. settled meant n true state in
     let on : c.round.result ≡ true = c.if-not-round.false in
     let made : (let r : Result = record { state = next; changed = true } in r) ≡ round meant now =
     ap (λ (b : Bool). let r : Result = record { state = next; changed = b } in r) (sym on)
     ∙ c.round.ensures.round
-    ∙ ap (λ (t : Option (List ℕ)). round (rules_meaning t c.args.rules.now) now) (same_layers c.loop-left.invariant.fixed) in
+    ∙ ap (λ (t : Option (List ℕ)). round (rules_meaning t c.args.rules.now) now)
+    (same_layers c.loop-left.invariant.fixed) in
     let step : IsStep run now next = λ n. sym (settled_on meant (suc n) n true now next (omega arith) made) in
     let finder = c.loop-left.finder in
     let kept = c.loop-left.kept in
@@ -61,39 +63,23 @@ loop-left-preserved g c =
           (omega (arith, c.loop-left-test.true)) made
           ∙ c.loop-left.invariant.settled;
       fixed = c.round.ensures.fixed ∙ c.loop-left.invariant.fixed;
-      motions = c.round.ensures.motions;
       keeps = keeps_on run finder c.step-in-loop-left.new.self kept c.step-in-loop-left.new.kept now next step
           c.loop-left.invariant.keeps c.in_ok-left-2.ensures.goes;
     }
 
-pub round-requires-clause-scratch : goal.round-requires-clause-scratch
-round-requires-clause-scratch g c =
-    subst (λ (count : ℕ). HaveScratch count c.args.rules.now) (sym c.loop-left.auto.scratch) c.requires.scratch
-
-pub round-requires-clause-motions : goal.round-requires-clause-motions
-round-requires-clause-motions g c = c.loop-left.invariant.motions
-
-pub returns-then-not-round-clause-motions : goal.returns-then-not-round-clause-motions
-returns-then-not-round-clause-motions g c = c.round.ensures.motions
-
-pub returns-clause-motions : goal.returns-clause-motions
-returns-clause-motions g c = c.loop-left.invariant.motions
+pub round-requires : goal.round-requires
+round-requires g c =
+    subst (λ (count : ℕ). HaveScratch count c.args.rules.now) (sym (same_rows c.loop-left.invariant.fixed)) c.requires
 
 pub returns-then-not-round-clause-fixed : goal.returns-then-not-round-clause-fixed
 returns-then-not-round-clause-fixed g c = c.round.ensures.fixed ∙ c.loop-left.invariant.fixed
 
-pub returns-then-not-round-clause-scratch : goal.returns-then-not-round-clause-scratch
-returns-then-not-round-clause-scratch g c = c.round.ensures.scratch ∙ c.loop-left.auto.scratch
-
 pub returns-clause-fixed : goal.returns-clause-fixed
 returns-clause-fixed g c = c.loop-left.invariant.fixed
 
-pub returns-clause-scratch : goal.returns-clause-scratch
-returns-clause-scratch g c = c.loop-left.auto.scratch
-
 pub returns-clause-settled : goal.returns-clause-settled
 returns-clause-settled g c =
-    let meant : List RuleMeaning = rules_meaning (g.B.Board.table c.args.board.now) c.args.rules.now in
-    let now : State = record { grid = g.B.Board.grid c.loop-left.board; queue = c.loop-left.queue } in
-    settled_end meant c.loop-left.left true now (omega (arith, c.loop-left-test.false))
+    let meant : List RuleMeaning = rules_meaning (g.B.Board.table c.args.run.now.board.now) c.args.rules.now in
+    settled_end meant c.loop-left.left true (state_of_run g.B.Board c.loop-left.run)
+    (omega (arith, c.loop-left-test.false))
     ∙ c.loop-left.invariant.settled

@@ -1,24 +1,20 @@
 use Rattle.std.proofs.Common.{◌≡◌, ℕ, true}
-use Rattle.ps_match.specs.Nowhere.{HasMotionsIn}
 use Rattle.ps_model.specs.board.Attempts.{Result, State}
 use Rattle.ps_model.specs.board.Programs.{settled}
 use Rattle.ps_engine.specs.RulesInRoom.{rules_meaning}
+use Rattle.ps_engine.specs.Runs.{fixed_in_run, state_of_run}
 use Rattle.ps_engine.proofs.ComingBack.{Keeps}
-use Rattle.ps_match.specs.FixedParts.{fixed_part}
 use Rattle.ps_engine.proofs.rounds.play_rounds.Given as goal
 
 -- the rounds that are left come to the same, and what the finder keeps has come here
 abbrev pub invariant-loop-left : goal.invariant-loop-left
 invariant-loop-left g l =
-    let before : State = record { grid = g.B.Board.grid l.fn.board; queue = l.fn.queue } in
-    let now : State = record { grid = g.B.Board.grid l.board; queue = l.queue } in
-    let table = g.B.Board.table l.fn.board in
-    let run : ℕ → State → Result = λ n state. settled (rules_meaning table l.rules) n true state in
+    let now : State = state_of_run g.B.Board l.run in
+    let meant = rules_meaning (g.B.Board.table l.fn.run.board.now) l.rules in
+    let run : ℕ → State → Result = λ n state. settled meant n true state in
     record {
-      settled : settled (rules_meaning table l.rules) l.left true now
-          ≡ settled (rules_meaning table l.rules) l.most true before;
-      fixed : fixed_part g.B.Board l.board ≡ fixed_part g.B.Board l.fn.board;
-      motions : HasMotionsIn (g.B.Board.grid l.board) l.motions;
+      settled : settled meant l.left true now ≡ settled meant l.most true (state_of_run g.B.Board l.fn.run);
+      fixed : fixed_in_run g.B.Board l.run ≡ fixed_in_run g.B.Board l.fn.run;
       keeps : Keeps run l.finder l.kept now;
     }
 

@@ -8,7 +8,7 @@ use Rattle.ps_engine.specs.Choosing.{rows_meaning}
 use Rattle.ps_engine.proofs.Rewriting.{same_height, turn}
 use Rattle.ps_engine.proofs.ScratchChanged.{lines_there, placed_there}
 use Rattle.ps_engine.proofs.Sought.{no_more}
-use Rattle.ps_match.specs.FixedParts.{same_layers, same_origin, same_sides}
+use Rattle.ps_match.specs.FixedParts.{same_layers, same_sides}
 use Rattle.ps_engine.proofs.walking.walk.Goals as goal
 
 pub go_on-requires-clause-lines : goal.go_on-requires-clause-lines

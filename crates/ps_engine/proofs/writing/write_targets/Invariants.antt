@@ -18,7 +18,7 @@ invariant-loop-row g l =
       among : AreOf l.fn.rows l.left;
       rewritten :
           told (g.B.Board.grid l.board) l.changed
-          ≡ rewritten_where start becomes (passed_by l.axis start.height l.steps l.fn.rows l.row_scratch.starts.items l.left);
+          ≡ rewritten_where start becomes (passed_by l.offset.axis start.height l.offset.steps l.fn.rows l.row_scratch.starts.items l.left);
       fixed : fixed_part g.B.Board l.board ≡ fixed_part g.B.Board l.fn.board;
     }
 

@@ -7,6 +7,7 @@ use Rattle.ps_engine.specs.Scratch.{SectionHasScratch}
 use Rattle.ps_engine.specs.QuietGroups.{IsIdleOn, QuietGroupsShown}
 use Rattle.ps_engine.specs.declared.quiet_groups.KnownSection.{KnownSection}
 use Rattle.ps_engine.proofs.Waking.{each_there, known_idle, known_noted, section_there, watch_same, watch_there}
+use Rattle.ps_engine.specs.Workspaces.{fixed_by}
 use Rattle.ps_engine.proofs.quiet_groups.QuietGroups.passes.Goals as goal
 
 -- a section's number is that of a known_section
@@ -29,7 +30,7 @@ returns-then-index-clause-idle g c = λ section at e.
     (c.is_apart.ensures c.if-not-is_apart.false) in
     known_idle (λ board. (g.B.Board.grid board, g.B.Board.table board)) inside.sections.now inside.known.items n
     section
-    known_section c.args.stirred (g.B.Board.grid c.args.board.now) (g.B.Board.table c.args.board.now)
+    known_section c.args.stirred (g.B.Board.grid c.args.run.now.board.now) (g.B.Board.table c.args.run.now.board.now)
     c.recall_shape.ensures.shape here there apart inside.board
     (c.is_none.ensures ∙ ap not c.if-is_none.false) c.self.invariant.1
     (λ k t is. c.requires.same k t (sym (ap (λ (w : QuietGroupsShown). w.kept) c.self.view_is) ∙ is))
@@ -49,7 +50,7 @@ invariant_of-self-2 g c =
     watch_there inside.sections.now inside.known.items n section known_section here c.self.invariant.0 c.index.ensures in (
       c.note.ensures.long ∙ c.self.invariant.0,
       known_noted (λ board. (g.B.Board.grid board, g.B.Board.table board)) inside.sections.now inside.known.items n
-          section known_section c.args.stirred (g.B.Board.grid c.args.board.now) (g.B.Board.table c.args.board.now)
+          section known_section c.args.stirred (g.B.Board.grid c.args.run.now.board.now) (g.B.Board.table c.args.run.now.board.now)
           c.recall_shape.ensures.shape here there (c.is_apart.ensures c.if-not-is_apart.false) inside.board
           c.is_idle_section-idle.result c.note.new.known.items c.self.invariant.1
           (λ k t is. c.requires.same k t (sym (ap (λ (w : QuietGroupsShown). w.kept) c.self.view_is) ∙ is))
@@ -64,21 +65,15 @@ returns-clause-idle g c = λ section at e.
     let own : c.index-sections-number.result ≡ section =
     c.index-sections-number.is ∙ get_or_from_slice_get c.self.inside.sections.now n section
     c.index-sections-number.result here in
-    subst (λ (s : CompiledSection). IsIdleOn (g.B.Board.grid c.args.board.now) (g.B.Board.table c.args.board.now) s) own
+    subst (λ (s : CompiledSection). IsIdleOn (g.B.Board.grid c.args.run.now.board.now) (g.B.Board.table c.args.run.now.board.now) s) own
     (c.is_idle_section-idle.ensures.idle e)
 
 -- where nothing is passed over, nothing is claimed
 pub returns-then-is_none-clause-idle : goal.returns-then-is_none-clause-idle
 returns-then-is_none-clause-idle g c = λ section at e. absurd (true≢false (sym e))
 
-pub returns-then-is_none-clause-scratch : goal.returns-then-is_none-clause-scratch
-returns-then-is_none-clause-scratch g c = refl
-
-pub returns-then-index-clause-scratch : goal.returns-then-index-clause-scratch
-returns-then-index-clause-scratch g c = refl
-
-pub returns-clause-scratch : goal.returns-clause-scratch
-returns-clause-scratch g c = c.is_idle_section-idle.ensures.scratch
+pub returns-then-not-is_apart-clause-idle : goal.returns-then-not-is_apart-clause-idle
+returns-then-not-is_apart-clause-idle g c = λ section at e. absurd (true≢false (sym e))
 
 pub returns-then-is_none-clause-program : goal.returns-then-is_none-clause-program
 returns-then-is_none-clause-program g c = refl
@@ -90,11 +85,11 @@ pub returns-clause-program : goal.returns-clause-program
 returns-clause-program g c = c.self.view_is
 
 pub is_idle_section-idle-requires-clause-motions : goal.is_idle_section-idle-requires-clause-motions
-is_idle_section-idle-requires-clause-motions g c = c.requires.motions
+is_idle_section-idle-requires-clause-motions g c = c.args.run.now.all_motions
 
 pub is_idle_section-idle-requires-clause-scratch : goal.is_idle_section-idle-requires-clause-scratch
 is_idle_section-idle-requires-clause-scratch g c =
-    each_there (SectionHasScratch (length c.args.scratch.now)) c.self.inside.sections.now c.args.self.now.sections
+    each_there (SectionHasScratch (length c.args.run.now.scratch.now)) c.self.inside.sections.now c.args.self.now.sections
     c.args.number c.index-sections-number.result (ap (λ (w : QuietGroupsShown). w.sections) c.self.view_is) c.requires.number
     c.index-sections-number.is c.requires.scratch
 
@@ -131,3 +126,30 @@ offset_bounds-sections-number g c =
     subst (λ (n : ℕ). c.args.number < n) (sym (ap (λ (w : QuietGroupsShown). length w.sections) c.self.view_is))
     c.requires.number in
     search rules
+
+pub returns-then-is_none-clause-state : goal.returns-then-is_none-clause-state
+returns-then-is_none-clause-state g c = refl
+
+pub returns-then-is_none-clause-fixed : goal.returns-then-is_none-clause-fixed
+returns-then-is_none-clause-fixed g c = refl
+
+pub returns-then-index-clause-state : goal.returns-then-index-clause-state
+returns-then-index-clause-state g c = refl
+
+pub returns-then-index-clause-fixed : goal.returns-then-index-clause-fixed
+returns-then-index-clause-fixed g c = refl
+
+pub returns-clause-state : goal.returns-clause-state
+returns-clause-state g c = refl
+
+pub returns-clause-fixed : goal.returns-clause-fixed
+returns-clause-fixed g c = fixed_by refl c.is_idle_section-idle.ensures.scratch
+
+pub returns-then-not-is_apart-clause-program : goal.returns-then-not-is_apart-clause-program
+returns-then-not-is_apart-clause-program g c = refl
+
+pub returns-then-not-is_apart-clause-state : goal.returns-then-not-is_apart-clause-state
+returns-then-not-is_apart-clause-state g c = refl
+
+pub returns-then-not-is_apart-clause-fixed : goal.returns-then-not-is_apart-clause-fixed
+returns-then-not-is_apart-clause-fixed g c = refl
