@@ -1,3 +1,4 @@
+pub mod CancelledRuns
 pub mod KeptAttempts
 pub mod KeptCells
 pub mod KeptPrograms

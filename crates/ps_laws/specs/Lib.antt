@@ -5,6 +5,7 @@ pub mod EachGroup
 pub mod EqualMeanings
 pub mod KeptGrids
 pub mod SameSides
+pub mod CancelledRuns
 pub mod IdleRules
 pub mod AlikeRounds
 pub mod GamesOfTexts

@@ -6,6 +6,7 @@
 ghost use Rattle.ps_laws.specs.AlikeRounds.{KeptAreAlike, SameAreAlike, AlikeBothWays, AlikeThroughAnother};
 ghost use Rattle.ps_laws.specs.AlikeRounds.{AppendedAreAlike, JoinedAreAlike, ForwardsAreAlike, IdleIsLeftOut};
 ghost use Rattle.ps_laws.specs.AlikeRounds.{AlikeGroups, AlikePasses, AlikeLoops, AlikeSections, AlikePrograms};
+ghost use Rattle.ps_laws.specs.CancelledRuns.{SectionsKeepCancelled, ProgramsKeepCancelled};
 ghost use Rattle.ps_laws.specs.EqualMeanings.{EqualAttempts, EqualRounds, EqualGroups, EqualPasses, EqualLoops};
 ghost use Rattle.ps_laws.specs.EqualMeanings.{EqualSections, EqualPrograms};
 ghost use Rattle.ps_laws.specs.IdleRules.{NowhereIsNothing, FittingNoneIsIdle, LeavingAllIsIdle};
@@ -74,4 +75,10 @@ pub fn idle_rules()
     ensures nowhere { NowhereIsNothing }
     ensures none { FittingNoneIsIdle }
     ensures leaving { LeavingAllIsIdle }
+{}
+
+/// Once `cancel` is queued, the rest of a program changes nothing of what is queued.
+pub fn cancelled_runs()
+    ensures sections { SectionsKeepCancelled }
+    ensures programs { ProgramsKeepCancelled }
 {}

@@ -32,7 +32,8 @@ pub use laws_of_grids::{
 };
 pub use laws_of_rooms::{frames_of_whole_boards, rooms_in_sessions, rooms_show_players};
 pub use laws_of_rules::{
-    alike_programs, alike_rounds, equal_meanings, idle_rules, settling, turning_round,
+    alike_programs, alike_rounds, cancelled_runs, equal_meanings, idle_rules, settling,
+    turning_round,
 };
 pub use laws_of_runs::{
     answers_of_texts, ends_of_output, fronts_of_output, held_bytes, keys_in_pieces, one_game,

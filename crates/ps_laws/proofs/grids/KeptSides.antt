@@ -18,7 +18,7 @@ use Rattle.ps_laws.specs.SameSides.{SameSides, HasSides, AttemptsKeepSides, Roun
 use Rattle.ps_laws.specs.SameSides.{GroupsKeepSides, PassesKeepSides, LoopsKeepSides, SectionsKeepSides, RunsKeepSides}
 use Rattle.ps_laws.specs.SameSides.{ProgramsKeepSides, SlidesKeepSides, RestKeepsSides, InputsKeepSides, TurnsKeepSides}
 use Rattle.ps_laws.proofs.common.Everywhere.{either_way, either_one, All-always}
-use Rattle.ps_laws.proofs.grids.KeptPrograms.{RuleKeeps, SectionKeeps, round-keeps, settled-keeps, group-keeps}
+use Rattle.ps_laws.proofs.grids.KeptPrograms.{OfGrid, RuleKeeps, SectionKeeps, round-keeps, settled-keeps, group-keeps}
 use Rattle.ps_laws.proofs.grids.KeptPrograms.{pass-keeps, looped-keeps, section_run-keeps, sections_run-keeps}
 use Rattle.ps_laws.proofs.grids.KeptPrograms.{program_run-keeps}
 
@@ -90,50 +90,51 @@ attempt-sides rule state = attempt-kept state.grid rule state (same_sides state.
 
 -- programs ------------------------------------------------------------------------------------------------------------
 
-rules_keep : (g : Grid) (rules : List RuleMeaning) → All (RuleKeeps (SameSides g)) rules
-rules_keep g rules = All-always (RuleKeeps (SameSides g)) rules (λ rule state h. attempt-kept g rule state h)
+rules_keep : (g : Grid) (rules : List RuleMeaning) → All (RuleKeeps (OfGrid (SameSides g))) rules
+rules_keep g rules = All-always (RuleKeeps (OfGrid (SameSides g))) rules (λ rule state h. attempt-kept g rule state h)
 
-body_keeps : (g : Grid) (body : List (List RuleMeaning)) → All (All (RuleKeeps (SameSides g))) body
-body_keeps g body = All-always (All (RuleKeeps (SameSides g))) body (rules_keep g)
+body_keeps : (g : Grid) (body : List (List RuleMeaning)) → All (All (RuleKeeps (OfGrid (SameSides g)))) body
+body_keeps g body = All-always (All (RuleKeeps (OfGrid (SameSides g)))) body (rules_keep g)
 
-section_keeps : (g : Grid) (section : Section) → SectionKeeps (SameSides g) section
+section_keeps : (g : Grid) (section : Section) → SectionKeeps (OfGrid (SameSides g)) section
 section_keeps g (Group rules) = rules_keep g rules
 section_keeps g (Loop body) = body_keeps g body
 
-sections_keep : (g : Grid) (sections : List Section) → All (SectionKeeps (SameSides g)) sections
-sections_keep g sections = All-always (SectionKeeps (SameSides g)) sections (section_keeps g)
+sections_keep : (g : Grid) (sections : List Section) → All (SectionKeeps (OfGrid (SameSides g))) sections
+sections_keep g sections = All-always (SectionKeeps (OfGrid (SameSides g))) sections (section_keeps g)
 
 pub round-sides : RoundsKeepSides
-round-sides rules state = round-keeps (SameSides state.grid) rules state (rules_keep state.grid rules)
+round-sides rules state = round-keeps (OfGrid (SameSides state.grid)) rules state (rules_keep state.grid rules)
     (same_sides state.grid)
 
 pub settled-sides : SettlingKeepsSides
-settled-sides rules rounds changed state = settled-keeps (SameSides state.grid) rules rounds changed state
+settled-sides rules rounds changed state = settled-keeps (OfGrid (SameSides state.grid)) rules rounds changed state
     (rules_keep state.grid rules) (same_sides state.grid)
 
 pub group-sides : GroupsKeepSides
-group-sides rules state = group-keeps (SameSides state.grid) rules state (rules_keep state.grid rules)
+group-sides rules state = group-keeps (OfGrid (SameSides state.grid)) rules state (rules_keep state.grid rules)
     (same_sides state.grid)
 
 pub pass-sides : PassesKeepSides
-pass-sides body state = pass-keeps (SameSides state.grid) body state (body_keeps state.grid body)
+pass-sides body state = pass-keeps (OfGrid (SameSides state.grid)) body state (body_keeps state.grid body)
     (same_sides state.grid)
 
 pub looped-sides : LoopsKeepSides
-looped-sides body repeats state = looped-keeps (SameSides state.grid) body repeats state (body_keeps state.grid body)
-    (same_sides state.grid)
+looped-sides body repeats state = looped-keeps (OfGrid (SameSides state.grid)) body repeats state
+    (body_keeps state.grid body) (same_sides state.grid)
 
 pub section_run-sides : SectionsKeepSides
-section_run-sides section repeats state = section_run-keeps (SameSides state.grid) section repeats state
+section_run-sides section repeats state = section_run-keeps (OfGrid (SameSides state.grid)) section repeats state
     (section_keeps state.grid section) (same_sides state.grid)
 
 pub sections_run-sides : RunsKeepSides
-sections_run-sides sections repeats state = sections_run-keeps (SameSides state.grid) sections repeats state
+sections_run-sides sections repeats state = sections_run-keeps (OfGrid (SameSides state.grid)) sections repeats state
     (sections_keep state.grid sections) (same_sides state.grid)
 
 program_run-kept : (g : Grid) (sections : List Section) (state : State) → SameSides g state.grid →
     SameSides g (program_run sections state).grid
-program_run-kept g sections state h = program_run-keeps (SameSides g) sections state (sections_keep g sections) h
+program_run-kept g sections state h =
+    program_run-keeps (OfGrid (SameSides g)) sections state (sections_keep g sections) h
 
 pub program_run-sides : ProgramsKeepSides
 program_run-sides sections state = program_run-kept state.grid sections state (same_sides state.grid)
