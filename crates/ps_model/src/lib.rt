@@ -31,5 +31,5 @@ pub use pieces::{Direction, LayerId, Motion, ObjectId, Slot};
 pub use play::{Ending, Input, Key};
 pub use refusal::Refusal;
 pub use rooms::{Room, RoomSize, Window};
-pub use rules::{MovementWord, Part, Quantifier};
+pub use rules::{Extent, MovementWord, Part, Quantifier};
 pub use texts::{Cut, Joiner, ObjectStage, Section, Span};

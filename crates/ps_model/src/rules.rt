@@ -53,3 +53,12 @@ pub enum Part {
     /// After it: rules marked `late`.
     Late,
 }
+
+/// How far the rules of a turn are run.
+#[derive(Clone, Copy, PartialEq, Eq, Debug)]
+pub enum Extent {
+    /// To their end.
+    Whole,
+    /// To their end, or to where `cancel` is queued. Such a turn is blocked, whatever comes after it.
+    UntilCancelled,
+}

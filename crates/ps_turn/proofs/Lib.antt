@@ -7,3 +7,4 @@ mod Sweeps
 mod CellsChanged
 mod WhereObjectsStand
 mod FirstCells
+mod Cancelled

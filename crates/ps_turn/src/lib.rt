@@ -4,6 +4,7 @@
 //! takes no memory for boards; without memory, and where a turn is blocked or restarts, both are equal again.
 #![tactic(auto)]
 
+mod extents;
 mod first_player;
 mod inputs;
 mod outcomes;
@@ -19,7 +20,7 @@ pub use first_player::first_player_cell;
 pub use inputs::{give_motion, motion_for};
 pub use outcomes::{DoneTurn, Turned};
 pub use ps_board::Board;
-pub use ps_model::{Input, Memory, Options};
+pub use ps_model::{Extent, Input, Memory, Options};
 pub use queue::Queue;
 pub use rules::{Rules, TurnRules};
 pub use turns::{TurnGame, turn};

@@ -2,25 +2,28 @@
 
 ghost use Rattle.std.specs.Prelude.{◌≡◌, ℕ, List, OnOk, Option};
 ghost use Rattle.ps_model.specs.board.Programs.{Section, program_run};
+ghost use Rattle.ps_laws.specs.CancelledRuns.{HasRun};
 ghost use Rattle.ps_turn.specs.States.{queue_shown, state_of};
 
 use crate::queue::Queue;
 use ps_board::Board;
-use ps_model::Memory;
+use ps_model::{Extent, Memory};
 
 /// The rules of one part of a turn, with what their runs need besides the board.
 pub trait Rules<B: Board> {
     /// The program that the rules are on boards whose objects have these layers.
     ghost meant: { Self → Option (List ℕ) → List Section };
 
-    /// Runs the program on a board, which keeps its sides and layers, and adds to the queue.
+    /// Runs the program on a board, which keeps its sides and layers, and adds to the queue. Where it may end at
+    /// `cancel`, the board may show any part of the program's changes then.
     ///
     /// # Errors
     ///
     /// `Memory`, and a part of the program may have been run.
-    fn run(&mut self, board: &mut B, queue: &mut Queue) -> Result<(), Memory>
-        ensures ran { OnOk result (state_of (B.grid board.new) (queue_shown queue.new)
-            ≡ program_run (meant self.old (B.table board.old)) (state_of (B.grid board.old) (queue_shown queue.old))) }
+    fn run(&mut self, board: &mut B, queue: &mut Queue, extent: Extent) -> Result<(), Memory>
+        ensures ran { OnOk result (HasRun extent (program_run (meant self.old (B.table board.old))
+            (state_of (B.grid board.old) (queue_shown queue.old))) (state_of (B.grid board.new)
+            (queue_shown queue.new))) }
         ensures same { meant self.new ≡ meant self.old }
         ensures width { (B.grid board.new).width ≡ (B.grid board.old).width }
         ensures height { (B.grid board.new).height ≡ (B.grid board.old).height }

@@ -7,7 +7,9 @@ ghost use Rattle.ps_model.specs.board.Turns.{turn, outcome_of, played, prepared,
 ghost use Rattle.ps_levels.specs.WinsShown.{wins_shown};
 ghost use Rattle.ps_turn.specs.States.{HaveSameSides, queue_shown, state_of, script_with, done_shown, outcome_shown};
 ghost use Rattle.ps_turn.specs.States.{is_done};
+ghost use Rattle.ps_laws.specs.CancelledRuns.{HasRun};
 
+use crate::extents::{extent_of, is_decided};
 use crate::inputs::{give_motion, motion_for};
 use crate::outcomes::{DoneTurn, Turned};
 use crate::players::stayed;
@@ -16,7 +18,7 @@ use crate::rules::{Rules, TurnRules};
 use crate::winning::is_won;
 use ps_board::Board;
 use ps_levels::Win;
-use ps_model::{Input, Memory, ObjectId, Options};
+use ps_model::{Extent, Input, Memory, ObjectId, Options};
 use ps_move::slide;
 use ps_names::Names;
 use ps_text::Text;
@@ -71,6 +73,13 @@ impl<'g> TurnGame<'g> {
         }
     }
 
+    /// Whether a key's turn is taken back where each cell that had a Player still has one.
+    pub(crate) fn requires_movement(&self) -> bool
+        ensures { result ≡ self.now.options.require_player_movement }
+    {
+        self.options.require_player_movement
+    }
+
     /// The objects of Player.
     pub(crate) fn players(&self) -> &[ObjectId]
         ensures { result.now ≡ players self.now.names }
@@ -92,7 +101,8 @@ fn prepare<B: Board>(game: &TurnGame<'_>, input: Option<Input>, board: &mut B)
     }
 }
 
-/// Makes the changes of a turn on a board, and tells what the rules have queued.
+/// Makes the changes of a turn on a board, and tells what the rules have queued. Where the rules may end at `cancel`,
+/// it makes none after it.
 ///
 /// # Errors
 ///
@@ -102,10 +112,11 @@ fn play<B: Board, R: Rules<B>>(
     rules: &mut TurnRules<R>,
     input: Option<Input>,
     board: &mut B,
+    extent: Extent,
 ) -> Result<Queue, Memory>
-    ensures played { IfOk result (λ queue. state_of (B.grid board.new) (queue_shown queue)
-        ≡ played (script_with game.now (R.meant rules.old.plain (B.table board.old)) (R.meant rules.old.late
-        (B.table board.old))) input (B.grid board.old)) }
+    ensures played { IfOk result (λ queue. HasRun extent (played (script_with game.now (R.meant rules.old.plain
+        (B.table board.old)) (R.meant rules.old.late (B.table board.old))) input (B.grid board.old))
+        (state_of (B.grid board.new) (queue_shown queue))) }
     ensures plain { R.meant rules.new.plain ≡ R.meant rules.old.plain }
     ensures late { R.meant rules.new.late ≡ R.meant rules.old.late }
     ensures sides { HaveSameSides (B.grid board.new) (B.grid board.old) }
@@ -114,9 +125,12 @@ fn play<B: Board, R: Rules<B>>(
 {
     let mut queue = Queue::new();
     prepare(game, input, board);
-    rules.plain.run(board, &mut queue)?;
+    rules.plain.run(board, &mut queue, extent)?;
+    if is_decided(extent, &queue) {
+        return Ok(queue);
+    }
     let _ = slide(board);
-    rules.late.run(board, &mut queue)?;
+    rules.late.run(board, &mut queue, extent)?;
     Ok(queue)
 }
 
@@ -220,7 +234,8 @@ pub fn turn<B: Board, R: Rules<B>>(
     ensures plain { R.meant rules.new.plain ≡ R.meant rules.old.plain }
     ensures late { R.meant rules.new.late ≡ R.meant rules.old.late }
 {
-    match play(game, rules, input, after) {
+    let extent = extent_of(game, input);
+    match play(game, rules, input, after, extent) {
         Ok(queue) => Ok(outcome(game, input, before, after, queue)),
         Err(Memory) => {
             before.copy_into(after);
