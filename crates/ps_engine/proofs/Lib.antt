@@ -27,3 +27,4 @@ pub mod Stirred
 pub mod TopicsKept
 pub mod Waking
 pub mod Within
+mod Ended

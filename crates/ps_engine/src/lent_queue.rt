@@ -5,6 +5,7 @@ ghost use Rattle.ps_model.specs.rules.SourceRules.{no_commands};
 ghost use Rattle.ps_model.specs.board.Attempts.{both, queued};
 ghost use Rattle.ps_program.specs.CommandsShown.{commands_shown};
 
+use ps_model::Extent;
 use ps_program::Commands;
 use ps_text::Text;
 use std::marker::Model;
@@ -114,6 +115,17 @@ impl<'r> LentQueue<'r> {
             checkpoint: self.checkpoint || other.checkpoint,
             win: self.win || other.win,
             message: self.message.or(other.message),
+        }
+    }
+
+    /// Whether a run of this extent may end here: `cancel` is queued.
+    pub fn ends(&self, extent: Extent) -> bool
+        ensures extent { result ≡ true → extent ≡ Extent.UntilCancelled }
+        ensures cancelled { result ≡ true → self.now.cancel ≡ true }
+    {
+        match extent {
+            Extent::Whole => false,
+            Extent::UntilCancelled => self.cancel,
         }
     }
 

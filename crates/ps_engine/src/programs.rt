@@ -1,6 +1,7 @@
 //! Runs of programs.
 
-ghost use Rattle.std.specs.Prelude.{◌≡◌, IfOk, OnOk, Some, false, length, true};
+ghost use Rattle.std.specs.Prelude.{◌≡◌, IfOk, OnOk, Some, false, length, true, vec_len};
+ghost use Rattle.ps_laws.specs.CancelledRuns.{HasRun};
 ghost use Rattle.ps_model.specs.board.Attempts.{State};
 ghost use Rattle.ps_model.specs.board.Programs.{Progress, looped, program_run, section_run, sections_run};
 ghost use Rattle.ps_model.specs.meaning.Compiled.{meaning_of_program};
@@ -15,10 +16,10 @@ use crate::cycle_finder::{CycleFinder, KeptBoards};
 use crate::lent_queue::LentQueue;
 use crate::quiet_groups::QuietGroups;
 use crate::rounds::{pass, play_group};
+use crate::run_memory::RunMemory;
 use crate::runs::Run;
 use ps_match::{Columns, Scan, Topics, recall_shape};
-use ps_model::{Memory, REPEAT_LIMIT};
-use ps_places::ScratchFor;
+use ps_model::{Extent, Memory, REPEAT_LIMIT};
 use ps_program::{CompiledRule, CompiledSection};
 use ps_text::List;
 
@@ -110,7 +111,7 @@ fn play_section<'r, B: Scan>(
 }
 
 /// The sections of a program in order, until a loop would need one more repeat than are allowed for all loops
-/// together.
+/// together, or the run may end.
 ///
 /// # Errors
 ///
@@ -119,14 +120,18 @@ fn play_sections<'r, B: Scan>(
     sections: &[CompiledSection<'r>],
     run: &mut Run<'_, '_, '_, 'r, B>,
     kept: &mut KeptBoards<B>,
+    extent: Extent,
 ) -> Result<(), Memory>
     requires { SectionsHaveScratch (length run.old.scratch.now) sections.now }
     ensures run { let meant = sections_meaning (B.table run.old.board.now) sections.now in
-        OnOk result (state_of_run B.Board run.new ≡ program_run meant (state_of_run B.Board run.old)) }
+        OnOk result (HasRun extent (program_run meant (state_of_run B.Board run.old)) (state_of_run B.Board run.new)) }
     ensures fixed { fixed_in_run B.Board run.new ≡ fixed_in_run B.Board run.old }
 {
     let mut repeats = REPEAT_LIMIT;
     for section in sections {
+        if run.queue.ends(extent) {
+            return Ok(());
+        }
         match section {
             CompiledSection::Group(rules) => {
                 play_group(rules.as_slice(), run, &mut kept.of_rounds)?;
@@ -153,11 +158,12 @@ fn play_unless_quiet<'r, 's: 'r, B: Scan>(
     program: &mut QuietGroups<'_, 's, B>,
     run: &mut Run<'_, '_, '_, 'r, B>,
     kept: &mut KeptBoards<B>,
+    extent: Extent,
 ) -> Result<(), Memory>
     requires scratch { SectionsHaveScratch (length run.old.scratch.now) program.old.sections }
     requires kept { program.old.kept ≡ Some (B.grid run.old.board.now, B.table run.old.board.now) }
     ensures run { let meant = sections_meaning (B.table run.old.board.now) program.old.sections in
-        OnOk result (state_of_run B.Board run.new ≡ program_run meant (state_of_run B.Board run.old)) }
+        OnOk result (HasRun extent (program_run meant (state_of_run B.Board run.old)) (state_of_run B.Board run.new)) }
     ensures fixed { fixed_in_run B.Board run.new ≡ fixed_in_run B.Board run.old }
     ensures program { program.new ≡ program.old }
 {
@@ -166,6 +172,9 @@ fn play_unless_quiet<'r, 's: 'r, B: Scan>(
     let mut repeats = REPEAT_LIMIT;
     let mut stirred: Topics = Columns::none();
     for number in 0..sections.len() {
+        if run.queue.ends(extent) {
+            return Ok(());
+        }
         if program.passes(number, stirred, run) {
             continue;
         }
@@ -185,7 +194,8 @@ fn play_unless_quiet<'r, 's: 'r, B: Scan>(
 /// together. There is scratch memory for each row of a rule.
 ///
 /// The board shows and the queue has what `program_run` says of the program, if all that it puts may stand on the board
-/// (`exact`); of any other program what it says without what may not stand there (`run`).
+/// (`exact`); of any other program what it says without what may not stand there (`run`). Where the run may end at
+/// `cancel`, this holds of the queue, and the board may show any part of the changes.
 ///
 /// # Errors
 ///
@@ -195,23 +205,23 @@ pub fn run_program<'r, 's: 'r, B: Scan>(
     program: &mut QuietGroups<'_, 's, B>,
     board: &mut B,
     queue: &mut LentQueue<'r>,
-    scratch: &mut [ScratchFor<B>],
-    kept: &mut KeptBoards<B>,
+    memory: &mut RunMemory<B>,
+    extent: Extent,
 ) -> Result<(), Memory>
-    requires { SectionsHaveScratch (length scratch.old) program.old.sections }
+    requires { SectionsHaveScratch (vec_len memory.old.scratch) program.old.sections }
     ensures run { let before : State = record { grid = B.grid board.old; queue = queue.old } in
         let after : State = record { grid = B.grid board.new; queue = queue.new } in
         let sections = program.old.sections in
-        OnOk result (after ≡ program_run (sections_meaning (B.table board.old) sections) before) }
+        OnOk result (HasRun extent (program_run (sections_meaning (B.table board.old) sections) before) after) }
     ensures exact { let before : State = record { grid = B.grid board.old; queue = queue.old } in
         let after : State = record { grid = B.grid board.new; queue = queue.new } in
         let sections = sections_shown program.old.sections in
         IsRunnable (B.table board.old) sections
-        → OnOk result (after ≡ program_run (meaning_of_program sections) before) }
+        → OnOk result (HasRun extent (program_run (meaning_of_program sections) before) after) }
     ensures table { B.table board.new ≡ B.table board.old }
     ensures origin { B.origin board.new ≡ B.origin board.old }
     ensures sides { sides_of (B.grid board.new) ≡ sides_of (B.grid board.old) }
-    ensures scratch { length scratch.new ≡ length scratch.old }
+    ensures scratch { vec_len memory.new.scratch ≡ vec_len memory.old.scratch }
     ensures sections { program.new.sections ≡ program.old.sections }
 {
     let seeks_quiet = program.begin(board)?;
@@ -219,12 +229,12 @@ pub fn run_program<'r, 's: 'r, B: Scan>(
     let mut run = Run {
         board,
         queue,
-        scratch,
+        scratch: memory.scratch.as_mut_slice(),
         motions,
     };
     if seeks_quiet {
-        return play_unless_quiet(program, &mut run, kept);
+        return play_unless_quiet(program, &mut run, &mut memory.kept, extent);
     }
     let sections: &[CompiledSection<'r>] = program.sections();
-    play_sections(sections, &mut run, kept)
+    play_sections(sections, &mut run, &mut memory.kept, extent)
 }

@@ -3,8 +3,8 @@
 ghost use Rattle.std.specs.Prelude.{◌≡◌, IfOk};
 
 use crate::queues::{lent, owned};
-use ps_engine::{KeptBoards, QuietGroups, Scan, ScratchFor, run_program, scratch_for};
-use ps_model::Memory;
+use ps_engine::{QuietGroups, RunMemory, Scan, run_program};
+use ps_model::{Extent, Memory};
 use ps_program::CompiledSection;
 use ps_turn::{Queue, Rules};
 use std::alloc::Global;
@@ -18,10 +18,7 @@ pub struct GameRules<'p, 'r, B: Scan> {
     /// Where the message of a run takes memory from.
     alloc: Global,
     program: QuietGroups<'p, 'r, B>,
-    /// Room for the rows of a rule.
-    scratch: Vec<ScratchFor<B>>,
-    /// For rounds and passes that come back.
-    kept: KeptBoards<B>,
+    memory: RunMemory<B>,
 }
 
 /// Written out, so that a function that owns rules calls this where it returns, instead of dropping their parts.
@@ -30,8 +27,7 @@ impl<'p, 'r, B: Scan> Drop for GameRules<'p, 'r, B> {
         let GameRules {
             alloc: _,
             program: _program,
-            scratch: _scratch,
-            kept: _kept,
+            memory: _memory,
         } = self;
     }
 }
@@ -45,7 +41,7 @@ impl<'p, 'r, B: Scan> Model for GameRules<'p, 'r, B> {
 
     ghost view = { λ r. r.program.sections };
 
-    ghost invariant = { λ r. SectionsHaveScratch (vec_len r.scratch) r.program.sections };
+    ghost invariant = { λ r. SectionsHaveScratch (vec_len r.memory.scratch) r.program.sections };
 }
 
 impl<'p, 'r, B: Scan> GameRules<'p, 'r, B> {
@@ -56,13 +52,12 @@ impl<'p, 'r, B: Scan> GameRules<'p, 'r, B> {
     ) -> Result<GameRules<'p, 'r, B>, Memory>
         ensures { IfOk result (λ rules. rules ≡ sections.entry.now) }
     {
-        let scratch = scratch_for(alloc, sections)?;
+        let memory = RunMemory::try_new(alloc, sections)?;
         let program = QuietGroups::try_new(alloc, sections)?;
         Ok(GameRules {
             alloc,
             program,
-            scratch,
-            kept: KeptBoards::new(alloc),
+            memory,
         })
     }
 }
@@ -72,20 +67,14 @@ impl<'p, 'r, B: Scan> Rules<B> for GameRules<'p, 'r, B> {
 
     ghost meant = { λ rules table. sections_meaning table rules };
 
-    fn run(&mut self, board: &mut B, queue: &mut Queue) -> Result<(), Memory> {
+    fn run(&mut self, board: &mut B, queue: &mut Queue, extent: Extent) -> Result<(), Memory> {
         if self.program.is_empty() {
             return Ok(());
         }
         let after = {
             let mut during = lent(queue);
-            let scratch = self.scratch.as_mut_slice();
-            run_program(
-                &mut self.program,
-                board,
-                &mut during,
-                scratch,
-                &mut self.kept,
-            )?;
+            let memory = &mut self.memory;
+            run_program(&mut self.program, board, &mut during, memory, extent)?;
             owned(self.alloc, during)?
         };
         *queue = after;

@@ -1,4 +1,4 @@
-use Rattle.std.proofs.Common.{◌≡◌, ◌∙◌, ℕ, Bool, false, List, Option, ap, sym, refl}
+use Rattle.std.proofs.Common.{◌≡◌, ◌∙◌, ℕ, Bool, false, List, Option, ap, drop, map, refl, sym}
 use Rattle.ps_model.specs.declared.limits.TheConstants.{REPEAT_LIMIT}
 use Rattle.ps_model.specs.board.Attempts.{Result, State}
 use Rattle.ps_model.specs.board.Programs.{Progress, section_run}
@@ -8,6 +8,7 @@ use Rattle.ps_engine.specs.RulesInRoom.{section_meaning, sections_meaning}
 use Rattle.ps_engine.proofs.Sequences.{program_is, sections_end, sections_on}
 use Rattle.ps_engine.specs.Runs.{state_of_run}
 use Rattle.ps_engine.specs.Workspaces.{same_layers}
+use Rattle.ps_engine.proofs.Ended.{ran_whole, ran_to_cancel}
 use Rattle.ps_engine.proofs.programs.play_sections.Goals as goal
 use Rattle.ps_engine.proofs.programs.play_sections.Goals.{in-Group+in_ok-play_group-in-Group}
 use Rattle.ps_engine.proofs.programs.play_sections.Goals.{in-Loop+in_ok-left-in-Loop+else-left}
@@ -63,9 +64,17 @@ loop-section-preserved g c =
           }
     ]
 
+pub returns-then-ends-clause-run : goal.returns-then-ends-clause-run
+returns-then-ends-clause-run g c =
+    let table : Option (List ℕ) = g.B.Board.table c.args.run.now.board.now in
+    ran_to_cancel c.args.extent (map (section_meaning table) (drop c.loop-section.section-index c.args.sections.now))
+    c.loop-section.repeats _ (state_of_run g.B.Board c.loop-section.run) (c.ends.ensures.extent c.if-ends.true)
+    (c.ends.ensures.cancelled c.if-ends.true) c.loop-section.invariant.run
+
 pub returns-clause-run : goal.returns-clause-run
 returns-clause-run g c =
-    sections_end (section_meaning (g.B.Board.table c.args.run.now.board.now)) c.args.sections.now c.loop-section.section-index
-    c.loop-section.repeats (state_of_run g.B.Board c.loop-section.run)
+    ran_whole c.args.extent _ (state_of_run g.B.Board c.loop-section.run)
+    (sections_end (section_meaning (g.B.Board.table c.args.run.now.board.now)) c.args.sections.now
+    c.loop-section.section-index c.loop-section.repeats (state_of_run g.B.Board c.loop-section.run)
     c.loop-section-test.false
-    ∙ c.loop-section.invariant.run
+    ∙ c.loop-section.invariant.run)

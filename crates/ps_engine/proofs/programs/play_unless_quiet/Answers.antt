@@ -19,6 +19,7 @@ use Rattle.ps_engine.proofs.Idle.{section_still}
 use Rattle.ps_engine.proofs.Sequences.{program_is, sections_end, sections_on, sections_stop}
 use Rattle.ps_engine.proofs.Stirred.{differ_none}
 use Rattle.ps_engine.proofs.Waking.{each_there, found_at}
+use Rattle.ps_engine.proofs.Ended.{ran_whole, ran_to_cancel}
 use Rattle.ps_engine.proofs.programs.play_unless_quiet.Goals as goal
 use Rattle.ps_engine.proofs.programs.play_unless_quiet.Goals.{then-left-2, else-left-2}
 
@@ -156,8 +157,15 @@ returns-then-left-clause-run g c =
     ∙ section_of here table item at.0 repeats passed now (same_layers (c.passes.ensures.fixed ∙ was.fixed))
     (lent c.sections-sections.result.now sections n at.0 item c.sections-sections.ensures c.index-sections-number.is at.1)
     c.passes.ensures.state in
-    sections_stop (section_meaning table) sections n at.0 repeats left.repeats now next low
-    (sym (get_or_from_slice_get sections n at.0 at.0 at.1)) made ∙ was.run
+    ran_whole c.args.extent _ next (sections_stop (section_meaning table) sections n at.0 repeats left.repeats now next low
+    (sym (get_or_from_slice_get sections n at.0 at.0 at.1)) made ∙ was.run)
+
+pub returns-then-ends-clause-run : goal.returns-then-ends-clause-run
+returns-then-ends-clause-run g c =
+    let table : Option (List ℕ) = g.B.Board.table c.args.run.now.board.now in
+    ran_to_cancel c.args.extent (map (section_meaning table) (drop c.loop-number.number c.args.program.now.sections))
+    c.loop-number.repeats _ (state_of_run g.B.Board c.loop-number.run) (c.ends.ensures.extent c.if-ends.true)
+    (c.ends.ensures.cancelled c.if-ends.true) c.loop-number.invariant.run
 
 pub passes-requires-clause-number : goal.passes-requires-clause-number
 passes-requires-clause-number g c =
@@ -219,9 +227,10 @@ returns-clause-run g c =
     let far : length sections ≤ c.loop-number.number =
     subst (λ (all : List CompiledSection). length all ≤ c.loop-number.number) c.sections-sections.ensures
     c.loop-number-test.false in
-    sections_end (section_meaning (g.B.Board.table c.args.run.now.board.now)) sections c.loop-number.number
+    ran_whole c.args.extent _ (state_of_run g.B.Board c.loop-number.run)
+    (sections_end (section_meaning (g.B.Board.table c.args.run.now.board.now)) sections c.loop-number.number
     c.loop-number.repeats (state_of_run g.B.Board c.loop-number.run) far
-    ∙ c.loop-number.invariant.run
+    ∙ c.loop-number.invariant.run)
 
 pub returns-clause-fixed : goal.returns-clause-fixed
 returns-clause-fixed g c = c.loop-number.invariant.fixed

@@ -1,29 +1,35 @@
-use Rattle.std.proofs.Common.{◌≡◌, ◌∙◌, ℕ, List, [], Option, ap, ap₂, refl, sym}
+use Rattle.std.proofs.Common.{◌≡◌, ◌∙◌, ℕ, List, [], Option, ap, ap₂, inl, refl, subst, sym}
 use Rattle.ps_engine.specs.RulesInRoom.{sections_meaning}
+use Rattle.ps_laws.specs.CancelledRuns.{HasRun}
+use Rattle.ps_model.specs.declared.rules.Extent.{Extent}
+use Rattle.ps_model.specs.declared.rules.Extent.TheVariants.{Whole, UntilCancelled}
 use Rattle.ps_model.specs.board.Attempts.{State}
 use Rattle.ps_model.specs.board.Programs.{Section, program_run}
 use Rattle.ps_model.specs.rules.SourceRules.{Commands}
 use Rattle.ps_program.specs.declared.program.CompiledSection.{CompiledSection}
-use Rattle.ps_turn.specs.States.{state_of}
+use Rattle.ps_turn.specs.States.{queue_shown, state_of}
 use Rattle.ps_rulebook.proofs.game_rules.GameRulesRules.run.Goals as goal
 
 -- without a section nothing is run
-none_run : (sections : List Section) (state : State) → sections ≡ [] → state ≡ program_run sections state
+none_run : (extent : Extent) (sections : List Section) (state : State) → sections ≡ [] →
+    HasRun extent (program_run sections state) state
 unfolding program_run
-none_run sections state none = rw none refl
+none_run Whole sections state none = rw none refl
+none_run UntilCancelled sections state none = inl (rw none refl)
 
 pub returns-then-is_empty-clause-ran : goal.returns-then-is_empty-clause-ran
 returns-then-is_empty-clause-ran g c =
     let table : Option (List ℕ) = g.B.Board.table c.args.board.now in
-    none_run _ _ (ap (sections_meaning table) (sym c.self.view_is ∙ c.is_empty.ensures c.if-is_empty.true))
+    none_run c.args.extent _ _ (ap (sections_meaning table) (sym c.self.view_is ∙ c.is_empty.ensures c.if-is_empty.true))
 
 pub returns-clause-ran : goal.returns-clause-ran
 returns-clause-ran g c =
-    ap (state_of (g.B.Board.grid c.run_program.new.board)) c.in_ok-after.ensures
-    ∙ c.in_ok-run_program.ensures.run
-    ∙ ap₂ (λ (sections : List CompiledSection) (queue : Commands). program_run
-    (sections_meaning (g.B.Board.table c.args.board.now) sections) (state_of (g.B.Board.grid c.args.board.now) queue))
-    c.self.view_is c.lent-during.ensures
+    let ran : List CompiledSection → Commands → State = λ sections queue. program_run
+    (sections_meaning (g.B.Board.table c.args.board.now) sections) (state_of (g.B.Board.grid c.args.board.now) queue) in
+    let came : Commands → State = state_of (g.B.Board.grid c.run_program.new.board) in
+    subst (λ (all : State). HasRun c.args.extent all (came (queue_shown c.in_ok-after.after)))
+    (ap₂ ran c.self.view_is c.lent-during.ensures)
+    (subst (HasRun c.args.extent _) (sym (ap came c.in_ok-after.ensures)) c.in_ok-run_program.ensures.run)
 
 pub returns-clause-same : goal.returns-clause-same
 returns-clause-same g c =
