@@ -1,6 +1,6 @@
 //! Runs of programs.
 
-ghost use Rattle.std.specs.Prelude.{◌≡◌, IfOk, OnOk, Some, false, length, true, vec_len};
+ghost use Rattle.std.specs.Prelude.{◌≡◌, IfOk, OnOk, Some, false, length, true};
 ghost use Rattle.ps_laws.specs.CancelledRuns.{HasRun};
 ghost use Rattle.ps_model.specs.board.Attempts.{State};
 ghost use Rattle.ps_model.specs.board.Programs.{Progress, looped, program_run, section_run, sections_run};
@@ -16,10 +16,10 @@ use crate::cycle_finder::{CycleFinder, KeptBoards};
 use crate::lent_queue::LentQueue;
 use crate::quiet_groups::QuietGroups;
 use crate::rounds::{pass, play_group};
-use crate::run_memory::RunMemory;
 use crate::runs::Run;
 use ps_match::{Columns, Scan, Topics, recall_shape};
 use ps_model::{Extent, Memory, REPEAT_LIMIT};
+use ps_places::ScratchFor;
 use ps_program::{CompiledRule, CompiledSection};
 use ps_text::List;
 
@@ -194,8 +194,7 @@ fn play_unless_quiet<'r, 's: 'r, B: Scan>(
 /// together. There is scratch memory for each row of a rule.
 ///
 /// The board shows and the queue has what `program_run` says of the program, if all that it puts may stand on the board
-/// (`exact`); of any other program what it says without what may not stand there (`run`). Where the run may end at
-/// `cancel`, this holds of the queue, and the board may show any part of the changes.
+/// (`exact`); of any other program what it says without what may not stand there (`run`).
 ///
 /// # Errors
 ///
@@ -205,23 +204,23 @@ pub fn run_program<'r, 's: 'r, B: Scan>(
     program: &mut QuietGroups<'_, 's, B>,
     board: &mut B,
     queue: &mut LentQueue<'r>,
-    memory: &mut RunMemory<B>,
-    extent: Extent,
+    scratch: &mut [ScratchFor<B>],
+    kept: &mut KeptBoards<B>,
 ) -> Result<(), Memory>
-    requires { SectionsHaveScratch (vec_len memory.old.scratch) program.old.sections }
+    requires { SectionsHaveScratch (length scratch.old) program.old.sections }
     ensures run { let before : State = record { grid = B.grid board.old; queue = queue.old } in
         let after : State = record { grid = B.grid board.new; queue = queue.new } in
         let sections = program.old.sections in
-        OnOk result (HasRun extent (program_run (sections_meaning (B.table board.old) sections) before) after) }
+        OnOk result (after ≡ program_run (sections_meaning (B.table board.old) sections) before) }
     ensures exact { let before : State = record { grid = B.grid board.old; queue = queue.old } in
         let after : State = record { grid = B.grid board.new; queue = queue.new } in
         let sections = sections_shown program.old.sections in
         IsRunnable (B.table board.old) sections
-        → OnOk result (HasRun extent (program_run (meaning_of_program sections) before) after) }
+        → OnOk result (after ≡ program_run (meaning_of_program sections) before) }
     ensures table { B.table board.new ≡ B.table board.old }
     ensures origin { B.origin board.new ≡ B.origin board.old }
     ensures sides { sides_of (B.grid board.new) ≡ sides_of (B.grid board.old) }
-    ensures scratch { vec_len memory.new.scratch ≡ vec_len memory.old.scratch }
+    ensures scratch { length scratch.new ≡ length scratch.old }
     ensures sections { program.new.sections ≡ program.old.sections }
 {
     let seeks_quiet = program.begin(board)?;
@@ -229,12 +228,51 @@ pub fn run_program<'r, 's: 'r, B: Scan>(
     let mut run = Run {
         board,
         queue,
-        scratch: memory.scratch.as_mut_slice(),
+        scratch,
         motions,
     };
     if seeks_quiet {
-        return play_unless_quiet(program, &mut run, &mut memory.kept, extent);
+        return play_unless_quiet(program, &mut run, kept, Extent::Whole);
     }
     let sections: &[CompiledSection<'r>] = program.sections();
-    play_sections(sections, &mut run, &mut memory.kept, extent)
+    play_sections(sections, &mut run, kept, Extent::Whole)
+}
+
+/// A run of a program, as `run_program`, that may end between two groups once `cancel` is queued. Then the queue is that
+/// of the whole program, and the board may show any part of its changes.
+///
+/// # Errors
+///
+/// `Memory`, as for `run_program`.
+pub fn run_until_cancelled<'r, 's: 'r, B: Scan>(
+    program: &mut QuietGroups<'_, 's, B>,
+    board: &mut B,
+    queue: &mut LentQueue<'r>,
+    scratch: &mut [ScratchFor<B>],
+    kept: &mut KeptBoards<B>,
+) -> Result<(), Memory>
+    requires { SectionsHaveScratch (length scratch.old) program.old.sections }
+    ensures run { let before : State = record { grid = B.grid board.old; queue = queue.old } in
+        let after : State = record { grid = B.grid board.new; queue = queue.new } in
+        let sections = program.old.sections in
+        OnOk result (HasRun Extent.UntilCancelled (program_run (sections_meaning (B.table board.old) sections) before) after) }
+    ensures table { B.table board.new ≡ B.table board.old }
+    ensures origin { B.origin board.new ≡ B.origin board.old }
+    ensures sides { sides_of (B.grid board.new) ≡ sides_of (B.grid board.old) }
+    ensures scratch { length scratch.new ≡ length scratch.old }
+    ensures sections { program.new.sections ≡ program.old.sections }
+{
+    let seeks_quiet = program.begin(board)?;
+    let motions = board.motions_there();
+    let mut run = Run {
+        board,
+        queue,
+        scratch,
+        motions,
+    };
+    if seeks_quiet {
+        return play_unless_quiet(program, &mut run, kept, Extent::UntilCancelled);
+    }
+    let sections: &[CompiledSection<'r>] = program.sections();
+    play_sections(sections, &mut run, kept, Extent::UntilCancelled)
 }

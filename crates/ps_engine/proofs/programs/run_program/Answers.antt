@@ -1,8 +1,5 @@
 use Rattle.std.proofs.Common.{◌≡◌, ◌∙◌, ℕ, List, Option, length, refl, sym, ap, subst, rules}
-use Rattle.std.specs.Prelude.{vec_len}
 use Rattle.std.proofs.lemmas.Result.{IfOk-from_err, on_ok_weaker}
-use Rattle.ps_laws.specs.CancelledRuns.{HasRun}
-use Rattle.ps_model.specs.declared.rules.Extent.{Extent}
 use Rattle.ps_model.specs.board.Grid.{Grid}
 use Rattle.ps_model.specs.rules.SourceRules.{Commands}
 use Rattle.ps_model.specs.board.Attempts.{State}
@@ -16,19 +13,11 @@ use Rattle.ps_engine.proofs.AsTheyAre.{program_as_it_is}
 use Rattle.ps_engine.proofs.programs.run_program.Goals as goal
 
 -- what was played on is what is given back
-given_back : (extent : Extent) (given after before : State) (table : Option (List ℕ))
-    (sections own : List CompiledSection) → given ≡ after → sections ≡ own →
-    HasRun extent (program_run (sections_meaning table sections) before) after →
-    HasRun extent (program_run (sections_meaning table own) before) given
-given_back extent given after before table sections own back same ran =
-    subst (HasRun extent (program_run (sections_meaning table own) before)) (sym back)
-    (subst (λ (all : List CompiledSection). HasRun extent (program_run (sections_meaning table all) before) after) same ran)
-
--- what was played by these sections was played by their meaning
-meant_so : (extent : Extent) (given before : State) (first second : List Section) → first ≡ second →
-    HasRun extent (program_run first before) given → HasRun extent (program_run second before) given
-meant_so extent given before first second same ran =
-    subst (λ (meant : List Section). HasRun extent (program_run meant before) given) same ran
+given_back : (given after before : State) (table : Option (List ℕ)) (sections own : List CompiledSection) →
+    given ≡ after → sections ≡ own → after ≡ program_run (sections_meaning table sections) before →
+    given ≡ program_run (sections_meaning table own) before
+given_back given after before table sections own back same ran =
+    back ∙ ran ∙ ap (λ (all : List CompiledSection). program_run (sections_meaning table all) before) same
 
 same_state : (grid other : Grid) (queue commands : Commands) → grid ≡ other → queue ≡ commands →
     (let s : State = record { grid = grid; queue = queue } in s)
@@ -37,14 +26,14 @@ same_state grid other queue commands grids queues = rw (grids, queues) refl
 
 pub play_unless_quiet-requires-clause-scratch : goal.play_unless_quiet-requires-clause-scratch
 play_unless_quiet-requires-clause-scratch g c =
-    subst (SectionsHaveScratch (vec_len c.args.memory.now.scratch)) (sym c.in_ok-seeks_quiet.ensures.sections) c.requires
+    subst (SectionsHaveScratch (length c.args.scratch.now)) (sym c.in_ok-seeks_quiet.ensures.sections) c.requires
 
 pub play_unless_quiet-requires-clause-kept : goal.play_unless_quiet-requires-clause-kept
 play_unless_quiet-requires-clause-kept g c = c.in_ok-seeks_quiet.ensures.kept c.if-seeks_quiet.true
 
 pub play_sections-requires : goal.play_sections-requires
 play_sections-requires g c =
-    subst (SectionsHaveScratch (vec_len c.args.memory.now.scratch))
+    subst (SectionsHaveScratch (length c.args.scratch.now))
     (sym (c.sections-sections.ensures ∙ c.in_ok-seeks_quiet.ensures.sections)) c.requires
 
 pub returns-in_err-seeks_quiet-clause-run : goal.returns-in_err-seeks_quiet-clause-run
@@ -59,7 +48,7 @@ returns-in_err-seeks_quiet-clause-sections g c = c.in_err-seeks_quiet.ensures.se
 pub returns-then-seeks_quiet-clause-run : goal.returns-then-seeks_quiet-clause-run
 returns-then-seeks_quiet-clause-run g c =
     on_ok_weaker c.play_unless_quiet.result
-    (λ ran. given_back c.args.extent _ (state_of_run g.B.Board c.play_unless_quiet.new.run)
+    (λ ran. given_back _ (state_of_run g.B.Board c.play_unless_quiet.new.run)
     (record { grid = g.B.Board.grid c.args.board.now; queue = c.args.queue.now })
     (g.B.Board.table c.args.board.now) _ c.args.program.now.sections
     (same_state _ _ _ _ (search rules) (search rules)) c.in_ok-seeks_quiet.ensures.sections ran)
@@ -68,12 +57,13 @@ returns-then-seeks_quiet-clause-run g c =
 pub returns-then-seeks_quiet-clause-exact : goal.returns-then-seeks_quiet-clause-exact
 returns-then-seeks_quiet-clause-exact g c = λ run.
     on_ok_weaker c.play_unless_quiet.result
-    (λ ran. meant_so c.args.extent _ (record { grid = g.B.Board.grid c.args.board.now; queue = c.args.queue.now }) _ _
-    (program_as_it_is (g.B.Board.table c.args.board.now) c.args.program.now.sections run)
-    (given_back c.args.extent _ (state_of_run g.B.Board c.play_unless_quiet.new.run)
+    (λ ran. given_back _ (state_of_run g.B.Board c.play_unless_quiet.new.run)
     (record { grid = g.B.Board.grid c.args.board.now; queue = c.args.queue.now })
     (g.B.Board.table c.args.board.now) _ c.args.program.now.sections
-    (same_state _ _ _ _ (search rules) (search rules)) c.in_ok-seeks_quiet.ensures.sections ran))
+    (same_state _ _ _ _ (search rules) (search rules)) c.in_ok-seeks_quiet.ensures.sections ran
+    ∙ ap (λ (meant : List Section). program_run meant
+    (record { grid = g.B.Board.grid c.args.board.now; queue = c.args.queue.now }))
+    (program_as_it_is (g.B.Board.table c.args.board.now) c.args.program.now.sections run))
     c.play_unless_quiet.ensures.run
 
 pub returns-then-seeks_quiet-clause-sections : goal.returns-then-seeks_quiet-clause-sections
@@ -83,7 +73,7 @@ returns-then-seeks_quiet-clause-sections g c =
 pub returns-clause-run : goal.returns-clause-run
 returns-clause-run g c =
     on_ok_weaker c.play_sections.result
-    (λ ran. given_back c.args.extent _ (state_of_run g.B.Board c.play_sections.new.run)
+    (λ ran. given_back _ (state_of_run g.B.Board c.play_sections.new.run)
     (record { grid = g.B.Board.grid c.args.board.now; queue = c.args.queue.now })
     (g.B.Board.table c.args.board.now) _ c.args.program.now.sections
     (same_state _ _ _ _ (search rules) (search rules)) (c.sections-sections.ensures ∙ c.in_ok-seeks_quiet.ensures.sections) ran)
@@ -92,13 +82,13 @@ returns-clause-run g c =
 pub returns-clause-exact : goal.returns-clause-exact
 returns-clause-exact g c = λ run.
     on_ok_weaker c.play_sections.result
-    (λ ran. meant_so c.args.extent _ (record { grid = g.B.Board.grid c.args.board.now; queue = c.args.queue.now }) _ _
-    (program_as_it_is (g.B.Board.table c.args.board.now) c.args.program.now.sections run)
-    (given_back c.args.extent _ (state_of_run g.B.Board c.play_sections.new.run)
+    (λ ran. given_back _ (state_of_run g.B.Board c.play_sections.new.run)
     (record { grid = g.B.Board.grid c.args.board.now; queue = c.args.queue.now })
     (g.B.Board.table c.args.board.now) _ c.args.program.now.sections
-    (same_state _ _ _ _ (search rules) (search rules))
-    (c.sections-sections.ensures ∙ c.in_ok-seeks_quiet.ensures.sections) ran))
+    (same_state _ _ _ _ (search rules) (search rules)) (c.sections-sections.ensures ∙ c.in_ok-seeks_quiet.ensures.sections) ran
+    ∙ ap (λ (meant : List Section). program_run meant
+    (record { grid = g.B.Board.grid c.args.board.now; queue = c.args.queue.now }))
+    (program_as_it_is (g.B.Board.table c.args.board.now) c.args.program.now.sections run))
     c.play_sections.ensures.run
 
 pub returns-clause-sections : goal.returns-clause-sections
