@@ -1,4 +1,5 @@
 mod FrameTexts
+mod GreatestObjects
 mod Groups
 mod KeptRows
 mod LookedUp
