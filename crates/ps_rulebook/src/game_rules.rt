@@ -1,9 +1,17 @@
 //! A compiled program as the rules of one part of a turn.
 
-ghost use Rattle.std.specs.Prelude.{◌≡◌, IfOk};
+ghost use Rattle.std.specs.Prelude.{◌≡◌, IfOk, OnOk};
+ghost use Rattle.ps_engine.specs.RulesInRoom.{sections_meaning};
+ghost use Rattle.ps_laws.specs.CancelledRuns.{HasRun};
+ghost use Rattle.ps_match.specs.InRoom.{sides_of};
+ghost use Rattle.ps_model.specs.board.Programs.{program_run};
+ghost use Rattle.ps_turn.specs.States.{state_of};
 
 use crate::queues::{lent, owned};
-use ps_engine::{QuietGroups, RunMemory, Scan, run_program};
+use ps_engine::{
+    KeptBoards, LentQueue, QuietGroups, Scan, ScratchFor, run_program, run_until_cancelled,
+    scratch_for,
+};
 use ps_model::{Extent, Memory};
 use ps_program::CompiledSection;
 use ps_turn::{Queue, Rules};
@@ -18,7 +26,10 @@ pub struct GameRules<'p, 'r, B: Scan> {
     /// Where the message of a run takes memory from.
     alloc: Global,
     program: QuietGroups<'p, 'r, B>,
-    memory: RunMemory<B>,
+    /// Room for the rows of a rule.
+    scratch: Vec<ScratchFor<B>>,
+    /// For rounds and passes that come back.
+    kept: KeptBoards<B>,
 }
 
 /// Written out, so that a function that owns rules calls this where it returns, instead of dropping their parts.
@@ -27,7 +38,8 @@ impl<'p, 'r, B: Scan> Drop for GameRules<'p, 'r, B> {
         let GameRules {
             alloc: _,
             program: _program,
-            memory: _memory,
+            scratch: _scratch,
+            kept: _kept,
         } = self;
     }
 }
@@ -41,7 +53,7 @@ impl<'p, 'r, B: Scan> Model for GameRules<'p, 'r, B> {
 
     ghost view = { λ r. r.program.sections };
 
-    ghost invariant = { λ r. SectionsHaveScratch (vec_len r.memory.scratch) r.program.sections };
+    ghost invariant = { λ r. SectionsHaveScratch (vec_len r.scratch) r.program.sections };
 }
 
 impl<'p, 'r, B: Scan> GameRules<'p, 'r, B> {
@@ -52,13 +64,44 @@ impl<'p, 'r, B: Scan> GameRules<'p, 'r, B> {
     ) -> Result<GameRules<'p, 'r, B>, Memory>
         ensures { IfOk result (λ rules. rules ≡ sections.entry.now) }
     {
-        let memory = RunMemory::try_new(alloc, sections)?;
+        let scratch = scratch_for(alloc, sections)?;
         let program = QuietGroups::try_new(alloc, sections)?;
         Ok(GameRules {
             alloc,
             program,
-            memory,
+            scratch,
+            kept: KeptBoards::new(alloc),
         })
+    }
+
+    /// Runs the sections on a board and a queue that is lent.
+    ///
+    /// # Errors
+    ///
+    /// `Memory`, and a part of them may have been run.
+    fn run_lent<'q>(
+        &mut self,
+        board: &mut B,
+        queue: &mut LentQueue<'q>,
+        extent: Extent,
+    ) -> Result<(), Memory>
+    where
+        'r: 'q,
+        ensures ran { OnOk result (HasRun extent (program_run (sections_meaning (B.table board.old) self.old)
+            (state_of (B.grid board.old) queue.old)) (state_of (B.grid board.new) queue.new)) }
+        ensures same { self.new ≡ self.old }
+        ensures sides { sides_of (B.grid board.new) ≡ sides_of (B.grid board.old) }
+        ensures table { B.table board.new ≡ B.table board.old }
+        ensures origin { B.origin board.new ≡ B.origin board.old }
+    {
+        let program = &mut self.program;
+        let scratch = self.scratch.as_mut_slice();
+        match extent {
+            Extent::Whole => run_program(program, board, queue, scratch, &mut self.kept),
+            Extent::UntilCancelled => {
+                run_until_cancelled(program, board, queue, scratch, &mut self.kept)
+            }
+        }
     }
 }
 
@@ -73,8 +116,7 @@ impl<'p, 'r, B: Scan> Rules<B> for GameRules<'p, 'r, B> {
         }
         let after = {
             let mut during = lent(queue);
-            let memory = &mut self.memory;
-            run_program(&mut self.program, board, &mut during, memory, extent)?;
+            self.run_lent(board, &mut during, extent)?;
             owned(self.alloc, during)?
         };
         *queue = after;

@@ -6,7 +6,9 @@ use Rattle.ps_rulebook.proofs.game_rules.GameRules.try_new.Goals as goal
 
 pub invariant_of-result : goal.invariant_of-result
 invariant_of-result g c = λ k d low.
-    let count : ℕ = vec_len c.in_ok-memory.memory.scratch in
-    let Have : List CompiledSection → Type 0 = λ sections.
-    k < length sections → SectionHasScratch count (slice_index_or sections k d) in
-    subst Have (sym c.in_ok-program.ensures) (c.in_ok-memory.ensures k d) low
+    let count : ℕ = length c.in_ok-scratch.scratch.items in
+    let long : vec_len c.in_ok-scratch.scratch ≡ count = search rules in
+    let Have : ℕ → List CompiledSection → Type 0 = λ n sections.
+    k < length sections → SectionHasScratch n (slice_index_or sections k d) in
+    subst (λ (n : ℕ). Have n c.in_ok-program.program.sections) (sym long)
+    (subst (Have count) (sym c.in_ok-program.ensures) (c.in_ok-scratch.ensures k d)) low

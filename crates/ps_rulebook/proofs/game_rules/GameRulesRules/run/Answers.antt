@@ -4,6 +4,7 @@ use Rattle.ps_laws.specs.CancelledRuns.{HasRun}
 use Rattle.ps_model.specs.declared.rules.Extent.{Extent}
 use Rattle.ps_model.specs.declared.rules.Extent.TheVariants.{Whole, UntilCancelled}
 use Rattle.ps_model.specs.board.Attempts.{State}
+use Rattle.ps_model.specs.board.Grid.{Grid}
 use Rattle.ps_model.specs.board.Programs.{Section, program_run}
 use Rattle.ps_model.specs.rules.SourceRules.{Commands}
 use Rattle.ps_program.specs.declared.program.CompiledSection.{CompiledSection}
@@ -24,30 +25,32 @@ returns-then-is_empty-clause-ran g c =
 
 pub returns-clause-ran : goal.returns-clause-ran
 returns-clause-ran g c =
-    let ran : List CompiledSection → Commands → State = λ sections queue. program_run
-    (sections_meaning (g.B.Board.table c.args.board.now) sections) (state_of (g.B.Board.grid c.args.board.now) queue) in
-    let came : Commands → State = state_of (g.B.Board.grid c.run_program.new.board) in
+    let table : Option (List ℕ) = g.B.Board.table c.args.board.now in
+    let grid : Grid = g.B.Board.grid c.args.board.now in
+    let ran : Commands → State = λ queue. program_run (sections_meaning table c.args.self.now) (state_of grid queue) in
+    let came : Commands → State = state_of (g.B.Board.grid c.run_lent.new.board) in
     subst (λ (all : State). HasRun c.args.extent all (came (queue_shown c.in_ok-after.after)))
-    (ap₂ ran c.self.view_is c.lent-during.ensures)
-    (subst (HasRun c.args.extent _) (sym (ap came c.in_ok-after.ensures)) c.in_ok-run_program.ensures.run)
+    (ap ran c.lent-during.ensures)
+    (subst (HasRun c.args.extent (ran c.lent-during.result)) (sym (ap came c.in_ok-after.ensures))
+    c.in_ok-run_lent.ensures.ran)
 
 pub returns-clause-same : goal.returns-clause-same
 returns-clause-same g c =
     let meant : List CompiledSection → Option (List ℕ) → List Section =
     λ sections table. sections_meaning table sections in
-    ap meant (c.in_ok-run_program.ensures.sections ∙ c.self.view_is)
+    ap meant (c.in_ok-run_lent.ensures.same)
 
 pub returns-clause-width : goal.returns-clause-width
-returns-clause-width g c = ap (λ (sides : ℕ × ℕ × ℕ). sides.0) c.in_ok-run_program.ensures.sides
+returns-clause-width g c = ap (λ (sides : ℕ × ℕ × ℕ). sides.0) c.in_ok-run_lent.ensures.sides
 
 pub returns-clause-height : goal.returns-clause-height
-returns-clause-height g c = ap (λ (sides : ℕ × ℕ × ℕ). sides.1) c.in_ok-run_program.ensures.sides
+returns-clause-height g c = ap (λ (sides : ℕ × ℕ × ℕ). sides.1) c.in_ok-run_lent.ensures.sides
 
 pub returns-clause-layers : goal.returns-clause-layers
-returns-clause-layers g c = ap (λ (sides : ℕ × ℕ × ℕ). sides.2) c.in_ok-run_program.ensures.sides
+returns-clause-layers g c = ap (λ (sides : ℕ × ℕ × ℕ). sides.2) c.in_ok-run_lent.ensures.sides
 
 pub returns-in_err-after-clause-same : goal.returns-in_err-after-clause-same
 returns-in_err-after-clause-same g c =
     let meant : List CompiledSection → Option (List ℕ) → List Section =
     λ sections table. sections_meaning table sections in
-    ap meant (c.in_ok-run_program.ensures.sections ∙ c.self.view_is)
+    ap meant (c.in_ok-run_lent.ensures.same)
