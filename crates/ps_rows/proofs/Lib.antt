@@ -48,3 +48,10 @@ pub mod Shifts
 mod Passed
 mod LayerMotions
 mod Joined
+pub mod KeyBits
+pub mod NotedPlaces
+pub mod TurnedKeys
+pub mod TurnedPlaces
+mod TurnedPlanes
+mod PackedBoards
+mod PackedAlike

@@ -30,7 +30,7 @@ unfolding slot_shown
 slot_by table height words others c l object motion = rw (object, motion) refl
 
 -- what stands on a layer, among what stands on all of them
-object_at : (table : List ℕ) (height layers : ℕ) (words : List (List Bool)) (c l : ℕ) → l < layers →
+pub object_at : (table : List ℕ) (height layers : ℕ) (words : List (List Bool)) (c l : ℕ) → l < layers →
     get_or (map object_in (map (slot_shown table height words c) (range_with_len 0 layers))) l None ≡ object_in
     (slot_shown table height words c l)
 object_at table height layers words c l below =

@@ -14,3 +14,6 @@ pub mod RowHistories
 pub mod PlaneTopics
 pub mod LayersTouched
 pub mod LayerMotions
+pub mod PackedKeys
+pub mod TurnedPlaces
+pub mod Packings

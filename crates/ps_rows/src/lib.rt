@@ -8,6 +8,9 @@
 mod changes;
 mod members;
 mod motions;
+mod noted_cells;
+mod packed_keys;
+mod packing;
 mod planes;
 mod rewriting;
 mod row_board;
@@ -18,7 +21,11 @@ mod sameness;
 mod scanning;
 mod scanning_rows;
 mod topics;
+mod turning;
 
+pub use noted_cells::NotPacked;
+pub use packed_keys::PackedKey;
+pub use packing::RowPacking;
 pub use ps_board::{Board, History};
 pub use ps_match::{Columns, Rooms, Scan};
 pub use ps_model::{LayerId, Memory, Motion, ObjectId};

@@ -44,15 +44,15 @@ pub struct RowBoard<W: ColumnWords> {
     /// All columns of the board.
     pub(crate) all_columns: Columns<W>,
     layers: u32,
-    members: Members,
+    pub(crate) members: Members,
     pub(crate) planes: Planes<W>,
     /// Whether a plane of motions may have a column. Where none has, these planes needn't be looked at.
     may_move: bool,
     /// The rows of all planes when the board was last made to show what another one does, or else when it was made.
     /// Contracts alone read it.
-    origin: Snapshot<Vec<Columns<W>>>,
+    pub(crate) origin: Snapshot<Vec<Columns<W>>>,
     /// Each row in which the plane of an object has other columns than then. There may be more of them.
-    touched: Columns<W>,
+    pub(crate) touched: Columns<W>,
     ghost some_column: { 0 < width },
     ghost columns: { width ≤ SIDE_LIMIT },
     ghost narrow: { width ≤ W.limit },
@@ -81,7 +81,7 @@ fn note_row<W: ColumnWords>(rows: &mut Columns<W>, row: u32, changed: bool)
 }
 
 /// Makes the rows of planes an origin, from which none of them differs.
-fn start_anew<W: ColumnWords>(
+pub(crate) fn start_anew<W: ColumnWords>(
     planes: &Planes<W>,
     origin: &mut Snapshot<Vec<Columns<W>>>,
     touched: &mut Columns<W>,
@@ -271,7 +271,7 @@ impl<W: ColumnWords> RowBoard<W> {
     }
 
     /// Whether it is known that no plane of motions has a column.
-    fn rests(&self) -> bool
+    pub(crate) fn rests(&self) -> bool
         ensures { let p = self.now.planes in
             result ≡ true → AreEmptyFrom (length self.now.members.table.items * p.height) p.words.items }
     {
