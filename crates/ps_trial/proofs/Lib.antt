@@ -1,0 +1,8 @@
+mod SilentSpots
+mod SameTurns
+mod Unchanged
+mod BoardsTaken
+mod Leading
+mod Loops
+mod OwnTurns
+mod Results
