@@ -1,16 +1,15 @@
 -- Rows of frames, one row further.
-use Rattle.std.proofs.Common.{◌≡◌, ◌∙◌, ℕ, suc, ◌+◌, ◌<◌, Bool, true, false, Option, None, List, [], ◌∷◌}
-use Rattle.std.proofs.Common.{◌++◌, length, take, drop, map, fold, get_or, max, min, append_assoc, sym, ap, subst, arith}
+use Rattle.std.proofs.Common.{◌≡◌, ◌∙◌, ℕ, suc, ◌+◌, ◌<◌, Option, None, List, [], ◌∷◌}
+use Rattle.std.proofs.Common.{◌++◌, length, take, drop, map, fold, get_or, max, append_assoc, sym, ap, subst, arith}
 use Rattle.std.specs.Global.{Global}
-use Rattle.std.specs.Str.{bytes_eq}
 use Rattle.std.specs.declared.rc.Rc.{Rc}
 use Rattle.std.proofs.lemmas.List.{drop-map, drop_more, get_or-map, length-map, map-append, take_more}
 use Rattle.std.specs.List.{take-map}
 use Rattle.std.proofs.lemmas.List.Sums.{fold-append}
 use Rattle.ps_view.specs.declared.corners.Cell.{Cell}
 use Rattle.ps_view.specs.declared.frame_rows.FrameRow.{FrameRow}
-use Rattle.ps_view.specs.Corners.{alike, widest}
-use Rattle.ps_view.specs.Frames.{AreRowsFor, Frames, texts_of}
+use Rattle.ps_view.specs.Corners.{widest}
+use Rattle.ps_view.specs.Frames.{AreRowsFor, texts_of}
 use Rattle.ps_view.specs.HarmlessTexts.{columns_of}
 use Rattle.ps_view.specs.Players.{cell_at, first_cell_of, first_player_from, player_place}
 
@@ -69,20 +68,15 @@ first_more players first rows place row within is =
     (first_cell_of first (cell_at place (player_place players row.value.text))) n (drop (place + 1) (texts_of rows)))
     (sym next)
 
-pub first_further : (frames : Frames) (rows : List (Rc FrameRow Global)) (first next : Option Cell) (place : ℕ)
-    (row : Rc FrameRow Global) → texts_of rows ≡ frames.last → place < length rows → row ≡ get_or rows place row →
-    next ≡ first_cell_of first (cell_at place (player_place frames.players row.value.text)) →
-    first_player_from frames.players first place (drop place frames.last)
-    ≡ first_player_from frames.players None 0 frames.last →
-    first_player_from frames.players next (place + 1) (drop (place + 1) frames.last)
-    ≡ first_player_from frames.players None 0 frames.last
-first_further frames rows first next place row shown within is more so_far =
-    ap (λ (cell : Option Cell). first_player_from frames.players cell (place + 1) (drop (place + 1) frames.last)) more
-    ∙ ap (λ (texts : List (List ℕ)). first_player_from frames.players
-    (first_cell_of first (cell_at place (player_place frames.players row.value.text))) (place + 1)
-    (drop (place + 1) texts)) (sym shown)
-    ∙ sym (first_more frames.players first rows place row within is)
-    ∙ ap (λ (texts : List (List ℕ)). first_player_from frames.players first place (drop place texts)) shown ∙ so_far
+pub first_further : (players : List ℕ) (rows : List (Rc FrameRow Global)) (first next : Option Cell) (place : ℕ)
+    (row : Rc FrameRow Global) → place < length rows → row ≡ get_or rows place row →
+    next ≡ first_cell_of first (cell_at place (player_place players row.value.text)) →
+    first_player_from players first place (drop place (texts_of rows)) ≡ first_player_from players None 0 (texts_of rows) →
+    first_player_from players next (place + 1) (drop (place + 1) (texts_of rows))
+    ≡ first_player_from players None 0 (texts_of rows)
+first_further players rows first next place row within is more so_far =
+    ap (λ (cell : Option Cell). first_player_from players cell (place + 1) (drop (place + 1) (texts_of rows))) more
+    ∙ sym (first_more players first rows place row within is) ∙ so_far
 
 -- what is known of the row at a place
 pub known_of_row : (players : List ℕ) (rows : List (Rc FrameRow Global)) (place : ℕ) (row : Rc FrameRow Global) →
@@ -91,29 +85,6 @@ pub known_of_row : (players : List ℕ) (rows : List (Rc FrameRow Global)) (plac
 known_of_row players rows place row all within is =
     subst (λ (r : Rc FrameRow Global). r.value.player ≡ player_place players r.value.text) (sym is)
     (all place row within)
-
--- two rows that show the same, or something else
-alike_by : (x y : List ℕ) (xs ys : List (List ℕ)) (same : Bool) → bytes_eq x y ≡ same →
-    alike bytes_eq (x ∷ xs) (y ∷ ys) ≡ elim same [ true ↦ suc (alike bytes_eq xs ys) | false ↦ 0 ]
-alike_by x y xs ys same is =
-    ap (λ (same : Bool). let n : ℕ = elim same [ true ↦ suc (alike bytes_eq xs ys) | false ↦ 0 ] in n) is
-
-pub alike_here : (before frame : List (Rc FrameRow Global)) (place : ℕ) (one other : Rc FrameRow Global)
-    (same : Bool) → place < min (length before) (length frame) → one ≡ get_or before place one →
-    other ≡ get_or frame place other → bytes_eq one.value.text other.value.text ≡ same →
-    alike bytes_eq (drop place (texts_of before)) (drop place (texts_of frame)) ≡ elim same [
-      | true ↦ suc (alike bytes_eq (drop (place + 1) (texts_of before)) (drop (place + 1) (texts_of frame)))
-      | false ↦ 0
-    ]
-alike_here before frame place one other same within first second is =
-    let low : place < length before = omega (arith, within) in
-    let high : place < length frame = omega (arith, within) in
-    ap (λ (rows : List (List ℕ)). alike bytes_eq rows (drop place (texts_of frame)))
-    (texts_from before place one low first)
-    ∙ ap (λ (rows : List (List ℕ)). alike bytes_eq
-    (one.value.text ∷ drop (place + 1) (texts_of before)) rows) (texts_from frame place other high second)
-    ∙ alike_by one.value.text other.value.text (drop (place + 1) (texts_of before))
-    (drop (place + 1) (texts_of frame)) same is
 
 -- parts of rows -------------------------------------------------------------------------------------------------------
 

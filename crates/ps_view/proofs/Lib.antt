@@ -11,3 +11,5 @@ mod ViewRows
 pub mod OneSize
 pub mod Sight
 pub mod FrameRows
+pub mod AlikeRows
+pub mod KeptFrames

@@ -12,7 +12,7 @@ use Rattle.ps_view.specs.Players.{shows_player, player_place, cell_at, first_cel
 use Rattle.ps_view.specs.Corners.{corner_keeping, corner_showing, kept_in, moved, room_across, row_in}
 use Rattle.ps_view.specs.Corners.{shown_in}
 use Rattle.ps_view.specs.Sight.{IsShown, IsInPart, PlayersAreDrawn, PlayersAreInSight}
-use Rattle.ps_view.specs.Views.{View, corner_drawn, rows_left}
+use Rattle.ps_view.specs.Views.{rows_left}
 use Rattle.ps_view.proofs.Such.{either}
 
 -- a part that keeps an item away from its edges shows it -------------------------------------------------------------

@@ -1,11 +1,14 @@
 -- A view, bytes and pieces further; and lists that grow by one more.
-use Rattle.std.proofs.Common.{◌≡◌, ◌∙◌, ℕ, suc, zero, ◌+◌, ◌<◌, List, [], ◌∷◌, ◌++◌, length, take, get_or, refl, sym}
+use Rattle.std.proofs.Common.{◌≡◌, ◌∙◌, ℕ, suc, zero, ◌+◌, List, [], ◌∷◌, ◌++◌, refl, sym}
 use Rattle.std.proofs.Common.{ap, ap₂, append_assoc, append-nil, arith, ◌≢◌, ◌==◌, Bool, true, false}
 use Rattle.std.specs.List.{flat_map, range_with_len}
 use Rattle.std.proofs.lemmas.Bool.Decides.{nat_tests}
+use Rattle.ps_view.specs.declared.line_kinds.LineKind.{LineKind}
+use Rattle.ps_view.specs.declared.line_kinds.LineKind.TheVariants.{Row}
 use Rattle.ps_view.specs.LineFeeds.{EndsNoLine}
 use Rattle.ps_view.specs.LineKinds.{kind_of}
 use Rattle.ps_view.specs.Views.{View, Step, byte_step, handed_on, line_told, quietly, view_behind, with_byte, with_bytes}
+use Rattle.ps_view.specs.Views.{with_row}
 use Rattle.ps_view.specs.Pieces.{PiecesAreAsTheWhole, PiecesLeaveTheSame}
 use Rattle.ps_view.proofs.Such.{first_of, others_of}
 
@@ -90,6 +93,22 @@ line_handed_on view bytes goes none =
     ∙ append-nil (byte_step (view_behind view bytes) 10).bytes
     ∙ ap (λ (v : View). (byte_step v 10).bytes) (front_behind view bytes goes none)
     ∙ ap (λ (step : Step). step.bytes) (ended (with_bytes view bytes) goes)
+
+-- a whole row needs no gathering
+pub whole_row_behind : (view : View) (row : List ℕ) → view.is_over ≡ false → EndsNoLine row → view.line ≡ [] →
+    kind_of row ≡ Row → view_behind view (row ++ 10 ∷ []) ≡ with_row view row
+whole_row_behind view row goes none empty is =
+    let line : view.line ++ row ≡ row = ap (λ (begun : List ℕ). begun ++ row) empty in
+    line_behind view row goes none
+    ∙ ap (λ (kind : LineKind). (line_told (with_bytes view row) kind).view) (ap kind_of line ∙ is)
+    ∙ ap (with_row view) line
+
+pub whole_row_handed_on : (view : View) (row : List ℕ) → view.is_over ≡ false → EndsNoLine row → view.line ≡ [] →
+    kind_of row ≡ Row → handed_on view (row ++ 10 ∷ []) ≡ []
+whole_row_handed_on view row goes none empty is =
+    let line : view.line ++ row ≡ row = ap (λ (begun : List ℕ). begun ++ row) empty in
+    line_handed_on view row goes none
+    ∙ ap (λ (kind : LineKind). (line_told (with_bytes view row) kind).bytes) (ap kind_of line ∙ is)
 
 -- a line, and then others
 pub cut_behind : (view : View) (bytes line others : List ℕ) → bytes ≡ line ++ 10 ∷ others →

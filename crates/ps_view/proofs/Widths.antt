@@ -1,15 +1,13 @@
 -- How many columns the rows of a screen cover.
-use Rattle.std.proofs.Common.{◌≡◌, ℕ, zero, suc, min, ◌+◌, ◌-◌, ◌*◌, ◌/◌, ◌≤◌, Bool, true, false, cond, Option, Some}
-use Rattle.std.proofs.Common.{None}
+use Rattle.std.proofs.Common.{◌≡◌, ℕ, zero, suc, min, ◌+◌, ◌-◌, ◌*◌, ◌/◌, ◌≤◌, Bool, true, false, cond}
 use Rattle.std.proofs.Common.{List, [], ◌∷◌, ◌++◌, length, take, drop, fold, max, replicate, refl, subst}
 use Rattle.std.proofs.Common.{arith, ◌==◌, get_or}
-use Rattle.std.specs.Prelude.{All, nat_le, unwrap_or}
+use Rattle.std.specs.Prelude.{All, nat_le}
 use Rattle.std.proofs.Math.Nat.{div-mul-le_self, mul-le-mul_right}
 use Rattle.std.proofs.lemmas.Bool.Decides.{nat_tests}
 use Rattle.std.proofs.lemmas.List.{take_all}
 use Rattle.std.proofs.lemmas.List.Elements.{All-nil, All-cons, All-append, All-take, All-drop, All-map}
 use Rattle.unicode_width.proofs.Computing.{unicode_width}
-use Rattle.unicode_width.specs.Width.{char_width}
 use Rattle.ps_view.specs.declared.corners.Corner.{Corner}
 use Rattle.ps_view.specs.HarmlessTexts.{columns_of, harmless_text}
 use Rattle.ps_view.specs.Rows.{more_mark, fitting, cut, narrowed, break_of, row_before_break, rows_of_words, wrapped}
@@ -17,7 +15,6 @@ use Rattle.ps_view.specs.Rows.{shortened}
 use Rattle.ps_view.specs.Corners.{part_from, frame_part, in_cell, lined_up, room_across, row_part, widest, cell_width}
 use Rattle.ps_view.specs.Screens.{LinesBelow, level_line, keys_line, line_rows, news_rows, rows_below}
 use Rattle.ps_view.specs.RowShares.{has_lines, most_news}
-use Rattle.ps_view.specs.declared.sizes.Size.{Size}
 use Rattle.ps_view.specs.Bounds.{covered, RowsFit}
 use Rattle.ps_view.proofs.Such.{first_of, others_of, either, part_is_such}
 use Rattle.ps_view.proofs.Heights.{part_few}

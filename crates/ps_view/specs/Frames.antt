@@ -1,8 +1,11 @@
--- The frames that a view keeps: what their rows show, and what the code keeps with each row.
-use Rattle.std.specs.Prelude.{◌≡◌, ℕ, List, [], All, map}
+-- The frames that a view keeps: what their rows show, and what the code keeps with each row and with the last frame.
+use Rattle.std.specs.Prelude.{◌≡◌, ◌<◌, ℕ, Option, List, [], All, map}
 use Rattle.std.specs.Global.{Global}
 use Rattle.std.specs.declared.rc.Rc.{Rc}
-use Rattle.ps_view.specs.Players.{player_place}
+use Rattle.std.specs.Str.{bytes_eq}
+use Rattle.ps_view.specs.Corners.{alike, cell_width}
+use Rattle.ps_view.specs.Players.{first_player, player_place}
+use Rattle.ps_view.specs.declared.corners.Cell.{Cell}
 use Rattle.ps_view.specs.declared.frame_rows.FrameRow.{FrameRow}
 
 -- the last whole frame, and the one that has begun, of a game in which these characters show the player
@@ -30,3 +33,14 @@ texts_of rows = map (λ row. row.value.text) rows
 -- it is known of each row where it shows the player first
 abbrev pub AreRowsFor : List ℕ → List (Rc FrameRow Global) → Type 0
 AreRowsFor players rows = All (λ row. row.value.player ≡ player_place players row.value.text) rows
+
+-- it is known where the last frame shows the player first, how many columns each of its cells covers, one at least, and in how many of
+-- its first rows the frame that has begun is like it
+pub record AreKept (players : List ℕ) (last : List (Rc FrameRow Global)) (player : Option Cell) (width : ℕ)
+    (begun : List (Rc FrameRow Global)) (first : ℕ) : Type 0 where
+  pub last_rows : AreRowsFor players last
+  pub begun_rows : AreRowsFor players begun
+  pub seen : player ≡ first_player players (texts_of last)
+  pub wide : width ≡ cell_width (texts_of last)
+  pub some : 0 < width
+  pub same : first ≡ alike bytes_eq (texts_of last) (texts_of begun)

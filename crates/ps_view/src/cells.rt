@@ -1,9 +1,8 @@
 //! The cells of a frame: how wide they are, and which is the first that changed.
 
-ghost use Rattle.std.specs.Prelude.{◌≡◌, ◌<◌, ◌≤◌, length, min, nat_eq};
-ghost use Rattle.std.specs.Str.{bytes_eq};
+ghost use Rattle.std.specs.Prelude.{◌≡◌, ◌<◌, ◌≤◌, nat_eq};
 ghost use Rattle.ps_view.specs.Frames.{texts_of};
-ghost use Rattle.ps_view.specs.Corners.{alike, cell_width, room_across, row_in, widest};
+ghost use Rattle.ps_view.specs.Corners.{alike, cell_width, row_in, widest};
 
 use crate::frame_rows::FrameRow;
 use crate::harmless_texts::columns_of;
@@ -35,13 +34,6 @@ pub fn cell_width(frame: &[Rc<FrameRow, Global>]) -> usize
     columns
 }
 
-/// How many characters of a frame's row so many columns have room for.
-pub fn room_across(columns: usize, frame: &[Rc<FrameRow, Global>]) -> usize
-    ensures { result ≡ room_across columns (texts_of frame.now) }
-{
-    columns / cell_width(frame)
-}
-
 /// The row of a screen, from 0.
 pub fn row_in(screen: &[Text], place: usize) -> &[char]
     ensures { result.now ≡ row_in screen.now place }
@@ -60,19 +52,6 @@ pub fn frame_row(frame: &[Rc<FrameRow, Global>], place: usize) -> &[char]
         Some(row) => row.characters(),
         None => &[],
     }
-}
-
-/// In how many of their first rows two frames are alike.
-pub fn alike_rows(before: &[Rc<FrameRow, Global>], frame: &[Rc<FrameRow, Global>]) -> usize
-    ensures { result ≡ alike bytes_eq (texts_of before.now) (texts_of frame.now) }
-{
-    let shorter = before.len().min(frame.len());
-    for place in 0..shorter {
-        if !before[place].is_like(&frame[place]) {
-            return place;
-        }
-    }
-    shorter
 }
 
 /// In how many of their first characters two rows are alike.

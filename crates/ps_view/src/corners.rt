@@ -3,13 +3,8 @@
 ghost use Rattle.std.specs.Prelude.{◌≡◌};
 ghost use Rattle.ps_view.specs.Corners.{changed_behind, corner_following, corner_keeping, corner_showing};
 ghost use Rattle.ps_view.specs.Corners.{kept_in, moved, moved_in, shown_in};
-ghost use Rattle.ps_view.specs.Frames.{texts_of};
 
-use crate::cells::{frame_row, room_across};
-use crate::frame_rows::FrameRow;
 use crate::frames::Frames;
-use std::alloc::Global;
-use std::rc::Rc;
 
 /// The upper left corner of the part of a frame that is shown: its row and its place in the row, from 0.
 #[derive(Clone, Copy, PartialEq, Eq, Debug)]
@@ -78,15 +73,15 @@ fn corner_showing(
     rows: usize,
     columns: usize,
     corner: Corner,
-    frame: &[Rc<FrameRow, Global>],
+    frames: &Frames,
     cell: Cell,
 ) -> Corner
-    ensures { result ≡ corner_showing rows columns corner (texts_of frame.now) cell }
+    ensures { result ≡ corner_showing rows columns corner frames.now.last cell }
 {
-    let across = frame_row(frame, cell.row).len();
-    let room = room_across(columns, frame);
+    let across = frames.last_row(cell.row).len();
+    let room = frames.room_across(columns);
     Corner {
-        top: moved_in(rows, frame.len(), corner.top, cell.row),
+        top: moved_in(rows, frames.last().len(), corner.top, cell.row),
         left: moved_in(room, across, corner.left, cell.column),
     }
 }
@@ -96,15 +91,15 @@ fn corner_keeping(
     rows: usize,
     columns: usize,
     corner: Corner,
-    frame: &[Rc<FrameRow, Global>],
+    frames: &Frames,
     cell: Cell,
 ) -> Corner
-    ensures { result ≡ corner_keeping rows columns corner (texts_of frame.now) cell }
+    ensures { result ≡ corner_keeping rows columns corner frames.now.last cell }
 {
-    let across = frame_row(frame, cell.row).len();
-    let room = room_across(columns, frame);
+    let across = frames.last_row(cell.row).len();
+    let room = frames.room_across(columns);
     Corner {
-        top: kept_in(rows, frame.len(), corner.top, cell.row),
+        top: kept_in(rows, frames.last().len(), corner.top, cell.row),
         left: kept_in(room, across, corner.left, cell.column),
     }
 }
@@ -120,10 +115,9 @@ pub fn corner_following(
 ) -> Corner
     ensures { result ≡ corner_following frames.now.players rows columns corner frames.now.last changed }
 {
-    let frame = frames.last();
     match frames.first_player() {
-        Some(cell) => corner_keeping(rows, columns, corner, frame, cell),
-        None => corner_showing(rows, columns, corner, frame, changed),
+        Some(cell) => corner_keeping(rows, columns, corner, frames, cell),
+        None => corner_showing(rows, columns, corner, frames, changed),
     }
 }
 

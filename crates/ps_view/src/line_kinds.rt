@@ -26,8 +26,8 @@ pub enum LineKind {
     Row,
 }
 
-/// What a line is.
-pub fn kind_of(line: &[u8]) -> LineKind
+/// What a line is that begins with a mark and a blank.
+fn kind_of_marked(line: &[u8]) -> LineKind
     ensures { result ≡ kind_of line.now }
 {
     if line.is_empty() {
@@ -55,4 +55,14 @@ pub fn kind_of(line: &[u8]) -> LineKind
         return LineKind::Ending;
     }
     LineKind::Row
+}
+
+/// What a line is. Rows of frames have no blank as their second byte, so most lines are told by that byte alone.
+pub fn kind_of(line: &[u8]) -> LineKind
+    ensures { result ≡ kind_of line.now }
+{
+    match line {
+        [_, second, ..] if *second != b' ' => LineKind::Row,
+        _ => kind_of_marked(line),
+    }
 }

@@ -5,9 +5,9 @@ ghost use Rattle.ps_view.specs.Corners.{edge, frame_part, in_cell, lined_up, par
 ghost use Rattle.ps_view.specs.Frames.{texts_of};
 ghost use Rattle.ps_view.specs.Rows.{more_mark};
 
-use crate::cells::cell_width;
 use crate::corners::{Corner, ROOM_WITH_EDGES, shown_in};
 use crate::frame_rows::FrameRow;
+use crate::frames::Frames;
 use crate::harmless_texts::columns_of;
 use crate::rows::MORE_MARK;
 use crate::texts::Text;
@@ -135,7 +135,7 @@ fn add_row_parts(
     Ok(())
 }
 
-/// Adds what so many rows of so many columns show of a frame: the part at a corner, where it isn't whole. Each cell
+/// Adds what so many rows of so many columns show of the last frame: the part at a corner, where it isn't whole. Each cell
 /// covers as many columns as the widest character of the frame.
 ///
 /// # Errors
@@ -146,13 +146,14 @@ pub fn add_frame_part(
     rows: usize,
     columns: usize,
     corner: Corner,
-    frame: &[Rc<FrameRow, Global>],
+    frames: &Frames,
     screen: &mut Vec<Text>,
 ) -> Result<(), Memory>
     ensures { OnOk result (screen.new.items
-        ≡ screen.old.items ++ frame_part rows columns corner (texts_of frame.now)) }
+        ≡ screen.old.items ++ frame_part rows columns corner frames.now.last) }
 {
-    let width = cell_width(frame);
+    let frame = frames.last();
+    let width = frames.cell_width();
     let across = Across {
         width,
         room: columns / width,

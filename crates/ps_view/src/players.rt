@@ -1,9 +1,13 @@
 //! The cell of a frame that shows the player.
 
-ghost use Rattle.std.specs.Prelude.{◌≡◌, None};
-ghost use Rattle.ps_view.specs.Players.{cell_at, first_cell_of, player_place, shows_player};
+ghost use Rattle.std.specs.Prelude.{◌≡◌};
+ghost use Rattle.ps_view.specs.Frames.{AreRowsFor, texts_of};
+ghost use Rattle.ps_view.specs.Players.{cell_at, first_cell_of, first_player, player_place, shows_player};
 
 use crate::corners::Cell;
+use crate::frame_rows::FrameRow;
+use std::alloc::Global;
+use std::rc::Rc;
 
 /// Whether a character shows the player.
 fn shows_player(players: &[char], character: char) -> bool
@@ -41,4 +45,16 @@ pub fn first_cell_of(upper: Option<Cell>, lower: Option<Cell>) -> Option<Cell>
         Some(second) if second.column < first.column => lower,
         _ => upper,
     }
+}
+
+/// The first cell of a frame whose character shows the player.
+pub fn player_in(players: &[char], frame: &[Rc<FrameRow, Global>]) -> Option<Cell>
+    requires { AreRowsFor players.now frame.now }
+    ensures { result ≡ first_player players.now (texts_of frame.now) }
+{
+    let mut first = None;
+    for number in 0..frame.len() {
+        first = first_cell_of(first, cell_at(number, frame[number].player()));
+    }
+    first
 }

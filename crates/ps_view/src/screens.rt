@@ -2,13 +2,12 @@
 
 ghost use Rattle.std.specs.Prelude.{◌≡◌, ◌-◌, ◌++◌, ◌∷◌, [], length, IfOk, OnOk};
 ghost use Rattle.ps_view.specs.Corners.{frame_part};
-ghost use Rattle.ps_view.specs.Frames.{texts_of};
 ghost use Rattle.ps_view.specs.HarmlessTexts.{harmless_text};
 ghost use Rattle.ps_view.specs.Rows.{cut};
 ghost use Rattle.ps_view.specs.Screens.{keys_line, level_line, line_rows, news_rows, rows_below, told_key};
 
 use crate::corners::Corner;
-use crate::frame_rows::FrameRow;
+use crate::frames::Frames;
 use crate::harmless_texts::harmless_text;
 use crate::heard_keys::HeardKeys;
 use crate::lines::Line;
@@ -20,7 +19,6 @@ use crate::texts::Text;
 use crate::told_lines::ToldLines;
 use ps_model::Memory;
 use std::alloc::Global;
-use std::rc::Rc;
 
 /// The line of the level, and after it the note, if there is one.
 fn level_line(alloc: Global, level: &[u8], note: &[u8]) -> Result<Line, Memory>
@@ -133,7 +131,7 @@ pub fn rows_below(alloc: Global, size: Size, told: &ToldLines) -> Result<Vec<Tex
     news_rows(alloc, rows, columns, told.news())
 }
 
-/// What the rows of a terminal show from the top: the part of a frame at a corner, and the rows below it. There are at
+/// What the rows of a terminal show from the top: the part of the last frame at a corner, and the rows below it. There are at
 /// most as many as the terminal has.
 ///
 /// # Errors
@@ -143,16 +141,16 @@ pub fn screen_of(
     alloc: Global,
     size: Size,
     corner: Corner,
-    frame: &[Rc<FrameRow, Global>],
+    frames: &Frames,
     mut below: Vec<Text>,
 ) -> Result<Vec<Text>, Memory>
     ensures { IfOk result (λ screen. screen.items
-        ≡ frame_part (size.rows - length below.items) size.columns corner (texts_of frame.now)
+        ≡ frame_part (size.rows - length below.items) size.columns corner frames.now.last
         ++ below.items) }
 {
     let rows = size.rows().saturating_sub(below.len());
     let mut screen = Vec::new(alloc);
-    add_frame_part(alloc, rows, size.columns(), corner, frame, &mut screen)?;
+    add_frame_part(alloc, rows, size.columns(), corner, frames, &mut screen)?;
     screen.append(&mut below)?;
     Ok(screen)
 }

@@ -6,7 +6,7 @@ ghost use Rattle.ps_view.specs.LineFeeds.{EndsNoLine};
 ghost use Rattle.ps_view.specs.ToldGames.{known_of};
 ghost use Rattle.ps_view.specs.Views.{anew, blank_view, corner_drawn, corner_in, drawn, handed_on, is_size, left};
 ghost use Rattle.ps_view.specs.Views.{line_told, piece_step, size_step, text_of, told_step, view_behind, with_bytes};
-ghost use Rattle.ps_view.specs.Views.{screen_drawn, with_size};
+ghost use Rattle.ps_view.specs.Views.{screen_drawn, with_row, with_size};
 ghost use Rattle.ps_view.specs.declared.line_kinds.LineKind.TheVariants.{Title, Level, Message, Note, Question};
 ghost use Rattle.ps_view.specs.declared.line_kinds.LineKind.TheVariants.{Ending, Empty, Row};
 
@@ -223,8 +223,27 @@ impl TerminalView {
         if self.is_over {
             return Ok(());
         }
+        if self.is_whole_row(bytes) {
+            return self.add_whole_row(bytes);
+        }
         self.gather(bytes)?;
         self.end_line(orders)
+    }
+
+    /// Whether the last bytes of a line are all of it, and it is a row of a frame. Most lines are.
+    fn is_whole_row(&self, bytes: &[u8]) -> bool
+        ensures whole { result ≡ true → self.now.line ≡ [] }
+        ensures row { result ≡ true → kind_of bytes.now ≡ Row }
+    {
+        self.line.bytes().is_empty() && matches!(kind_of(bytes), LineKind::Row)
+    }
+
+    /// Adds a row to the frame that has begun, without gathering its bytes.
+    fn add_whole_row(&mut self, row: &[u8]) -> Result<(), Memory>
+        requires { self.old.line ≡ [] }
+        ensures { OnOk result (self.new ≡ with_row self.old row.now) }
+    {
+        self.frames.add_row(row)
     }
 
     /// Gathers bytes of a line.
@@ -384,7 +403,7 @@ impl TerminalView {
     {
         let below = self.told.rows(self.alloc, self.size)?;
         let corner = self.corner_drawn(self.size.rows().saturating_sub(below.len()));
-        screen_of(self.alloc, self.size, corner, self.frames.last(), below)
+        screen_of(self.alloc, self.size, corner, &self.frames, below)
     }
 
     /// Draws the rows that the view changes.

@@ -9,9 +9,10 @@ use Rattle.ps_view.proofs.parts.add_frame_part.Goals as goal
 
 pub returns-then-rows-lt-ROOM_WITH_EDGES : goal.returns-then-rows-lt-ROOM_WITH_EDGES
 returns-then-rows-lt-ROOM_WITH_EDGES c =
-    let rows = c.args.frame.now in
+    let rows = c.last-frame.result.now in
     let from = c.split_at.result.1.now in
     let frame = texts_of rows in
+    let is_last = c.last-frame.ensures in
     let count = texts_count rows in
     let left = texts_count from in
     let all : length rows ≡ length frame = omega (arith, count) in
@@ -25,20 +26,21 @@ returns-then-rows-lt-ROOM_WITH_EDGES c =
     ≡ take (min c.shown_in-size.result (length (texts_of from))) (texts_of from) =
     ap texts_of (c.split_at-2.ensures.front ∙ ap (λ (n : ℕ). take n from)
     (c.min-2.ensures ∙ ap (λ (n : ℕ). min c.shown_in-size.result n) rest)) ∙ texts_taken from _ in
-    rw (← c.cell_width-width.ensures.width, cut, ← shown) c.add_row_parts-then-rows-lt-ROOM_WITH_EDGES.ensures
+    rw (← c.cell_width-width.ensures.width, ← is_last, cut, ← shown) c.add_row_parts-then-rows-lt-ROOM_WITH_EDGES.ensures
 
 pub returns : goal.returns
 returns c =
     let some : 3 ≤ c.args.rows = omega (arith, c.if-rows-lt-ROOM_WITH_EDGES.false) in
     let edged : c.shown_in-size.result ≡ c.args.rows - 2 = c.shown_in-size.ensures ∙ edged_room c.args.rows some in
-    let rows = c.args.frame.now in
+    let rows = c.last-frame.result.now in
     let from = c.split_at.result.1.now in
     let frame = texts_of rows in
+    let is_last = c.last-frame.ensures in
     let count = texts_count rows in
     let left = texts_count from in
     let all : length rows ≡ length frame = omega (arith, count) in
     let rest : length from ≡ length (texts_of from) = omega (arith, left) in
-    rw (← c.cell_width-width.ensures.width)
+    rw (← c.cell_width-width.ensures.width, ← is_last)
     (frame_parted
     (row_part c.cell_width-width.result (c.args.columns / c.cell_width-width.result) c.args.corner.left) c.args.rows
     c.args.corner.top frame (texts_of from) (texts_of c.split_at-2.result.0.now) c.args.screen.now.items c.add_row_part.new.screen.items

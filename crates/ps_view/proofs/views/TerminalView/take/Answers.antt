@@ -1,4 +1,4 @@
-use Rattle.std.proofs.Common.{◌≡◌, ◌∙◌, ◌++◌, ℕ, List, [], ◌∷◌, append_assoc, append-nil, sym, ap, ap₂, refl}
+use Rattle.std.proofs.Common.{◌∙◌, ◌++◌, ℕ, List, [], ◌∷◌, append_assoc, append-nil, sym, ap, ap₂, refl}
 use Rattle.ps_view.specs.Views.{View, handed_on, view_behind}
 use Rattle.ps_view.proofs.Steps.{cut_behind, cut_handed_on, quiet_handed_on}
 use Rattle.ps_view.proofs.views.TerminalView.take.Goals as goal
