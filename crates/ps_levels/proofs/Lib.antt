@@ -11,3 +11,4 @@ mod WrittenRows
 mod SizedLevels
 mod ObjectSpans
 mod GlyphMeanings
+pub mod ToldSteps

@@ -5,3 +5,5 @@ pub mod LevelRowsAt
 pub mod EntriesShown
 pub mod Sized
 pub mod ObjectSpans
+pub mod ToldLevels
+pub mod ToldWins

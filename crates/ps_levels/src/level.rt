@@ -92,7 +92,7 @@ fn read_rows<'a>(
 }
 
 /// How many columns a level has by its first row.
-fn width_of(alloc: Global, source: &Source, line: u32) -> Result<usize, Memory>
+pub fn width_of(alloc: Global, source: &Source, line: u32) -> Result<usize, Memory>
     requires { HasLine source.now line }
     ensures value { IfOk result (λ width. width ≡ length (characters_of (line_at source.now line))) }
     ensures some { is_blank_line (line_at source.now line) ≡ false → IfOk result (λ width. 1 ≤ width) }

@@ -11,9 +11,14 @@ mod levels;
 mod row_text;
 mod rows;
 mod stretch;
+mod telling_levels;
+mod telling_rows;
+mod telling_wins;
 mod wins;
 
 pub use cells::Cells;
 pub use level::Level;
 pub use levels::{Entry, read_levels};
+pub use telling_levels::told_levels;
+pub use telling_wins::told_wins;
 pub use wins::{Win, read_wins};

@@ -47,7 +47,12 @@ fn is_too_large(width: usize, place: usize) -> bool
 }
 
 /// The first fault of a row whose characters stand for these, at a place in a level.
-fn row_fault(meanings: &[Option<&Meaning>], width: usize, place: usize, line: u32) -> Option<Fault>
+pub fn row_fault(
+    meanings: &[Option<&Meaning>],
+    width: usize,
+    place: usize,
+    line: u32,
+) -> Option<Fault>
     ensures { result ≡ first_fault (faults_of_meanings (meanings_shown meanings.now) width place line) }
 {
     if has_unknown(meanings) {
@@ -76,7 +81,7 @@ fn written(characters: &[char], width: usize) -> usize
 }
 
 /// The first `count`, or all if there are fewer.
-fn front<'s, 'a>(meanings: &'s [Option<&'a Meaning>], count: usize) -> &'s [Option<&'a Meaning>]
+pub fn front<'s, 'a>(meanings: &'s [Option<&'a Meaning>], count: usize) -> &'s [Option<&'a Meaning>]
     ensures { result.now ≡ take count meanings.now }
 {
     if count >= meanings.len() {

@@ -134,7 +134,7 @@ fn read_win(alloc: Global, names: &Names, words: WinWords<'_>) -> Result<Option<
 }
 
 /// Reads a line that is there: the win condition that it is, or none if it is blank.
-fn read_line(
+pub fn read_line(
     alloc: Global,
     source: &Source,
     line: u32,

@@ -14,3 +14,4 @@ pub mod FormSteps
 pub mod LineSteps
 pub mod TwoParts
 mod WholeLines
+pub mod ToldSteps

@@ -12,3 +12,4 @@ pub mod AboveShown
 pub mod FaultsShown
 pub mod FormsShown
 pub mod RefusedLines
+pub mod ToldRules

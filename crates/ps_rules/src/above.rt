@@ -1,7 +1,6 @@
 //! What stands above a line of RULES.
 
 ghost use Rattle.std.specs.Prelude.{◌≡◌, ◌<◌, Some, suc, None};
-ghost use Rattle.ps_model.specs.declared.limits.TheConstants.{RULE_LIMIT};
 ghost use Rattle.ps_model.specs.rules.RuleFaults.{nothing_above, has_lone_plus, joins_other_part, is_other_part};
 ghost use Rattle.ps_rules.specs.AboveShown.{above_shown, below_rule, below_start, below_end};
 ghost use Rattle.ps_rules.specs.RulesShown.{rule_shown};
@@ -41,9 +40,9 @@ impl Above {
         }
     }
 
-    /// What stands above the line below a rule. There are fewer rules than the limit.
+    /// What stands above the line below a rule. There are no more rules than a text may have lines.
     pub fn with_rule(self, late: bool) -> Above
-        requires { self.rules < RULE_LIMIT }
+        requires { self.rules < 4294967295 }
         ensures { above_shown result ≡ below_rule (above_shown self) late }
     {
         Above {

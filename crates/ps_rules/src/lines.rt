@@ -44,7 +44,7 @@ fn mark_of(symbol: Symbol<'_>) -> Option<LoopMark>
 }
 
 /// The loop line of these words, if they are one: `startloop` or `endloop` alone.
-fn loop_mark(tokens: &[Token<'_>]) -> Option<LoopMark>
+pub fn loop_mark(tokens: &[Token<'_>]) -> Option<LoopMark>
     ensures { result ≡ loop_mark_of (tokens_shown tokens.now) }
 {
     if tokens.len() != 1 {
