@@ -11,6 +11,8 @@ pub mod Rests
 pub mod Whole
 pub mod Scans
 pub mod RowsKept
+pub mod KeptRowByRow
+pub mod UnmarkedRows
 pub mod RowsOfPlanes
 pub mod Rows
 pub mod Alike

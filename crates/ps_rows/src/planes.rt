@@ -5,7 +5,7 @@ ghost use Rattle.std.specs.Prelude.{nat_eq, nat_lt, replicate, slice_index_or, s
 ghost use Rattle.std.specs.List.{list_any};
 ghost use Rattle.ps_model.specs.board.Movement.{is_number};
 ghost use Rattle.ps_model.specs.declared.limits.TheConstants.{SIDE_LIMIT};
-ghost use Rattle.ps_board.specs.ColumnSets.{column_at, no_columns, unlike_columns, with_column};
+ghost use Rattle.ps_board.specs.ColumnSets.{column_at, no_columns, set_columns, unlike_columns, with_column};
 ghost use Rattle.ps_rows.specs.Planes.{AreEmptyFrom, AreSameFrom, AreSets, HavePlanes, IsSet, has_cell, row_of};
 ghost use Rattle.ps_rows.specs.Planes.{with_cell, with_cell_in, with_shift};
 ghost use Rattle.ps_rows.specs.PlaneCopies.{AreCopied, AreMarksTaken, ArePlanesOf, AreRowsOf, IsRowCopied};
@@ -230,6 +230,26 @@ impl<W: ColumnWords> Planes<W> {
         ensures { result ≡ row_of self.now.index.items plane }
     {
         self.index[plane as usize]
+    }
+
+    /// Whether a row of a plane may have a column; no row of a plane that isn't there.
+    pub fn is_marked(&self, plane: u32, row: u32) -> bool
+        ensures { result ≡ column_at (row_of self.now.index.items plane) row }
+    {
+        match self.index.get(plane as usize) {
+            Some(rows) => rows.has(row),
+            None => false,
+        }
+    }
+
+    /// Whether no row of a plane is marked; so of a plane that isn't there.
+    pub fn is_blank(&self, plane: u32) -> bool
+        ensures { result ≡ true → set_columns (row_of self.now.index.items plane) ≡ [] }
+    {
+        match self.index.get(plane as usize) {
+            Some(rows) => rows.is_empty(),
+            None => true,
+        }
     }
 
     /// The columns of a row that one of five planes from the first on has.

@@ -90,6 +90,17 @@ impl<W: ColumnWords> RowBoard<W> {
         word
     }
 
+    /// Where an object stands on its layer, by the index first: of a property with many objects most stand nowhere.
+    fn marked_row(&self, sought: &LayeredObject, row: u32) -> Columns<W>
+        requires { row < self.now.planes.height }
+        ensures { IsRowOf (⟦<RowBoard<W> as Board>⟧.grid self.now) row result (held sought.now) }
+    {
+        if !self.planes.is_marked(sought.object.0, row) {
+            return Columns::none();
+        }
+        self.object_row(sought, row)
+    }
+
     /// Where one of the objects stands.
     fn any_row(&self, objects: &[LayeredObject], row: u32) -> Columns<W>
         requires { row < self.now.planes.height }
@@ -97,13 +108,13 @@ impl<W: ColumnWords> RowBoard<W> {
     {
         let mut word = Columns::none();
         for sought in objects {
-            word = word.either(self.object_row(sought, row));
+            word = word.either(self.marked_row(sought, row));
         }
         word
     }
 
     /// Where one object of each list stands.
-    fn lists_row(&self, lists: &[List<LayeredObject>], row: u32) -> Columns<W>
+    pub(crate) fn lists_row(&self, lists: &[List<LayeredObject>], row: u32) -> Columns<W>
         requires { row < self.now.planes.height }
         ensures { IsRowOf (⟦<RowBoard<W> as Board>⟧.grid self.now) row result (held_of_each lists.now) }
     {

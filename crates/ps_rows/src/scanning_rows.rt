@@ -1,22 +1,24 @@
 //! Rows of the board against a mask, all at once: each plane that the mask asks about is joined with all of them in one
 //! go.
 
-ghost use Rattle.std.specs.Prelude.{◌≡◌, ◌+◌, ◌<◌, ◌≤◌, ◌&&◌, ◌∷◌, ℕ, [], length, nat_lt, replicate, slice_get};
+ghost use Rattle.std.specs.Prelude.{◌≡◌, ◌+◌, ◌<◌, ◌≤◌, ◌&&◌, ◌∷◌, ℕ, [], IfSome, length, nat_lt, replicate, slice_get};
 ghost use Rattle.std.specs.Prelude.{slice_index_or, true};
 ghost use Rattle.ps_model.specs.board.Movement.{is_number};
 ghost use Rattle.ps_board.specs.ColumnSets.{both_columns};
 ghost use Rattle.ps_program.specs.ProgramShown.{mask_shown};
 ghost use Rattle.ps_match.specs.InRoom.{meaning_of_mask};
 ghost use Rattle.ps_match.specs.ScannedRows.{AreRowsScanned};
-ghost use Rattle.ps_rows.specs.RowTests.{held, held_all, narrowed};
-ghost use Rattle.ps_rows.specs.RowsKept.{AreBoth, AreKept, AreWithout, are_away, is_away};
+ghost use Rattle.ps_rows.specs.RowTests.{IsRowOf, held, held_all, held_of_each, moved, moved_all, narrowed};
+ghost use Rattle.ps_rows.specs.RowsKept.{AreBoth, AreKept, AreWithout, IsKept, are_away, is_away};
 
+use crate::motions::motion_plane;
 use crate::planes::clear;
 use crate::row_board::RowBoard;
 use crate::scanning::asks_no_more;
 use ps_board::{Board, ColumnWords, Columns};
-use ps_model::LayeredObject;
+use ps_model::{LayeredObject, MotionTest};
 use ps_program::CellMask;
+use ps_text::List;
 
 /// Keeps of each set the columns that are in the set at the same place of others.
 fn keep_both<W: ColumnWords>(found: &mut [Columns<W>], words: &[Columns<W>])
@@ -172,11 +174,15 @@ impl<W: ColumnWords> RowBoard<W> {
         clear(found);
     }
 
-    /// Keeps of each row the columns in which an object doesn't stand on its layer.
+    /// Keeps of each row the columns in which an object doesn't stand on its layer. One that stands nowhere, as most of a
+    /// long property, isn't looked for.
     fn keep_free(&self, sought: &LayeredObject, first: u32, found: &mut [Columns<W>])
         requires { first + length found.old ≤ self.now.planes.height }
         ensures { AreKept (⟦<RowBoard<W> as Board>⟧.grid self.now) first found.old found.new (is_away sought.now) }
     {
+        if self.planes.is_blank(sought.object.0) {
+            return;
+        }
         if self.is_on(sought.object.0, sought.layer.0) {
             let words = self.plane_rows(sought.object.0, first, found.len());
             keep_without(found, words);
@@ -203,6 +209,81 @@ impl<W: ColumnWords> RowBoard<W> {
         }
     }
 
+    /// Those of some columns of a row in which one object of each list stands. Where none is left nothing is read.
+    fn listed_row(&self, lists: &[List<LayeredObject>], row: u32, columns: Columns<W>) -> Columns<W>
+        requires { row < self.now.planes.height }
+        ensures { IsKept (⟦<RowBoard<W> as Board>⟧.grid self.now) row columns result (held_of_each lists.now) }
+    {
+        if columns.is_empty() {
+            return Columns::none();
+        }
+        columns.both(self.lists_row(lists, row))
+    }
+
+    /// Keeps of each row the columns in which one object of each list stands.
+    fn keep_listed(&self, lists: &[List<LayeredObject>], first: u32, found: &mut [Columns<W>])
+        requires { first + length found.old ≤ self.now.planes.height }
+        ensures { AreKept (⟦<RowBoard<W> as Board>⟧.grid self.now) first found.old found.new (held_of_each lists.now) }
+    {
+        if lists.is_empty() {
+            return;
+        }
+        for step in 0..found.len() {
+            found[step] = self.listed_row(lists, first + step as u32, found[step]);
+        }
+    }
+
+    /// The rows of the plane of a motion that is asked for; nothing, where rest is asked for, or a layer that the board
+    /// doesn't have.
+    fn rows_moved(&self, test: &MotionTest, first: u32, count: usize) -> Option<&[Columns<W>]>
+        requires { first + count ≤ self.now.planes.height }
+        ensures rows { IfSome result (λ words. (k : ℕ) → k < count →
+            IsRowOf (⟦<RowBoard<W> as Board>⟧.grid self.now) (first + k) (slice_index_or words.now k [])
+            (moved test.now)) }
+        ensures long { IfSome result (λ words. length words.now ≡ count) }
+    {
+        if self.layers() <= test.layer.0 {
+            return None;
+        }
+        let start = self.motions_from(test.layer.0);
+        match motion_plane(start, test.motion) {
+            Some(plane) => Some(self.plane_rows(plane, first, count)),
+            None => None,
+        }
+    }
+
+    /// Keeps of each row the columns in which a layer has the motion that is asked for, row by row.
+    fn keep_moved_by_row(&self, test: &MotionTest, first: u32, found: &mut [Columns<W>])
+        requires { first + length found.old ≤ self.now.planes.height }
+        ensures { AreKept (⟦<RowBoard<W> as Board>⟧.grid self.now) first found.old found.new (moved test.now) }
+    {
+        for step in 0..found.len() {
+            found[step] = found[step].both(self.motion_row(test, first + step as u32));
+        }
+    }
+
+    /// Keeps of each row the columns in which a layer has the motion that is asked for. A motion's plane is read in one
+    /// go; rest has none.
+    fn keep_moved(&self, test: &MotionTest, first: u32, found: &mut [Columns<W>])
+        requires { first + length found.old ≤ self.now.planes.height }
+        ensures { AreKept (⟦<RowBoard<W> as Board>⟧.grid self.now) first found.old found.new (moved test.now) }
+    {
+        match self.rows_moved(test, first, found.len()) {
+            Some(words) => keep_both(found, words),
+            None => self.keep_moved_by_row(test, first, found),
+        }
+    }
+
+    /// Keeps of each row the columns in which each layer has the motion that is asked for.
+    fn keep_moving(&self, tests: &[MotionTest], first: u32, found: &mut [Columns<W>])
+        requires { first + length found.old ≤ self.now.planes.height }
+        ensures { AreKept (⟦<RowBoard<W> as Board>⟧.grid self.now) first found.old found.new (moved_all tests.now) }
+    {
+        for test in tests {
+            self.keep_moved(test, first, found);
+        }
+    }
+
     /// Keeps of each row the columns in which one object of each of a mask's lists stands, and each layer has the
     /// motion that is asked for.
     fn keep_narrowed(&self, mask: &CellMask, first: u32, found: &mut [Columns<W>])
@@ -210,9 +291,8 @@ impl<W: ColumnWords> RowBoard<W> {
         ensures { let asked = narrowed (mask_shown mask.now) in
             AreKept (⟦<RowBoard<W> as Board>⟧.grid self.now) first found.old found.new asked }
     {
-        for step in 0..found.len() {
-            found[step] = self.narrowed_row(mask, first + step as u32, found[step]);
-        }
+        self.keep_listed(mask.one_of.as_slice(), first, found);
+        self.keep_moving(mask.motions.as_slice(), first, found);
     }
 
     /// The cells of rows that fit a mask, of the first row and of as many below it as there is room for.

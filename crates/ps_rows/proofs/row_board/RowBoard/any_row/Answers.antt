@@ -21,7 +21,7 @@ loop-sought-preserved g c =
     rw c.either-word.ensures
     (any_more (grid_shown b.members.table.items b.width b.planes.height b.layers b.planes.words.items) c.args.row
     is_held_in b.columns c.args.objects.now c.loop-sought.sought-index _
-    c.loop-sought.word c.object_row.result below c.loop-sought.invariant c.object_row.ensures)
+    c.loop-sought.word c.marked_row.result below c.loop-sought.invariant c.marked_row.ensures)
 
 pub returns : goal.returns
 returns g c =
