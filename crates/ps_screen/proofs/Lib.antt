@@ -1,4 +1,5 @@
 mod FrameTexts
+mod Greatest
 mod Groups
 mod KeptRows
 mod LookedUp

@@ -8,6 +8,7 @@ mod cells;
 mod covering;
 mod frame_texts;
 mod glyphs;
+mod greatest;
 mod look;
 mod meanings;
 mod output_text;

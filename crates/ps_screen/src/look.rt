@@ -2,13 +2,15 @@
 
 ghost use Rattle.std.specs.Prelude.{◌≡◌, [], ◌∷◌, IfOk, IfSome, Some, map};
 ghost use Rattle.std.specs.List.{list_all};
-ghost use Rattle.ps_model.specs.names.Names.{same_object};
+ghost use Rattle.ps_model.specs.names.Names.{members, same_object};
 ghost use Rattle.ps_model.specs.board.Levels.{is_ground};
 ghost use Rattle.ps_names.specs.GlyphsShown.{glyph_shown};
 ghost use Rattle.ps_screen.specs.Glyphs.{Covers, character_for, single_place};
+ghost use Rattle.ps_screen.specs.Greatest.{greatest};
 
 use crate::covering::covering_characters;
-use crate::meanings::{are_same, ground_layer};
+use crate::greatest::{are_same_by, greatest, greatest_of_each};
+use crate::meanings::ground_layer;
 use ps_model::{LayerId, Memory, ObjectId};
 use ps_names::{Glyph, Names};
 use std::alloc::Global;
@@ -25,6 +27,8 @@ pub struct Look<'g> {
     single: Vec<Option<char>>,
     /// The glyphs that show several objects, in order of declaration.
     mixed: Vec<&'g Glyph>,
+    /// For each of these the greatest number among its objects.
+    mosts: Vec<u32>,
     /// By the objects' numbers, the character of each object that shows each cell in which it is the topmost one.
     covering: Vec<Option<char>>,
 }
@@ -34,7 +38,9 @@ impl<'g> Model for Look<'g> {
     ghost use Rattle.ps_model.specs.names.Names.{Names as Meant};
     ghost use Rattle.ps_model.specs.board.Levels.{background_layer};
     ghost use Rattle.ps_names.specs.GlyphsShown.{glyph_shown};
+    ghost use Rattle.ps_model.specs.names.Names.{members};
     ghost use Rattle.ps_screen.specs.Glyphs.{AreCovering, AreLookedUp};
+    ghost use Rattle.ps_screen.specs.Greatest.{greatest};
 
     ghost Value = { Meant };
 
@@ -42,7 +48,8 @@ impl<'g> Model for Look<'g> {
 
     ghost invariant = { λ l. (l.ground.0 ≡ background_layer l.names.now)
         × (AreLookedUp l.names.now.glyphs l.single.items (map (λ glyph. glyph_shown glyph.now) l.mixed.items)
-        × AreCovering l.names.now l.covering.items) };
+        × (AreCovering l.names.now l.covering.items
+        × (l.mosts.items ≡ map (λ glyph. greatest (members (glyph_shown glyph.now).meaning)) l.mixed.items))) };
 }
 
 /// Whether each of a list is that object.
@@ -66,12 +73,16 @@ fn single_place(objects: &[ObjectId], count: usize) -> Option<usize>
     None
 }
 
-/// The character of the first of some glyphs that shows just these objects.
-fn first_glyph(glyphs: &[&Glyph], objects: &[ObjectId]) -> Option<char>
+/// The character of the first of some glyphs that shows just these objects. Of each glyph the greatest number among its
+/// objects is given: most glyphs are passed over by it.
+fn first_glyph(glyphs: &[&Glyph], mosts: &[u32], objects: &[ObjectId]) -> Option<char>
+    requires { mosts.now ≡ map (λ glyph. greatest (members (glyph_shown glyph.now).meaning)) glyphs.now }
     ensures { result ≡ character_for (map (λ glyph. glyph_shown glyph.now) glyphs.now) objects.now }
 {
-    for glyph in glyphs {
-        if are_same(glyph.meaning.members(), objects) {
+    let most = greatest(objects);
+    for index in 0..glyphs.len() {
+        let glyph = glyphs[index];
+        if are_same_by(glyph.meaning.members(), mosts[index], objects, most) {
             return Some(glyph.character);
         }
     }
@@ -97,11 +108,13 @@ impl<'g> Look<'g> {
             }
         }
         let covering = covering_characters(alloc, names, &single, &mixed)?;
+        let mosts = greatest_of_each(alloc, &mixed)?;
         Ok(Look {
             names,
             ground: ground_layer(names),
             single,
             mixed,
+            mosts,
             covering,
         })
     }
@@ -119,7 +132,7 @@ impl<'g> Look<'g> {
     {
         match single_place(objects, self.single.len()) {
             Some(place) => self.single[place],
-            None => first_glyph(self.mixed.as_slice(), objects),
+            None => first_glyph(self.mixed.as_slice(), self.mosts.as_slice(), objects),
         }
     }
 

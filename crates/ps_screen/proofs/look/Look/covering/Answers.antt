@@ -9,4 +9,4 @@ returns c =
     let low : place < length characters = omega (arith, c.if-len-place.false, c.len.ensures) in
     let is : c.index.result.now ≡ get_or characters place None =
     c.index.ensures ∙ get_or_default characters place c.index.result.now None low in
-    rw (is, ← c.self.view_is) (c.self.invariant.1.1 place)
+    rw (is, ← c.self.view_is) (c.self.invariant.1.1.0 place)
