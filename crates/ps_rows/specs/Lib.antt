@@ -14,3 +14,5 @@ pub mod RowHistories
 pub mod PlaneTopics
 pub mod LayersTouched
 pub mod LayerMotions
+pub mod BlankPlanes
+pub mod UsedPlanes

@@ -6,6 +6,7 @@
 #![tactic(auto)]
 
 mod changes;
+mod marked_planes;
 mod members;
 mod motions;
 mod planes;
@@ -18,6 +19,7 @@ mod sameness;
 mod scanning;
 mod scanning_rows;
 mod topics;
+mod used_planes;
 
 pub use ps_board::{Board, History};
 pub use ps_match::{Columns, Rooms, Scan};
