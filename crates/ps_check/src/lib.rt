@@ -10,3 +10,4 @@ pub use checking::{check, check_named};
 pub use faults::CheckFault;
 pub use finding::first_fault;
 pub use ps_devices::ByteWriter;
+pub use ps_game::told_faults;

@@ -10,6 +10,7 @@ ghost use Rattle.ps_command.specs.Told.{TellsOfRefusedGiven};
 ghost use Rattle.ps_command.specs.declared.stops.Stop.TheVariants as Stop;
 ghost use Rattle.ps_devices.specs.Devices.{Grows};
 
+use crate::all_faults::tell_texts;
 use crate::command::{Asked, read_command};
 use crate::descriptions::describe_game;
 use crate::details::{Detail, show_detail};
@@ -64,6 +65,7 @@ fn act<R: Env + Files + AllocGlobal + Print + Eprint, P: Player, I: ByteReader, 
         Asked::CheckWhy(path) => check_text(rt, path, Detail::Why, keys, screen),
         Asked::CheckAll(paths) => check_texts(rt, &paths, Detail::Line, keys, screen),
         Asked::CheckAllWhy(paths) => check_texts(rt, &paths, Detail::Why, keys, screen),
+        Asked::Faults(asked) => tell_texts(rt, &asked, keys, screen),
         Asked::Description(path) => describe_game(rt, path, keys, screen),
         Asked::Show(asked) => show_asked(rt, asked, keys, screen),
         Asked::Play(asked) => play_asked(rt, player, asked, keys, screen),
@@ -254,7 +256,11 @@ fn check_bytes<O: ByteWriter>(
 }
 
 /// Tells on standard error that one of several files can't be read, unless it can't for want of memory.
-fn tell_unread<R: AllocGlobal + Eprint>(rt: &R, path: &str, error: io::Error) -> Result<(), Stop>
+pub fn tell_unread<R: AllocGlobal + Eprint>(
+    rt: &R,
+    path: &str,
+    error: io::Error,
+) -> Result<(), Stop>
     ensures fault { IfErr result (λ stop. stop ≢ Stop.NotAccepted) }
 {
     if error.kind() == io::ErrorKind::OutOfMemory {

@@ -1,5 +1,6 @@
 //! The command line.
 
+use crate::details::Detail;
 use crate::files::STANDARD_INPUT;
 use crate::sizes::size_of;
 use crate::stops::Stop;
@@ -36,6 +37,19 @@ pub struct Show<'w> {
     pub sizes: Option<&'w str>,
 }
 
+/// Texts of which all faults are to be told.
+#[derive(Drop)]
+pub struct Faults<'w> {
+    /// The files with the texts, or `-` for standard input.
+    pub paths: Vec<&'w str>,
+    pub detail: Detail,
+    /// Of how many lines of a text a fault is told at most.
+    pub most: u32,
+}
+
+/// The number of faults of a text that are told at most, where no other is given.
+const MOST_FAULTS: u32 = 100;
+
 /// The version, which `--version` tells.
 const VERSION: &str = "0.3.0";
 
@@ -58,6 +72,8 @@ pub enum Asked<'w> {
     /// The same, and below a fault what is to be mended.
     CheckWhy(&'w str),
     CheckAllWhy(Vec<&'w str>),
+    /// Whether the text in each of these files is a game, and all faults of each that is none.
+    Faults(Faults<'w>),
     /// What the fault of this code is.
     Explanation(&'w str),
     /// What a front end needs to know of the game in this file.
@@ -76,6 +92,8 @@ pub fn read_command<'w, S: AsStr>(alloc: Global, words: &'w [S]) -> Result<Asked
         .arg(further_argument(alloc)?)?
         .arg(check_option(alloc))?
         .arg(why_option(alloc)?)?
+        .arg(all_option(alloc)?)?
+        .arg(limit_option(alloc)?)?
         .arg(level_option(alloc)?)?
         .arg(keys_option(alloc))?
         .arg(view_option(alloc))?
@@ -105,6 +123,9 @@ fn asked_by<'w>(alloc: Global, matches: &ArgMatches<'w>) -> Result<Asked<'w>, St
         None => None,
         Some(word) => Some(level_of(word).ok_or(Stop::NoLevel)?),
     };
+    if matches.get_flag("all") {
+        return asked_faults(alloc, matches, path);
+    }
     if matches.get_flag("check") {
         return asked_check(alloc, matches, path);
     }
@@ -175,6 +196,30 @@ fn asked_check<'w>(
     })
 }
 
+/// What the matches of a command line ask for that tells all faults of texts, the first of which is in this file.
+fn asked_faults<'w>(
+    alloc: Global,
+    matches: &ArgMatches<'w>,
+    path: &'w str,
+) -> Result<Asked<'w>, Stop> {
+    let most = match matches.get_str("limit") {
+        None => MOST_FAULTS,
+        Some(word) => limit_of(word).ok_or(Stop::NoLimit)?,
+    };
+    let detail = if matches.get_flag("why") {
+        Detail::Why
+    } else {
+        Detail::Line
+    };
+    let further = matches.get_strs("FURTHER").unwrap_or(&[]);
+    let paths = all_paths(alloc, path, further)?;
+    Ok(Asked::Faults(Faults {
+        paths,
+        detail,
+        most,
+    }))
+}
+
 /// `GAME`.
 fn game_argument(alloc: Global) -> Result<Arg<'static>, AllocError> {
     Arg::new(alloc, "GAME")
@@ -227,6 +272,35 @@ fn why_option(alloc: Global) -> Result<Arg<'static>, AllocError> {
         )
         .action(ArgAction::SetTrue)
         .requires_arg("check")
+}
+
+/// `--all`.
+fn all_option(alloc: Global) -> Result<Arg<'static>, AllocError> {
+    Arg::new(alloc, "all")
+        .long("all")
+        .help(
+            "With --check, tells all faults of a text, as far as it can be read, and their number",
+        )
+        .action(ArgAction::SetTrue)
+        .requires_arg("check")
+}
+
+/// How many faults a word lets be told, from 1.
+fn limit_of(word: &str) -> Option<u32> {
+    match word.parse::<u32>() {
+        Ok(most) if most > 0 => Some(most),
+        _ => None,
+    }
+}
+
+/// `--limit N`.
+fn limit_option(alloc: Global) -> Result<Arg<'static>, AllocError> {
+    Arg::new(alloc, "limit")
+        .long("limit")
+        .value_name("N")
+        .help("With --all, tells at most N faults of a text, in place of 100")
+        .action(ArgAction::Set)
+        .requires_arg("all")
 }
 
 /// The number of a level that a word gives, from 1.
@@ -321,6 +395,7 @@ fn explain_option(alloc: Global) -> Result<Arg<'static>, AllocError> {
         .help("Says in a sentence what the fault of this code is, as RU7")
         .action(ArgAction::Set)
         .conflicts_with_all(&[
-            "GAME", "FURTHER", "check", "why", "level", "keys", "view", "sizes", "show", "describe",
+            "GAME", "FURTHER", "check", "why", "all", "limit", "level", "keys", "view", "sizes",
+            "show", "describe",
         ])
 }

@@ -24,7 +24,7 @@ pub enum Detail {
 }
 
 /// The lines on a fault: that of the text, and what is to be mended, or else what the fault is.
-fn detail_lines(alloc: Global, text: &[u8], fault: Fault) -> Result<String, Memory>
+pub fn detail_lines(alloc: Global, text: &[u8], fault: Fault) -> Result<String, Memory>
     ensures { IfOk result (λ lines. AreLinesOn text.now fault (string_bytes lines)) }
 {
     let told = why(alloc, text, fault)?;

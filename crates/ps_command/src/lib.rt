@@ -5,10 +5,12 @@
 #![tactic(auto)]
 
 mod acts;
+mod all_faults;
 mod command;
 mod descriptions;
 mod details;
 mod explanations;
+mod fault_pages;
 mod files;
 mod playing;
 mod showing;

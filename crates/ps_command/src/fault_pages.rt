@@ -1,0 +1,114 @@
+//! All faults of a text on one page.
+
+ghost use Rattle.std.specs.Prelude.{◌≡◌, ◌++◌, ◌∷◌, [], List, IfOk, OnOk, string_bytes, length, take};
+ghost use Rattle.ps_model.specs.declared.faults.Fault.{Fault as TheFault};
+ghost use Rattle.ps_command.specs.AllFaults.{AreOnFault, AreOnFaults, IsPage, count_words, told_words};
+
+use crate::details::{Detail, detail_lines};
+use ps_model::{Fault, Memory};
+use std::alloc::Global;
+
+/// The lines on a fault: after a front the one that tells it, and below what is asked for.
+fn fault_lines(
+    alloc: Global,
+    text: &[u8],
+    front: &str,
+    detail: Detail,
+    fault: Fault,
+) -> Result<String, Memory>
+    ensures { IfOk result (λ lines. AreOnFault detail front.now text.now fault (string_bytes lines)) }
+{
+    match detail {
+        Detail::Line => {
+            let lines = format!(in alloc; "{front}{fault}\n")?;
+            Ok(lines)
+        }
+        Detail::Why => {
+            let more = detail_lines(alloc, text, fault)?;
+            let lines = format!(in alloc; "{front}{fault}\n{more}")?;
+            Ok(lines)
+        }
+    }
+}
+
+/// Puts the lines on a fault last, below those on the faults before it.
+fn push_lines(
+    alloc: Global,
+    text: &[u8],
+    front: &str,
+    detail: Detail,
+    fault: Fault,
+    page: &mut String,
+) -> Result<(), Memory>
+    ensures { (before : List TheFault) → AreOnFaults detail front.now text.now before (string_bytes page.old) → OnOk
+        result (AreOnFaults detail front.now text.now (before ++ fault ∷ []) (string_bytes page.new)) }
+{
+    let lines = fault_lines(alloc, text, front, detail, fault)?;
+    page.push_str(&lines)?;
+    Ok(())
+}
+
+/// The lines on each of the faults.
+fn all_lines(
+    alloc: Global,
+    text: &[u8],
+    front: &str,
+    detail: Detail,
+    faults: &[Fault],
+) -> Result<String, Memory>
+    ensures { IfOk result (λ page. AreOnFaults detail front.now text.now faults.now (string_bytes page)) }
+{
+    let mut page = String::new(alloc);
+    for fault in faults {
+        push_lines(alloc, text, front, detail, *fault, &mut page)?;
+    }
+    Ok(page)
+}
+
+/// So many faults in words.
+fn count_words(alloc: Global, count: usize) -> Result<String, Memory>
+    ensures { IfOk result (λ words. string_bytes words ≡ count_words count) }
+{
+    let word = if count == 1 { " fault" } else { " faults" };
+    let words = format!(in alloc; "{count}{word}")?;
+    Ok(words)
+}
+
+/// How many faults are told, of which there may be more than `most`.
+#[tactic(auto, using(crate::proofs::FaultsTold::more_counted, crate::proofs::FaultsTold::all_counted))]
+fn told_words(alloc: Global, most: usize, count: usize) -> Result<String, Memory>
+    ensures { (told : List TheFault) → length told ≡ count → IfOk result (λ words. string_bytes words ≡ told_words most told) }
+{
+    if most < count {
+        let counted = count_words(alloc, most)?;
+        let words = format!(in alloc; "more than {counted}")?;
+        return Ok(words);
+    }
+    let words = count_words(alloc, count)?;
+    Ok(words)
+}
+
+/// The first of the faults, at most so many.
+fn first_faults(told: &[Fault], most: usize) -> &[Fault]
+    ensures { result.now ≡ take most told.now }
+{
+    &told[..most.min(told.len())]
+}
+
+/// The page on the faults of a text: the lines on each, on `most` at most, and how many they are.
+pub fn page_of(
+    alloc: Global,
+    text: &[u8],
+    front: &str,
+    detail: Detail,
+    most: usize,
+    told: &[Fault],
+) -> Result<String, Memory>
+    ensures { IfOk result (λ page. IsPage detail most front.now text.now told.now (string_bytes page)) }
+{
+    let shown = first_faults(told, most);
+    let lines = all_lines(alloc, text, front, detail, shown)?;
+    let count = told_words(alloc, most, told.len())?;
+    let page = format!(in alloc; "{lines}{front}{count}\n")?;
+    Ok(page)
+}
