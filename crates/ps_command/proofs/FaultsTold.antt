@@ -1,7 +1,8 @@
 -- Lines on faults of a text, one behind the other, and what is told of texts.
-use Rattle.std.proofs.Common.{◌≡◌, ◌∙◌, ℕ, ◌+◌, ◌≤◌, ◌<◌, ◌++◌, ◌∷◌, inl, inr, List, [], Option, length, suc, zero, Bool}
+use Rattle.std.proofs.Common.{◌≡◌, ◌≢◌, ◌∙◌, ℕ, ◌+◌, ◌≤◌, ◌<◌, ◌++◌, ◌∷◌, inl, inr, List, [], Option, length, suc, zero, Bool}
 use Rattle.std.proofs.Common.{take, get_or, true, false, Some, None, refl, sym, ap, subst, append_assoc, arith}
-use Rattle.std.specs.Prelude.{is_some, nat_lt, codes, IfSome, if◌then◌else◌}
+use Rattle.std.specs.Prelude.{is_some, nat_eq, nat_lt, codes, IfSome, if◌then◌else◌}
+use Rattle.std.specs.Fmt.{decimal}
 use Rattle.std.proofs.lemmas.Bool.Decides.{nat_tests}
 use Rattle.std.proofs.lemmas.List.{append-nil}
 use Rattle.ps_model.specs.declared.faults.Fault.{Fault}
@@ -46,6 +47,13 @@ fronts_more (fault ∷ faults) (suc k) default few =
     let next : suc k + 1 ≡ suc (k + 1) = omega arith in
     ap (λ (n : ℕ). take n (fault ∷ faults)) next
     ∙ ap (λ (front : List Fault). fault ∷ front) (fronts_more faults k default (omega (arith, few)))
+
+-- one more fault is passed by
+pub fault_passed : (detail : Detail) (front text : List ℕ) (faults : List Fault) (k : ℕ) (page : List ℕ) →
+    k < length faults → (default : Fault) →
+    AreOnFaults detail front text (take k faults ++ get_or faults k default ∷ []) page →
+    AreOnFaults detail front text (take (k + 1) faults) page
+fault_passed detail front text faults k page inside default on = rw (fronts_more faults k default inside) on
 
 -- a text that is a game
 pub game_told : (detail : Detail) (most : ℕ) (front text line : List ℕ) (before after : Option (List ℕ)) →
@@ -97,6 +105,21 @@ said_more names detail most name before between after None was unread told =
     texts_unread names detail most name before between after was (unread refl)
 said_more names detail most name before between after (Some accepted) was unread told =
     texts_more names detail most name before between after was told
+
+-- the word behind a number of faults
+word_cases : (count : ℕ) (one : Bool) (word : List ℕ) → nat_eq count 1 ≡ one → (count ≡ 1 → word ≡ codes " fault") →
+    (count ≢ 1 → word ≡ codes " faults") → word ≡ codes (if one then " fault" else " faults")
+word_cases count true word e single several =
+    let is : count ≡ 1 = grind (arith, nat_tests) in
+    single is
+word_cases count false word e single several =
+    let is : count ≢ 1 = grind (arith, nat_tests) in
+    several is
+
+pub counted : (count : ℕ) (word words : List ℕ) → (count ≡ 1 → word ≡ codes " fault") →
+    (count ≢ 1 → word ≡ codes " faults") → words ≡ decimal count ++ word → words ≡ count_words count
+counted count word words single several e =
+    e ∙ ap (λ (w : List ℕ). decimal count ++ w) (word_cases count (nat_eq count 1) word refl single several)
 
 -- how many faults were told
 pub more_counted : (most count : ℕ) (told : List Fault) (inner words : List ℕ) → length told ≡ count → most < count →

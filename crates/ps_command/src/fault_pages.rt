@@ -1,6 +1,6 @@
 //! All faults of a text on one page.
 
-ghost use Rattle.std.specs.Prelude.{◌≡◌, ◌++◌, ◌∷◌, [], List, IfOk, OnOk, string_bytes, length, take};
+ghost use Rattle.std.specs.Prelude.{◌≡◌, ◌≢◌, ◌++◌, ◌∷◌, [], List, IfOk, OnOk, codes, string_bytes, length, take};
 ghost use Rattle.ps_model.specs.declared.faults.Fault.{Fault as TheFault};
 ghost use Rattle.ps_command.specs.AllFaults.{AreOnFault, AreOnFaults, IsPage, count_words, told_words};
 
@@ -65,11 +65,20 @@ fn all_lines(
     Ok(page)
 }
 
+/// What stands behind the number of faults.
+fn fault_word(count: usize) -> &'static str
+    ensures one { count ≡ 1 → result.now ≡ codes " fault" }
+    ensures more { count ≢ 1 → result.now ≡ codes " faults" }
+{
+    if count == 1 { " fault" } else { " faults" }
+}
+
 /// So many faults in words.
+#[tactic(auto, using(crate::proofs::FaultsTold::counted))]
 fn count_words(alloc: Global, count: usize) -> Result<String, Memory>
     ensures { IfOk result (λ words. string_bytes words ≡ count_words count) }
 {
-    let word = if count == 1 { " fault" } else { " faults" };
+    let word = fault_word(count);
     let words = format!(in alloc; "{count}{word}")?;
     Ok(words)
 }

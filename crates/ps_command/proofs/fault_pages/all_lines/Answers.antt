@@ -2,7 +2,7 @@ use Rattle.std.proofs.Common.{◌≡◌, ◌+◌, ◌<◌, ◌++◌, ◌∷◌, 
 use Rattle.std.specs.Prelude.{string_bytes}
 use Rattle.ps_model.specs.declared.faults.Fault.{Fault as TheFault}
 use Rattle.ps_command.specs.AllFaults.{AreOnFaults}
-use Rattle.ps_command.proofs.FaultsTold.{fronts_more}
+use Rattle.ps_command.proofs.FaultsTold.{fault_passed}
 use Rattle.ps_command.proofs.fault_pages.all_lines.Goals as goal
 
 pub loop-fault-preserved : goal.loop-fault-preserved
@@ -10,5 +10,5 @@ loop-fault-preserved c =
     let k : ℕ = c.loop-fault.fault-index in
     let faults : List TheFault = c.args.faults.now in
     let inside : k < length faults = omega (arith, c.loop-fault-test.true) in
-    rw (fronts_more faults k c.fault-item.result inside, ← c.fault-item.is)
+    fault_passed c.args.detail c.args.front.now c.args.text.now faults k (string_bytes c.push_lines.new.page) inside _
     (c.in_ok-push_lines.ensures (take k faults) c.loop-fault.invariant)
