@@ -16,7 +16,7 @@ use Rattle.ps_search.specs.declared.answers.Found.TheVariants.{Won, Never, Unkno
 use Rattle.ps_search.specs.Leads as graph
 use Rattle.ps_search.specs.Leads.{led, AreGiven}
 use Rattle.ps_search.specs.Answers.{IsAnswer}
-use Rattle.ps_solve.specs.SolvedLevels.{all_inputs, IsSolved}
+use Rattle.ps_solve.specs.SolvedLevels.{all_inputs, IsFound}
 
 -- each input is given
 each_given : (input : Input) → Contains all_inputs input
@@ -70,7 +70,7 @@ module _ (script : Script) (entry : ℕ) (next : Spot → Input → Option Spot)
 
     -- an answer that is true of a graph of the level's spots is true of the level
     pub solved : {Fault : Type 0} (limit : ℕ) (found : Found Input Fault) →
-        IsAnswer next here all_inputs limit found → IsSolved script entry session limit found
+        IsAnswer next here all_inputs limit found → IsFound script entry session limit found
     solved limit (Won told) h = record {
       wins = past_is told.items ∙ ap is_none h.wins;
       fewest = λ others wins. h.fewest others (all_given others) (leads_past others wins);
