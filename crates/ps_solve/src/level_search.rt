@@ -15,7 +15,7 @@ ghost use Rattle.ps_solve.specs.SpotKeys.{IsSpotKey};
 use crate::solved::{Solved, told};
 use crate::spot_keys::{SpotKey, SpotKeys};
 use ps_board::{Board, ColumnWords};
-use ps_model::Input;
+use ps_model::{Input, Memory};
 use ps_rows::{NotPacked, RowBoard};
 use ps_search::{Moves, Step, Watcher, search};
 use ps_trial::{Pending, Pressed, Rules, Trial, TurnRules};
@@ -82,6 +82,20 @@ impl<'g, W: ColumnWords, R: Rules<RowBoard<W>> + Drop, const N: usize> Model
         (key_parts s.at.board.words s.at.restart s.at.waits) };
 }
 
+/// A board that shows what another one does.
+///
+/// # Errors
+///
+/// `Memory`.
+fn boxed_copy<B: Board>(alloc: Global, board: &B) -> Result<Box<B>, Memory>
+    ensures grid { IfOk result (λ copy. B.grid copy.value ≡ B.grid board.now) }
+    ensures table { IfOk result (λ copy. B.table copy.value ≡ B.table board.now) }
+{
+    let copy = board.try_copy(alloc)?;
+    let copy = Box::new(alloc, copy)?;
+    Ok(copy)
+}
+
 impl<'g, W: ColumnWords, R: Rules<RowBoard<W>> + Drop, const N: usize> LevelSearch<'g, W, R, N> {
     /// A search from the spot of a trial, where a message waits, or none does. Its keys have `N` words.
     ///
@@ -100,8 +114,9 @@ impl<'g, W: ColumnWords, R: Rules<RowBoard<W>> + Drop, const N: usize> LevelSear
     {
         let mut keys = SpotKeys::try_new(alloc, trial.here())?;
         let start = keys.pack_start(&trial, waits)?;
-        let board = trial.here().try_copy(alloc)?;
-        let board = Box::new(alloc, board)?;
+        let Ok(board) = boxed_copy(alloc, trial.here()) else {
+            return Err(NotPacked::Memory);
+        };
         Ok(LevelSearch {
             trial,
             rules,

@@ -7,8 +7,15 @@
 #![tactic(auto)]
 
 mod level_search;
+#[cfg(test)]
+mod levels;
+#[cfg(test)]
+mod playable;
+mod sessions;
 mod solved;
 mod spot_keys;
+#[cfg(test)]
+mod tests;
 
 pub use level_search::LevelSearch;
 pub use ps_board::ColumnWords;
@@ -16,5 +23,6 @@ pub use ps_model::Input;
 pub use ps_rows::{NotPacked, RowBoard};
 pub use ps_search::{Unwatched, Watcher};
 pub use ps_trial::{Pending, Rules, Trial, TurnRules};
+pub use sessions::search_from;
 pub use solved::{Solved, Unsolved};
 pub use spot_keys::SpotKey;
