@@ -1,1 +1,2 @@
 mod SearchedSpots
+mod KeptKeys

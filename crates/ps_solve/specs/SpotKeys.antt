@@ -34,6 +34,11 @@ IsSpotKey keys words restart = IsKey keys.packed words × (restart < length keys
 abbrev pub AreKeys : Packed → List (List ℕ) → Type 0
 AreKeys packed restarts = All (IsKey packed) restarts
 
+-- each key of a board that has a meaning keeps it
+abbrev pub KeepsBoards : Packed → Packed → Type 0
+KeepsBoards old new = (words : List ℕ) → IsKey old words →
+    IsKey new words × (packed_grid new words ≡ packed_grid old words)
+
 -- a key that stands for a spot goes on to stand for it
 abbrev pub KeepsKeys : KeyTable → KeyTable → Type 0
 KeepsKeys old new = (words : List ℕ) (restart : ℕ) (waits : Option Pending) → IsSpotKey old words restart →

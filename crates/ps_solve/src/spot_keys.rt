@@ -1,12 +1,12 @@
 //! Keys of spots, and what they stand for.
 
-ghost use Rattle.std.specs.Prelude.{◌≡◌, ◌<◌, ℕ, IfOk, List, Some, length, replicate, slice_index_or, []};
+ghost use Rattle.std.specs.Prelude.{◌≡◌, ◌<◌, IfOk, Some, length, replicate, slice_index_or, []};
 ghost use Rattle.ps_board.specs.Rows.{DifferOnlyOn};
 ghost use Rattle.ps_rows.specs.Packings.{IsKey, packed_grid};
 ghost use Rattle.ps_trial.specs.SilentStarts.{spot_with};
 ghost use Rattle.ps_trial.specs.Told.{waits_shown};
 ghost use Rattle.ps_turn.specs.States.{HaveSameSides};
-ghost use Rattle.ps_solve.specs.SpotKeys.{IsAt, IsRestart, IsSpotKey, KeepsKeys, restart_grid, spot_at};
+ghost use Rattle.ps_solve.specs.SpotKeys.{IsAt, IsRestart, IsSpotKey, KeepsBoards, KeepsKeys, spot_at};
 
 use indexmap::IndexSet;
 use ps_board::{Board, ColumnWords, Columns};
@@ -99,8 +99,7 @@ impl<W: ColumnWords, const N: usize> SpotKeys<W, N> {
         ensures grid { IfOk result (λ key. packed_grid self.new.packed key.words ≡ ⟦<RowBoard<W> as Board>⟧.grid to.now) }
         ensures known { IfOk result (λ key. IsKey self.new.packed key.words) }
         ensures kept { KeepsKeys self.old self.new }
-        ensures boards { (words : List ℕ) → IsKey self.old.packed words →
-            IsKey self.new.packed words × (packed_grid self.new.packed words ≡ packed_grid self.old.packed words) }
+        ensures boards { KeepsBoards self.old.packed self.new.packed }
         ensures own { self.new.packed.table ≡ self.old.packed.table }
     {
         self.packing.pack(key, from, to, rows)
@@ -141,8 +140,7 @@ impl<W: ColumnWords, const N: usize> SpotKeys<W, N> {
         requires table { ⟦<RowBoard<W> as Board>⟧.table to.now ≡ ⟦<RowBoard<W> as Board>⟧.table from.now }
         ensures number { IfOk result (IsRestart self.new (⟦<RowBoard<W> as Board>⟧.grid to.now)) }
         ensures kept { KeepsKeys self.old self.new }
-        ensures boards { (words : List ℕ) → IsKey self.old.packed words →
-            IsKey self.new.packed words × (packed_grid self.new.packed words ≡ packed_grid self.old.packed words) }
+        ensures boards { KeepsBoards self.old.packed self.new.packed }
         ensures own { self.new.packed.table ≡ self.old.packed.table }
     {
         let rows = from.rows_differing(to);
