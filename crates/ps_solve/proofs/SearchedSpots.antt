@@ -10,6 +10,9 @@ use Rattle.ps_model.specs.board.Turns.{Script}
 use Rattle.ps_model.specs.session.Sessions.{Session}
 use Rattle.ps_model.specs.session.Solving.{session_after_inputs, is_past, Spot, spot, next_spot, spot_after_inputs}
 use Rattle.ps_model.specs.session.Solving.{WinsInFewest, NeverWins, NotWithin}
+use Rattle.ps_trial.specs.Scripts.{PlaysAs}
+use Rattle.ps_trial.specs.SilentStarts.{Boards}
+use Rattle.ps_trial.proofs.SameTurns.{spots_of_input}
 use Rattle.ps_laws.proofs.sessions.SolvingSpots.{lists_go_by_spots}
 use Rattle.ps_search.specs.declared.answers.Found.{Found}
 use Rattle.ps_search.specs.declared.answers.Found.TheVariants.{Won, Never, Unknown}
@@ -78,3 +81,21 @@ module _ (script : Script) (entry : ℕ) (next : Spot → Input → Option Spot)
     solved limit (Never states) h = (λ list. not_past list (h.0 list (all_given list)), h.1)
     solved limit (Unknown states depth why) h =
         (λ list short. not_past list (h.0 list (all_given list) short), h.1, h.2)
+
+abbrev boards_at : Spot → Boards
+boards_at here = record { board = here.board; restart_board = here.restart_board }
+
+-- scripts that are played as one lead alike
+lead_alike : (script small : Script) → PlaysAs script small → (entry : ℕ) (here : Spot) (input : Input) →
+    next_spot small 0 here input ≡ next_spot script entry here input
+lead_alike script small plays entry here input =
+    let own : PlaysAs small small = record { options = refl; names = refl; plain = refl; late = refl; wins = refl } in
+    spots_of_input small small own 0 (boards_at here) here.waits input
+    ∙ sym (spots_of_input script small plays entry (boards_at here) here.waits input)
+
+-- an answer that is true of the spots of one script is true of the level of each that is played as it is
+pub level_solved : {Fault : Type 0} (limit : ℕ) (small : Script) (here : Spot) (found : Found Input Fault) →
+    IsAnswer (next_spot small 0) here all_inputs limit found → (script : Script) (entry : ℕ) (session : Session) →
+    PlaysAs script small → spot entry session ≡ Some here → IsFound script entry session limit found
+level_solved limit small here found is script entry session plays at =
+    solved script entry (next_spot small 0) (lead_alike script small plays entry) session here at limit found is
