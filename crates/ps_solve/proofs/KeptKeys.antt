@@ -38,10 +38,11 @@ pub spots_kept : (old new : Packed) (restarts : List (List ℕ)) → KeepsBoards
 spots_kept old new restarts keeps keys words restart waits known =
     let own = keeps words known.0 in
     let other : List ℕ = slice_index_or restarts restart [] in
-    let back = keeps other (keys restart [] known.1) in
-    ((own.0, known.1),
+    let back = keeps other (keys restart [] known.1) in (
+      (own.0, known.1),
       same_spot (packed_grid new words) (packed_grid old words) (packed_grid new other) (packed_grid old other)
-      (waits_shown waits) own.1 back.1)
+          (waits_shown waits) own.1 back.1,
+    )
 
 -- where there are more boards that restarts go back to, those that were there keep their numbers
 pub more_restarts : (packed : Packed) (restarts more : List (List ℕ)) → length restarts ≤ length more →
@@ -49,11 +50,12 @@ pub more_restarts : (packed : Packed) (restarts more : List (List ℕ)) → leng
     KeepsKeys (table_of packed restarts) (table_of packed more)
 more_restarts packed restarts more longer same words restart waits known =
     let below : restart < length restarts = known.1 in
-    let within : restart < length more = omega arith in
-    ((known.0, within),
+    let within : restart < length more = omega arith in (
+      (known.0, within),
       same_spot (packed_grid packed words) (packed_grid packed words)
-      (packed_grid packed (slice_index_or more restart [])) (packed_grid packed (slice_index_or restarts restart []))
-      (waits_shown waits) refl (ap (λ (own : List ℕ). packed_grid packed own) (same restart below)))
+          (packed_grid packed (slice_index_or more restart [])) (packed_grid packed (slice_index_or restarts restart []))
+          (waits_shown waits) refl (ap (λ (own : List ℕ). packed_grid packed own) (same restart below)),
+    )
 
 module _ {Key : Type 0} (eq : Key → Key → Bool) (words : Key → List ℕ) (packed : Packed) where
   -- a key that is inserted changes no number
@@ -63,6 +65,7 @@ module _ {Key : Type 0} (eq : Key → Key → Bool) (words : Key → List ℕ) (
     where
       longer : length (map words keys) ≤ length (map words keys ++ words key ∷ [])
       longer = let e = length-append (map words keys) (words key ∷ []) in omega arith
+
       by : (known : Bool) →
           KeepsKeys (table_of packed (map words keys)) (table_of packed (map words (if known then keys else keys ++ key ∷ [])))
       by true = λ own restart waits known. (known, refl)

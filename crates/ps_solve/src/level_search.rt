@@ -48,8 +48,7 @@ pub struct LevelSearch<'g, W: ColumnWords, R: Rules<RowBoard<W>> + Drop, const N
 
 /// Written out, so that an owner calls this where it returns, instead of dropping the parts.
 impl<'g, W: ColumnWords, R: Rules<RowBoard<W>> + Drop, const N: usize> Drop
-    for LevelSearch<'g, W, R, N>
-{
+    for LevelSearch<'g, W, R, N> {
     fn drop(self) {
         let LevelSearch {
             trial: _trial,
@@ -63,8 +62,7 @@ impl<'g, W: ColumnWords, R: Rules<RowBoard<W>> + Drop, const N: usize> Drop
 }
 
 impl<'g, W: ColumnWords, R: Rules<RowBoard<W>> + Drop, const N: usize> Model
-    for LevelSearch<'g, W, R, N>
-{
+    for LevelSearch<'g, W, R, N> {
     ghost use Rattle.ps_trial.specs.Desks.{script_on};
     ghost use Rattle.ps_solve.specs.Searches.{IsStanding, SearchValue, key_parts};
 
@@ -180,8 +178,7 @@ impl<'g, W: ColumnWords, R: Rules<RowBoard<W>> + Drop, const N: usize> LevelSear
 }
 
 impl<'g, W: ColumnWords, R: Rules<RowBoard<W>> + Drop, const N: usize> Moves
-    for LevelSearch<'g, W, R, N>
-{
+    for LevelSearch<'g, W, R, N> {
     ghost use Rattle.ps_model.specs.session.Solving.{Spot, next_spot};
     ghost use Rattle.ps_solve.specs.Searches.{here_of, start_of};
     ghost use Rattle.ps_solve.specs.SpotKeys.{IsSpotKey, spot_at};

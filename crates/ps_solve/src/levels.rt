@@ -147,7 +147,8 @@ fn a_message_in_the_way_takes_a_key(rt: HostRuntime) {
 
 #[test]
 fn a_checkpoint_is_another_spot(rt: HostRuntime) {
-    let lines = "RULES\n[ action Player ] -> checkpoint\nWINCONDITIONS\nAll Target on Crate\nLEVELS\n";
+    let lines =
+        "RULES\n[ action Player ] -> checkpoint\nWINCONDITIONS\nAll Target on Crate\nLEVELS\n";
     let never = solved(&rt, lines, "P.O\n", 100, &mut Unwatched);
     assert_eq!(rt; shown(&never), ("never", 9, 0));
 }
