@@ -51,8 +51,8 @@ fn shown(solved: &Solved) -> (&'static str, usize, u32) {
     }
 }
 
-/// Searches the first entry of a game, a level, from its start on.
-fn searched<T: Watcher>(
+/// Searches the first entry of a game, a level, from its start on, with keys of `N` words.
+fn searched<T: Watcher, const N: usize>(
     rt: &(impl Abort + AllocGlobal),
     game: &Game,
     programs: &CompiledPrograms<'_>,
@@ -86,14 +86,14 @@ fn searched<T: Watcher>(
     let Ok(session) = started else {
         return None;
     };
-    let Ok(Some(mut search)) = search_from::<OneWord, _, _, 1>(alloc, &session, rules) else {
+    let Ok(Some(mut search)) = search_from::<OneWord, _, _, N>(alloc, &session, rules) else {
         return None;
     };
     Some(search.solve(alloc, limit, watcher))
 }
 
-/// Searches the level of a game with these lines below its names.
-fn solved<T: Watcher>(
+/// Searches the level of a game with these lines below its names, with keys of `N` words.
+fn solved_with<T: Watcher, const N: usize>(
     rt: &(impl Abort + AllocGlobal),
     lines: &str,
     level: &str,
@@ -103,7 +103,18 @@ fn solved<T: Watcher>(
     let text = format!(in rt.alloc(); "{NAMES}{lines}{level}").expect(rt, "memory for a text");
     let game = playable_game(rt.alloc(), text.as_bytes()).expect(rt, "a game");
     let programs = compile(rt.alloc(), &game.names, &game.rules).expect(rt, "memory for rules");
-    searched(rt, &game, &programs, limit, watcher).expect(rt, "a search")
+    searched::<T, N>(rt, &game, &programs, limit, watcher).expect(rt, "a search")
+}
+
+/// The same with keys of one word.
+fn solved<T: Watcher>(
+    rt: &(impl Abort + AllocGlobal),
+    lines: &str,
+    level: &str,
+    limit: u32,
+    watcher: &mut T,
+) -> Solved {
+    solved_with::<T, 1>(rt, lines, level, limit, watcher)
 }
 
 #[test]
@@ -151,4 +162,32 @@ fn a_checkpoint_is_another_spot(rt: HostRuntime) {
         "RULES\n[ action Player ] -> checkpoint\nWINCONDITIONS\nAll Target on Crate\nLEVELS\n";
     let never = solved(&rt, lines, "P.O\n", 100, &mut Unwatched);
     assert_eq!(rt; shown(&never), ("never", 9, 0));
+}
+
+#[test]
+fn a_restart_leads_to_the_start(rt: HostRuntime) {
+    let lines = "RULES\n[ action Player ] -> restart\nWINCONDITIONS\nAll Target on Crate\nLEVELS\n";
+    let never = solved(&rt, lines, "P.O\n", 100, &mut Unwatched);
+    assert_eq!(rt; shown(&never), ("never", 3, 0));
+}
+
+#[test]
+fn a_restart_leads_to_the_checkpoint(rt: HostRuntime) {
+    let lines =
+        "RULES\n[ action Player | ] -> restart\n[ right Player ] -> [ right Player ] checkpoint\n\
+        WINCONDITIONS\nAll Target on Crate\nLEVELS\n";
+    let never = solved(&rt, lines, "P.O\n", 100, &mut Unwatched);
+    assert_eq!(rt; shown(&never), ("never", 6, 0));
+}
+
+/// Eighty cells for a Player to walk on.
+const WALK: &str =
+    "P......................................O\n........................................\n";
+
+#[test]
+fn wide_keys_do_where_narrow_ones_are_full(rt: HostRuntime) {
+    let full = solved(&rt, PUSHING, WALK, 100, &mut Unwatched);
+    assert_eq!(rt; shown(&full), ("full", 64, 31));
+    let never = solved_with::<Unwatched, 2>(&rt, PUSHING, WALK, 100, &mut Unwatched);
+    assert_eq!(rt; shown(&never), ("never", 80, 0));
 }
