@@ -6,12 +6,14 @@ ghost use Rattle.ps_stage.specs.Playable.{ArePlayable};
 use crate::playable::playable_game;
 use crate::sessions::search_from;
 use crate::solved::{Solved, Unsolved};
+use crate::widths::{RuleSections, solve_session};
 use ps_compile::{CompiledPrograms, compile};
 use ps_game::Game;
 use ps_model::Input;
 use ps_rulebook::{OneWord, RowBoard, RowHistory, WORD_BITS, rules_of_sections};
 use ps_search::{Unwatched, Watcher};
 use ps_session::{BoardSides, OutputText, Session, SessionGame};
+use ps_turn::{Rules, TurnRules};
 use std::process::Abort;
 
 /// The text of a game up to its rules.
@@ -51,7 +53,31 @@ fn shown(solved: &Solved) -> (&'static str, usize, u32) {
     }
 }
 
-/// Searches the first entry of a game, a level, from its start on, with keys of `N` words.
+/// A session at the first entry of a game, a level.
+fn begun<'g, R: Rules<RowBoard<OneWord>>>(
+    rt: &(impl Abort + AllocGlobal),
+    game: &'g Game,
+    rules: &mut TurnRules<R>,
+) -> Option<Session<'g, RowBoard<OneWord>, RowHistory<OneWord>>>
+    requires playable { ArePlayable game.now.names game.now.entries }
+    requires rooms { HasRoomSize game.now.options }
+{
+    let title = game.title.as_str();
+    let parts = SessionGame::new(title, game.options, &game.names, &game.entries, &game.wins);
+    assert!(rt; parts.side_at(0) <= WORD_BITS);
+    let mut output = OutputText::new(rt.alloc());
+    let sides = BoardSides {
+        above: 0,
+        most: WORD_BITS,
+    };
+    let started = Session::start_at(rt.alloc(), parts, sides, rules, 0, &mut output);
+    let Ok(session) = started else {
+        return None;
+    };
+    Some(session)
+}
+
+/// Searches the first entry of a game from its start on, with keys of `N` words.
 fn searched<T: Watcher, const N: usize>(
     rt: &(impl Abort + AllocGlobal),
     game: &Game,
@@ -63,37 +89,40 @@ fn searched<T: Watcher, const N: usize>(
     requires rooms { HasRoomSize game.now.options }
 {
     let alloc = rt.alloc();
-    let title = game.title.as_str();
-    let parts = SessionGame::new(title, game.options, &game.names, &game.entries, &game.wins);
-    assert!(rt; parts.side_at(0) <= WORD_BITS);
     let sections = (programs.plain.sections(), programs.late.sections());
     let Ok(mut rules) = rules_of_sections(alloc, sections.0, sections.1) else {
         return None;
     };
-    let mut output = OutputText::new(alloc);
-    let sides = BoardSides {
-        above: 0,
-        most: WORD_BITS,
-    };
-    let started = Session::<RowBoard<OneWord>, RowHistory<OneWord>>::start_at(
-        alloc,
-        parts,
-        sides,
-        &mut rules,
-        0,
-        &mut output,
-    );
-    let Ok(session) = started else {
-        return None;
-    };
+    let session = begun(rt, game, &mut rules)?;
     let Ok(Some(mut search)) = search_from::<OneWord, _, _, N>(alloc, &session, rules) else {
         return None;
     };
     Some(search.solve(alloc, limit, watcher))
 }
 
-/// Searches the level of a game with these lines below its names, with keys of `N` words.
-fn solved_with<T: Watcher, const N: usize>(
+/// Searches the first entry of a game from its start on, with keys as wide as it needs.
+fn searched_widely<'r>(
+    rt: &(impl Abort + AllocGlobal),
+    game: &Game,
+    programs: &'r CompiledPrograms<'r>,
+    limit: u32,
+) -> Option<Solved>
+    requires playable { ArePlayable game.now.names game.now.entries }
+    requires rooms { HasRoomSize game.now.options }
+{
+    let sections = RuleSections {
+        plain: programs.plain.sections(),
+        late: programs.late.sections(),
+    };
+    let Ok(mut rules) = rules_of_sections(rt.alloc(), sections.plain, sections.late) else {
+        return None;
+    };
+    let session = begun(rt, game, &mut rules)?;
+    solve_session(rt.alloc(), &session, sections, limit, &mut Unwatched)
+}
+
+/// Searches the level of a game with these lines below its names, with keys of one word.
+fn solved<T: Watcher>(
     rt: &(impl Abort + AllocGlobal),
     lines: &str,
     level: &str,
@@ -103,18 +132,15 @@ fn solved_with<T: Watcher, const N: usize>(
     let text = format!(in rt.alloc(); "{NAMES}{lines}{level}").expect(rt, "memory for a text");
     let game = playable_game(rt.alloc(), text.as_bytes()).expect(rt, "a game");
     let programs = compile(rt.alloc(), &game.names, &game.rules).expect(rt, "memory for rules");
-    searched::<T, N>(rt, &game, &programs, limit, watcher).expect(rt, "a search")
+    searched::<T, 1>(rt, &game, &programs, limit, watcher).expect(rt, "a search")
 }
 
-/// The same with keys of one word.
-fn solved<T: Watcher>(
-    rt: &(impl Abort + AllocGlobal),
-    lines: &str,
-    level: &str,
-    limit: u32,
-    watcher: &mut T,
-) -> Solved {
-    solved_with::<T, 1>(rt, lines, level, limit, watcher)
+/// The same with keys as wide as it needs.
+fn solved_widely(rt: &(impl Abort + AllocGlobal), lines: &str, level: &str, limit: u32) -> Solved {
+    let text = format!(in rt.alloc(); "{NAMES}{lines}{level}").expect(rt, "memory for a text");
+    let game = playable_game(rt.alloc(), text.as_bytes()).expect(rt, "a game");
+    let programs = compile(rt.alloc(), &game.names, &game.rules).expect(rt, "memory for rules");
+    searched_widely(rt, &game, &programs, limit).expect(rt, "a search")
 }
 
 #[test]
@@ -174,7 +200,7 @@ fn a_restart_leads_to_the_start(rt: HostRuntime) {
 #[test]
 fn a_restart_leads_to_the_checkpoint(rt: HostRuntime) {
     let lines =
-        "RULES\n[ action Player | ] -> restart\n[ right Player ] -> [ right Player ] checkpoint\n\
+        "RULES\n[ action Player ] -> restart\n[ right Player ] -> [ right Player ] checkpoint\n\
         WINCONDITIONS\nAll Target on Crate\nLEVELS\n";
     let never = solved(&rt, lines, "P.O\n", 100, &mut Unwatched);
     assert_eq!(rt; shown(&never), ("never", 6, 0));
@@ -188,6 +214,6 @@ const WALK: &str =
 fn wide_keys_do_where_narrow_ones_are_full(rt: HostRuntime) {
     let full = solved(&rt, PUSHING, WALK, 100, &mut Unwatched);
     assert_eq!(rt; shown(&full), ("full", 64, 31));
-    let never = solved_with::<Unwatched, 2>(&rt, PUSHING, WALK, 100, &mut Unwatched);
+    let never = solved_widely(&rt, PUSHING, WALK, 100);
     assert_eq!(rt; shown(&never), ("never", 80, 0));
 }

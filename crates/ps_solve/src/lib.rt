@@ -16,6 +16,7 @@ mod solved;
 mod spot_keys;
 #[cfg(test)]
 mod tests;
+mod widths;
 
 pub use level_search::LevelSearch;
 pub use ps_board::ColumnWords;
@@ -26,3 +27,4 @@ pub use ps_trial::{Pending, Rules, Trial, TurnRules};
 pub use sessions::search_from;
 pub use solved::{Solved, Unsolved};
 pub use spot_keys::SpotKey;
+pub use widths::{RuleSections, solve_session};
