@@ -1,2 +1,3 @@
 mod SearchedSpots
 mod KeptKeys
+mod Led
