@@ -4,10 +4,18 @@ use Rattle.ps_model.specs.board.Grid.{Grid}
 use Rattle.ps_model.specs.board.Turns.{Script}
 use Rattle.ps_model.specs.session.Sessions.{Session, Playing, Waiting, AtMessage, Ended}
 use Rattle.ps_model.specs.session.Solving.{Spot}
+use Rattle.ps_engine.specs.RulesInRoom.{sections_meaning}
+use Rattle.ps_program.specs.declared.program.CompiledSection.{CompiledSection}
 use Rattle.ps_rows.specs.Packings.{packed_grid}
-use Rattle.ps_trial.specs.Desks.{TrialValue}
+use Rattle.ps_trial.specs.Desks.{Basis, TrialValue}
 use Rattle.ps_trial.specs.declared.told.Pending.{Pending}
+use Rattle.ps_turn.specs.States.{script_with}
 use Rattle.ps_solve.specs.SpotKeys.{KeyTable, spot_at, IsSpotKey, IsAt}
+
+-- a game by whose turns trials are, with the programs that its sections are on such boards
+abbrev pub script_of : Basis → List CompiledSection → List CompiledSection → Script
+script_of basis plain late =
+    script_with basis.parts (sections_meaning basis.table plain) (sections_meaning basis.table late)
 
 -- the parts of a key
 pub record KeyParts : Type 0 where

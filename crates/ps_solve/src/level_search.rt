@@ -4,11 +4,10 @@ ghost use Rattle.std.specs.Prelude.{◌≡◌, ◌<◌, ℕ, IfOk, Some, length}
 ghost use Rattle.ps_model.specs.session.Sessions.{Session};
 ghost use Rattle.ps_model.specs.session.Solving.{spot};
 ghost use Rattle.ps_model.specs.board.Turns.{Script};
-ghost use Rattle.ps_trial.specs.Desks.{script_on};
 ghost use Rattle.ps_trial.specs.Scripts.{PlaysAs};
 ghost use Rattle.ps_trial.specs.SilentStarts.{spot_with};
 ghost use Rattle.ps_trial.specs.Told.{waits_shown};
-ghost use Rattle.ps_solve.specs.Searches.{key_parts, start_of};
+ghost use Rattle.ps_solve.specs.Searches.{key_parts, script_of, start_of};
 ghost use Rattle.ps_solve.specs.SolvedLevels.{IsSolved};
 ghost use Rattle.ps_solve.specs.SpotKeys.{IsSpotKey};
 
@@ -17,8 +16,9 @@ use crate::spot_keys::{SpotKey, SpotKeys};
 use ps_board::{Board, ColumnWords};
 use ps_model::{Input, Memory};
 use ps_rows::{NotPacked, RowBoard};
+use ps_rulebook::GameRules;
 use ps_search::{Moves, Step, Watcher, search};
-use ps_trial::{Pending, Pressed, Rules, Trial, TurnRules};
+use ps_trial::{Pending, Pressed, Trial, TurnRules};
 use std::alloc::Global;
 use std::marker::Model;
 
@@ -33,10 +33,10 @@ const INPUTS: [Input; 5] = [
 
 /// A search of a level, from a spot of it, by the turns of a game. It goes from spot to spot, and keeps each as a key of
 /// `N` words.
-pub struct LevelSearch<'g, W: ColumnWords, R: Rules<RowBoard<W>> + Drop, const N: usize> {
+pub struct LevelSearch<'g, W: ColumnWords, const N: usize> {
     /// Tries inputs at the spot where the search is.
     trial: Trial<'g, RowBoard<W>>,
-    rules: TurnRules<R>,
+    rules: TurnRules<GameRules<'g, 'g, RowBoard<W>>>,
     keys: SpotKeys<W, N>,
     /// A board of the search's own, on which keys are unpacked. It shows the board of the spot where the search is.
     board: Box<RowBoard<W>>,
@@ -47,8 +47,7 @@ pub struct LevelSearch<'g, W: ColumnWords, R: Rules<RowBoard<W>> + Drop, const N
 }
 
 /// Written out, so that an owner calls this where it returns, instead of dropping the parts.
-impl<'g, W: ColumnWords, R: Rules<RowBoard<W>> + Drop, const N: usize> Drop
-    for LevelSearch<'g, W, R, N> {
+impl<'g, W: ColumnWords, const N: usize> Drop for LevelSearch<'g, W, N> {
     fn drop(self) {
         let LevelSearch {
             trial: _trial,
@@ -61,15 +60,13 @@ impl<'g, W: ColumnWords, R: Rules<RowBoard<W>> + Drop, const N: usize> Drop
     }
 }
 
-impl<'g, W: ColumnWords, R: Rules<RowBoard<W>> + Drop, const N: usize> Model
-    for LevelSearch<'g, W, R, N> {
-    ghost use Rattle.ps_trial.specs.Desks.{script_on};
-    ghost use Rattle.ps_solve.specs.Searches.{IsStanding, SearchValue, key_parts};
+impl<'g, W: ColumnWords, const N: usize> Model for LevelSearch<'g, W, N> {
+    ghost use Rattle.ps_solve.specs.Searches.{IsStanding, SearchValue, key_parts, script_of};
 
     ghost Value = { SearchValue };
 
     ghost view = { λ s. record {
-      script = script_on R.Rules s.trial.basis s.rules;
+      script = script_of s.trial.basis s.rules.plain s.rules.late;
       keys = s.keys;
       start = key_parts s.start.board.words s.start.restart s.start.waits;
       at = key_parts s.at.board.words s.at.restart s.at.waits;
@@ -94,7 +91,7 @@ fn boxed_copy<B: Board>(alloc: Global, board: &B) -> Result<Box<B>, Memory>
     Ok(copy)
 }
 
-impl<'g, W: ColumnWords, R: Rules<RowBoard<W>> + Drop, const N: usize> LevelSearch<'g, W, R, N> {
+impl<'g, W: ColumnWords, const N: usize> LevelSearch<'g, W, N> {
     /// A search from the spot of a trial, where a message waits, or none does. Its keys have `N` words.
     ///
     /// # Errors
@@ -104,10 +101,10 @@ impl<'g, W: ColumnWords, R: Rules<RowBoard<W>> + Drop, const N: usize> LevelSear
     pub fn try_new(
         alloc: Global,
         trial: Trial<'g, RowBoard<W>>,
-        rules: TurnRules<R>,
+        rules: TurnRules<GameRules<'g, 'g, RowBoard<W>>>,
         waits: Option<Pending>,
-    ) -> Result<LevelSearch<'g, W, R, N>, NotPacked>
-        ensures script { IfOk result (λ search. search.script ≡ script_on R.Rules trial.basis rules) }
+    ) -> Result<LevelSearch<'g, W, N>, NotPacked>
+        ensures script { IfOk result (λ search. search.script ≡ script_of trial.basis rules.plain rules.late) }
         ensures start { IfOk result (λ search. start_of search ≡ spot_with trial.here (waits_shown waits)) }
     {
         let mut keys = SpotKeys::try_new(alloc, trial.here())?;
@@ -177,8 +174,7 @@ impl<'g, W: ColumnWords, R: Rules<RowBoard<W>> + Drop, const N: usize> LevelSear
     }
 }
 
-impl<'g, W: ColumnWords, R: Rules<RowBoard<W>> + Drop, const N: usize> Moves
-    for LevelSearch<'g, W, R, N> {
+impl<'g, W: ColumnWords, const N: usize> Moves for LevelSearch<'g, W, N> {
     ghost use Rattle.ps_model.specs.session.Solving.{Spot, next_spot};
     ghost use Rattle.ps_solve.specs.Searches.{here_of, start_of};
     ghost use Rattle.ps_solve.specs.SpotKeys.{IsSpotKey, spot_at};

@@ -94,7 +94,7 @@ fn searched<T: Watcher, const N: usize>(
         return None;
     };
     let session = begun(rt, game, &mut rules)?;
-    let Ok(Some(mut search)) = search_from::<OneWord, _, _, N>(alloc, &session, rules) else {
+    let Ok(Some(mut search)) = search_from::<OneWord, N>(alloc, &session, rules) else {
         return None;
     };
     Some(search.solve(alloc, limit, watcher))

@@ -5,16 +5,16 @@ ghost use Rattle.ps_model.specs.session.Sessions.{Play};
 ghost use Rattle.ps_model.specs.session.Solving.{spot, spot_of};
 ghost use Rattle.ps_stage.specs.Standings.{turn_parts};
 ghost use Rattle.ps_stage.specs.StepsShown as staged;
-ghost use Rattle.ps_trial.specs.Desks.{script_on};
 ghost use Rattle.ps_trial.specs.Told.{pending_shown, waits_shown};
-ghost use Rattle.ps_solve.specs.Searches.{entry_in, start_of};
+ghost use Rattle.ps_solve.specs.Searches.{entry_in, script_of, start_of};
 
 use crate::level_search::LevelSearch;
-use ps_board::{Board, ColumnWords, History};
-use ps_rows::{NotPacked, RowBoard};
+use ps_board::{Board, ColumnWords};
+use ps_rows::{NotPacked, RowBoard, RowHistory};
+use ps_rulebook::GameRules;
 use ps_session::Session;
 use ps_stage::Pending as StagePending;
-use ps_trial::{Pending, Rules, Trial, TurnRules};
+use ps_trial::{Pending, Trial, TurnRules};
 use std::alloc::Global;
 
 /// What a session's message goes on with, as a trial has it.
@@ -45,21 +45,15 @@ fn waits_of(waits: Option<StagePending>) -> Option<Pending>
 ///
 /// `Full`, where the board that a restart goes back to has no key so short; `Moves`, where it isn't known that nothing
 /// moves on the boards of the level; or `Memory`.
-pub fn search_from<
-    'g,
-    W: ColumnWords,
-    H: History<RowBoard<W>>,
-    R: Rules<RowBoard<W>> + Drop,
-    const N: usize,
->(
+pub fn search_from<'g, W: ColumnWords, H: History<RowBoard<W>>, const N: usize>(
     alloc: Global,
-    session: &Session<'g, RowBoard<W>, H>,
-    rules: TurnRules<R>,
-) -> Result<Option<LevelSearch<'g, W, R, N>>, NotPacked>
-    ensures script { IfOk result (λ found. IfSome found (λ search. search.script ≡ script_on R.Rules (record {
+    session: &Session<'g, RowBoard<W>, RowHistory<W>>,
+    rules: TurnRules<GameRules<'g, 'g, RowBoard<W>>>,
+) -> Result<Option<LevelSearch<'g, W, N>>, NotPacked>
+    ensures script { IfOk result (λ found. IfSome found (λ search. search.script ≡ script_of (record {
       table = ⟦<RowBoard<W> as Board>⟧.table_for session.now.game.names.layers;
       parts = turn_parts session.now.game;
-    }) rules)) }
+    }) rules.plain rules.late)) }
     ensures start { IfOk result (λ found. IfSome found (λ search. spot (entry_in session.now.session) session.now.session
         ≡ Some (start_of search))) }
 {

@@ -10,9 +10,9 @@ ghost use Rattle.ps_solve.specs.SolvedLevels.{IsSolved};
 
 use crate::sessions::search_from;
 use crate::solved::{Solved, Unsolved};
-use ps_board::{Board, ColumnWords, History};
+use ps_board::{Board, ColumnWords};
 use ps_program::CompiledSection;
-use ps_rows::{NotPacked, RowBoard};
+use ps_rows::{NotPacked, RowBoard, RowHistory};
 use ps_rulebook::rules_of_sections;
 use ps_search::Watcher;
 use ps_session::Session;
@@ -43,9 +43,9 @@ fn is_full(solved: &Option<Solved>) -> bool {
 }
 
 /// Searches the level where a session is, if it is in one, with keys of `N` words and rules of the search's own.
-fn solve_with<'g, W: ColumnWords, H: History<RowBoard<W>>, T: Watcher, const N: usize>(
+fn solve_with<'g, W: ColumnWords, T: Watcher, const N: usize>(
     alloc: Global,
-    session: &Session<'g, RowBoard<W>, H>,
+    session: &Session<'g, RowBoard<W>, RowHistory<W>>,
     sections: RuleSections<'g>,
     limit: u32,
     watcher: &mut T,
@@ -58,7 +58,7 @@ fn solve_with<'g, W: ColumnWords, H: History<RowBoard<W>>, T: Watcher, const N: 
     let Ok(rules) = rules_of_sections(alloc, sections.plain, sections.late) else {
         return Some(not_begun(Unsolved::Memory));
     };
-    match search_from::<W, H, _, N>(alloc, session, rules) {
+    match search_from::<W, N>(alloc, session, rules) {
         Ok(Some(search)) => {
             let mut search = search;
             Some(search.solve(alloc, limit, watcher))
@@ -74,9 +74,9 @@ fn solve_with<'g, W: ColumnWords, H: History<RowBoard<W>>, T: Watcher, const N: 
 /// no level. At most `limit` spots are kept. Where keys are full, the search is begun anew with wider ones, up to 64 words.
 ///
 /// What is told is true of each script that is played by these sections. Out of memory, the answer says so.
-pub fn solve_session<'g, W: ColumnWords, H: History<RowBoard<W>>, T: Watcher>(
+pub fn solve_session<'g, W: ColumnWords, T: Watcher>(
     alloc: Global,
-    session: &Session<'g, RowBoard<W>, H>,
+    session: &Session<'g, RowBoard<W>, RowHistory<W>>,
     sections: RuleSections<'g>,
     limit: u32,
     watcher: &mut T,
@@ -86,17 +86,17 @@ pub fn solve_session<'g, W: ColumnWords, H: History<RowBoard<W>>, T: Watcher>(
         (λ table. sections_meaning table sections.late.now))
         → IsSolved script (entry_in session.now.session) session.now.session limit solved) }
 {
-    let solved = solve_with::<W, H, T, 1>(alloc, session, sections, limit, watcher);
+    let solved = solve_with::<W, T, 1>(alloc, session, sections, limit, watcher);
     if !is_full(&solved) {
         return solved;
     }
-    let solved = solve_with::<W, H, T, 4>(alloc, session, sections, limit, watcher);
+    let solved = solve_with::<W, T, 4>(alloc, session, sections, limit, watcher);
     if !is_full(&solved) {
         return solved;
     }
-    let solved = solve_with::<W, H, T, 16>(alloc, session, sections, limit, watcher);
+    let solved = solve_with::<W, T, 16>(alloc, session, sections, limit, watcher);
     if !is_full(&solved) {
         return solved;
     }
-    solve_with::<W, H, T, 64>(alloc, session, sections, limit, watcher)
+    solve_with::<W, T, 64>(alloc, session, sections, limit, watcher)
 }
