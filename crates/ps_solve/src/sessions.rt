@@ -45,7 +45,7 @@ fn waits_of(waits: Option<StagePending>) -> Option<Pending>
 ///
 /// `Full`, where the board that a restart goes back to has no key so short; `Moves`, where it isn't known that nothing
 /// moves on the boards of the level; or `Memory`.
-pub fn search_from<'g, W: ColumnWords, H: History<RowBoard<W>>, const N: usize>(
+pub fn search_from<'g, W: ColumnWords, const N: usize>(
     alloc: Global,
     session: &Session<'g, RowBoard<W>, RowHistory<W>>,
     rules: TurnRules<GameRules<'g, 'g, RowBoard<W>>>,
