@@ -116,6 +116,7 @@ fn play_section<'r, B: Scan>(
 /// # Errors
 ///
 /// `Memory`, as for a section; those before it have been played.
+#[inline(always)]
 fn play_sections<'r, B: Scan>(
     sections: &[CompiledSection<'r>],
     run: &mut Run<'_, '_, '_, 'r, B>,
@@ -200,6 +201,7 @@ fn play_unless_quiet<'r, 's: 'r, B: Scan>(
 ///
 /// `Memory`, where a group makes many rounds, or a loop many passes, and no board alike has been kept before, or where
 /// the program begins to keep quiet groups. A part of the program may have been run.
+#[inline(never)]
 pub fn run_program<'r, 's: 'r, B: Scan>(
     program: &mut QuietGroups<'_, 's, B>,
     board: &mut B,

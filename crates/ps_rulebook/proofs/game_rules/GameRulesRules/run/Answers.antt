@@ -1,4 +1,4 @@
-use Rattle.std.proofs.Common.{◌≡◌, ◌∙◌, ℕ, List, [], Option, ap, ap₂, inl, refl, subst, sym}
+use Rattle.std.proofs.Common.{◌≡◌, ◌∙◌, ℕ, List, [], Option, ap, inl, refl, subst, sym}
 use Rattle.ps_engine.specs.RulesInRoom.{sections_meaning}
 use Rattle.ps_laws.specs.CancelledRuns.{HasRun}
 use Rattle.ps_model.specs.declared.rules.Extent.{Extent}
