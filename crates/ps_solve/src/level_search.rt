@@ -109,6 +109,7 @@ impl<'g, W: ColumnWords, const N: usize> LevelSearch<'g, W, N> {
     {
         let mut keys = SpotKeys::try_new(alloc, trial.here())?;
         let start = keys.pack_start(&trial, waits)?;
+        let at = start;
         let Ok(board) = boxed_copy(alloc, trial.here()) else {
             return Err(NotPacked::Memory);
         };
@@ -118,7 +119,7 @@ impl<'g, W: ColumnWords, const N: usize> LevelSearch<'g, W, N> {
             keys,
             board,
             start,
-            at: start,
+            at,
         })
     }
 
