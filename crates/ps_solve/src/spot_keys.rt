@@ -112,7 +112,7 @@ impl<W: ColumnWords, const N: usize> SpotKeys<W, N> {
     /// `Memory`, and each key stands for what it did.
     fn number_of(&mut self, key: PackedKey<N>) -> Result<usize, NotPacked>
         requires { IsKey self.old.packed key.words }
-        ensures number { IfOk result (IsRestart self.new (packed_grid self.old.packed key.words)) }
+        ensures number { IfOk result (IsRestart self.new (packed_grid self.old.packed key.entry.words)) }
         ensures kept { KeepsKeys self.old self.new }
         ensures packed { self.new.packed ≡ self.old.packed }
     {
