@@ -68,7 +68,8 @@ fn rewrite_found<'r, B: Scan>(
     requires scratch { length rule.now.rows ≤ length work.old.scratch.now }
     requires some { let meant = part_meaning (B.table work.old.board.now) part.now in
         places (B.grid work.old.board.now) (direction_of rule.now.axis) (meant ∷ []) ≢ [] }
-    requires kept { FirstKeeps (B.grid work.old.board.now) (B.table work.old.board.now) rule.now.axis part.now starts work.old.scratch.now }
+    requires kept { FirstKeeps (B.grid work.old.board.now) (B.table work.old.board.now) rule.now.axis part.now starts
+        work.old.scratch.now }
     ensures attempt { record { state = state_of B.Board work.new; changed = result }
         ≡ attempt (rule_meaning (B.table work.old.board.now) rule.now) (state_of B.Board work.old) }
     ensures fixed { fixed_in B.Board work.new ≡ fixed_in B.Board work.old }

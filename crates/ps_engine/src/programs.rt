@@ -240,8 +240,8 @@ pub fn run_program<'r, 's: 'r, B: Scan>(
     play_sections(sections, &mut run, kept, Extent::Whole)
 }
 
-/// A run of a program, as `run_program`, that may end between two groups once `cancel` is queued. Then the queue is that
-/// of the whole program, and the board may show any part of its changes.
+/// A run of a program, as `run_program`, that may end between two groups once `cancel` is queued. Then the queue is
+/// that of the whole program, and the board may show any part of its changes.
 ///
 /// # Errors
 ///
@@ -257,7 +257,8 @@ pub fn run_until_cancelled<'r, 's: 'r, B: Scan>(
     ensures run { let before : State = record { grid = B.grid board.old; queue = queue.old } in
         let after : State = record { grid = B.grid board.new; queue = queue.new } in
         let sections = program.old.sections in
-        OnOk result (HasRun Extent.UntilCancelled (program_run (sections_meaning (B.table board.old) sections) before) after) }
+        OnOk result (HasRun Extent.UntilCancelled (program_run (sections_meaning (B.table board.old) sections) before)
+        after) }
     ensures table { B.table board.new ≡ B.table board.old }
     ensures origin { B.origin board.new ≡ B.origin board.old }
     ensures sides { sides_of (B.grid board.new) ≡ sides_of (B.grid board.old) }

@@ -209,8 +209,9 @@ fn told_once(alloc: Global, most: usize, faults: &[Fault]) -> Result<Vec<Fault>,
 /// The faults of a text that are told together, in the order of refusals: one of each line, and of `most` lines at
 /// most. None where the text is a game, or where `most` is 0.
 ///
-/// Bytes that are no text have one fault alone. So has a text by its headers, its prelude or its names. Else those of RULES, LEVELS and WINCONDITIONS are told together. Where RULES has none, those of the readings
-/// of its rules are too. The first is the one that [`crate::read_game`] refuses the text with.
+/// Bytes that are no text have one fault alone. So has a text by its headers, its prelude or its names. Else those of
+/// RULES, LEVELS and WINCONDITIONS are told together. Where RULES has none, those of the readings of its rules are too.
+/// The first is the one that [`crate::read_game`] refuses the text with.
 ///
 /// Takes time linear in the text, and for each fault in those that are told.
 ///

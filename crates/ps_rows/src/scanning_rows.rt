@@ -174,8 +174,8 @@ impl<W: ColumnWords> RowBoard<W> {
         clear(found);
     }
 
-    /// Keeps of each row the columns in which an object doesn't stand on its layer. One that stands nowhere, as most of a
-    /// long property, isn't looked for.
+    /// Keeps of each row the columns in which an object doesn't stand on its layer. One that stands nowhere, as most of
+    /// a long property, isn't looked for.
     fn keep_free(&self, sought: &LayeredObject, first: u32, found: &mut [Columns<W>])
         requires { first + length found.old ≤ self.now.planes.height }
         ensures { AreKept (⟦<RowBoard<W> as Board>⟧.grid self.now) first found.old found.new (is_away sought.now) }

@@ -256,8 +256,8 @@ impl<'g, B: Board> Desk<'g, B> {
         }
     }
 
-    /// A turn without an input. Where it is done and counts, the desk has its board, and a restart goes back to that where
-    /// the turn set a checkpoint.
+    /// A turn without an input. Where it is done and counts, the desk has its board, and a restart goes back to that
+    /// where the turn set a checkpoint.
     ///
     /// # Errors
     ///
@@ -299,7 +299,8 @@ impl<'g, B: Board> Desk<'g, B> {
         requires board { B.grid here.now ≡ self.old.boards.board }
         requires origin { B.grid here.now ≡ self.old.origin }
         ensures turned { IfOk result (λ turned. (g : Grid)
-            × (outcome_shown turned g ≡ turn (script_on R.Rules self.old.basis rules.old) (Some input) self.old.boards.board)
+            × (outcome_shown turned g
+            ≡ turn (script_on R.Rules self.old.basis rules.old) (Some input) self.old.boards.board)
             × (self.new.boards ≡ boards_taken Always turned self.old.boards g)) }
         ensures leads { LeadsOn self.old self.new }
         ensures script { script_on R.Rules self.new.basis rules.new ≡ script_on R.Rules self.old.basis rules.old }

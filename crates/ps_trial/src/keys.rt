@@ -20,8 +20,8 @@ use ps_model::Memory;
 use ps_turn::{Rules, TurnRules, Turned};
 
 impl<'g, B: Board> Desk<'g, B> {
-    /// What follows an again turn of a key: one that is blocked, or neither changed the board nor won, ends them; so does a
-    /// restart.
+    /// What follows an again turn of a key: one that is blocked, or neither changed the board nor won, ends them; so
+    /// does a restart.
     fn key_turn_told<R: Rules<B>>(
         &mut self,
         rules: &mut TurnRules<R>,
@@ -56,7 +56,8 @@ impl<'g, B: Board> Desk<'g, B> {
         rules: &mut TurnRules<R>,
         left: u32,
     ) -> Result<Told<Came>, Memory>
-        ensures told { IfOk result (λ told. key_turns (script_on R.Rules self.old.basis rules.old) (suc left) self.old.boards
+        ensures told { IfOk result (λ told.
+            key_turns (script_on R.Rules self.old.basis rules.old) (suc left) self.old.boards
             ≡ key_shown told self.new.boards (key_turns (script_on R.Rules self.old.basis rules.old) left)) }
         ensures leads { LeadsOn self.old self.new }
         ensures script { script_on R.Rules self.new.basis rules.new ≡ script_on R.Rules self.old.basis rules.old }

@@ -71,7 +71,8 @@ impl<'g, B: Board> Desk<'g, B> {
         rules: &mut TurnRules<R>,
         left: u32,
     ) -> Result<Told<Option<Pending>>, Memory>
-        ensures told { IfOk result (λ told. start_turns (script_on R.Rules self.old.basis rules.old) (suc left) self.old.boards
+        ensures told { IfOk result (λ told.
+            start_turns (script_on R.Rules self.old.basis rules.old) (suc left) self.old.boards
             ≡ start_shown told self.new.boards (start_turns (script_on R.Rules self.old.basis rules.old) left)) }
         ensures leads { LeadsOn self.old self.new }
         ensures script { script_on R.Rules self.new.basis rules.new ≡ script_on R.Rules self.old.basis rules.old }
@@ -92,7 +93,8 @@ impl<'g, B: Board> Desk<'g, B> {
         rules: &mut TurnRules<R>,
         most: u32,
     ) -> Result<Option<Pending>, Memory>
-        ensures came { IfOk result (λ waits. start_turns (script_on R.Rules self.old.basis rules.old) most self.old.boards
+        ensures came { IfOk result (λ waits.
+            start_turns (script_on R.Rules self.old.basis rules.old) most self.old.boards
             ≡ spot_with self.new.boards (waits_shown waits)) }
         ensures leads { LeadsOn self.old self.new }
         ensures script { script_on R.Rules self.new.basis rules.new ≡ script_on R.Rules self.old.basis rules.old }
@@ -113,7 +115,8 @@ impl<'g, B: Board> Desk<'g, B> {
         &mut self,
         rules: &mut TurnRules<R>,
     ) -> Result<Option<Pending>, Memory>
-        ensures came { IfOk result (λ waits. all_start_turns (script_on R.Rules self.old.basis rules.old) self.old.boards
+        ensures came { IfOk result (λ waits.
+            all_start_turns (script_on R.Rules self.old.basis rules.old) self.old.boards
             ≡ spot_with self.new.boards (waits_shown waits)) }
         ensures leads { LeadsOn self.old self.new }
         ensures script { script_on R.Rules self.new.basis rules.new ≡ script_on R.Rules self.old.basis rules.old }
@@ -129,7 +132,8 @@ impl<'g, B: Board> Desk<'g, B> {
         tells: bool,
         again: bool,
     ) -> Result<Option<Pending>, Memory>
-        ensures came { IfOk result (λ waits. started (script_on R.Rules self.old.basis rules.old) self.old.boards tells again
+        ensures came { IfOk result (λ waits.
+            started (script_on R.Rules self.old.basis rules.old) self.old.boards tells again
             ≡ spot_with self.new.boards (waits_shown waits)) }
         ensures leads { LeadsOn self.old self.new }
         ensures script { script_on R.Rules self.new.basis rules.new ≡ script_on R.Rules self.old.basis rules.old }
@@ -147,7 +151,8 @@ impl<'g, B: Board> Desk<'g, B> {
         rules: &mut TurnRules<R>,
         tells_before: bool,
     ) -> Result<Option<Pending>, Memory>
-        ensures came { IfOk result (λ waits. start_step (script_on R.Rules self.old.basis rules.old) self.old.boards tells_before
+        ensures came { IfOk result (λ waits.
+            start_step (script_on R.Rules self.old.basis rules.old) self.old.boards tells_before
             ≡ spot_with self.new.boards (waits_shown waits)) }
         ensures leads { LeadsOn self.old self.new }
         ensures script { script_on R.Rules self.new.basis rules.new ≡ script_on R.Rules self.old.basis rules.old }
@@ -172,7 +177,8 @@ impl<'g, B: Board> Desk<'g, B> {
         rules: &mut TurnRules<R>,
         tells: bool,
     ) -> Result<Option<Pending>, Memory>
-        ensures came { IfOk result (λ waits. restarted (script_on R.Rules self.old.basis rules.old) self.old.boards tells
+        ensures came { IfOk result (λ waits.
+            restarted (script_on R.Rules self.old.basis rules.old) self.old.boards tells
             ≡ spot_with self.new.boards (waits_shown waits)) }
         ensures leads { LeadsOn self.old self.new }
         ensures script { script_on R.Rules self.new.basis rules.new ≡ script_on R.Rules self.old.basis rules.old }

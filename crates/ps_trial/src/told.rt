@@ -79,8 +79,8 @@ pub(crate) fn start_told(tells: bool, again: bool, left: u32) -> Told<Option<Pen
     Told::Ends(None)
 }
 
-/// What follows a done turn of a key: a message waits; without one the level is done on a win; otherwise again turns come,
-/// if the turn is to come again.
+/// What follows a done turn of a key: a message waits; without one the level is done on a win; otherwise again turns
+/// come, if the turn is to come again.
 pub(crate) fn key_told(done: &DoneTurn, left: u32) -> Told<Came>
     ensures { (boards : Boards) (g : Grid) (turns : Boards → Option Spot)
         → key_told boards (done_shown done.now g) left turns ≡ key_shown result boards turns }

@@ -159,8 +159,8 @@ impl<'g, B: Board> Trial<'g, B> {
         &self.rows
     }
 
-    /// The board that a restart goes back to after the last input, if the input has set a checkpoint. Else that of the spot
-    /// stays.
+    /// The board that a restart goes back to after the last input, if the input has set a checkpoint. Else that of the
+    /// spot stays.
     pub fn checkpoint(&self) -> Option<&B>
         ensures set { IfSome result (λ board. B.grid board.now ≡ self.now.there.restart_board) }
         ensures table { IfSome result (λ board. B.table board.now ≡ self.now.basis.table) }
@@ -213,7 +213,8 @@ impl<'g, B: Board> Trial<'g, B> {
         input: Input,
     ) -> Result<Turned, Memory>
         ensures turned { IfOk result (λ turned. (g : Grid)
-            × (outcome_shown turned g ≡ turn (script_on R.Rules self.old.basis rules.old) (Some input) self.old.here.board)
+            × (outcome_shown turned g
+            ≡ turn (script_on R.Rules self.old.basis rules.old) (Some input) self.old.here.board)
             × (self.new.there ≡ boards_taken Always turned self.old.here g)) }
         ensures same { IfOk result (λ turned. IsSameUnless turned self.old.here self.new.there) }
         ensures here { self.new.here ≡ self.old.here }
@@ -234,7 +235,8 @@ impl<'g, B: Board> Trial<'g, B> {
         tells: bool,
     ) -> Result<Pressed, Memory>
         ensures came { IfOk result (λ pressed. (here : Spot)
-            → Some (restarted (script_on R.Rules self.old.basis rules.old) self.old.there tells) ≡ pressed_shown pressed here self.new.there) }
+            → Some (restarted (script_on R.Rules self.old.basis rules.old) self.old.there tells)
+            ≡ pressed_shown pressed here self.new.there) }
         ensures here { self.new.here ≡ self.old.here }
         ensures basis { self.new.basis ≡ self.old.basis }
         ensures script { script_on R.Rules self.new.basis rules.new ≡ script_on R.Rules self.old.basis rules.old }
@@ -251,7 +253,8 @@ impl<'g, B: Board> Trial<'g, B> {
         most: u32,
     ) -> Result<Pressed, Memory>
         ensures came { IfOk result (λ pressed. (here : Spot)
-            → key_turns (script_on R.Rules self.old.basis rules.old) most self.old.there ≡ pressed_shown pressed here self.new.there) }
+            → key_turns (script_on R.Rules self.old.basis rules.old) most self.old.there
+            ≡ pressed_shown pressed here self.new.there) }
         ensures here { self.new.here ≡ self.old.here }
         ensures basis { self.new.basis ≡ self.old.basis }
         ensures script { script_on R.Rules self.new.basis rules.new ≡ script_on R.Rules self.old.basis rules.old }
@@ -264,7 +267,8 @@ impl<'g, B: Board> Trial<'g, B> {
     /// The again turns of a key, as many as there may be.
     fn all_key_turns<R: Rules<B>>(&mut self, rules: &mut TurnRules<R>) -> Result<Pressed, Memory>
         ensures came { IfOk result (λ pressed. (here : Spot)
-            → all_key_turns (script_on R.Rules self.old.basis rules.old) self.old.there ≡ pressed_shown pressed here self.new.there) }
+            → all_key_turns (script_on R.Rules self.old.basis rules.old) self.old.there
+            ≡ pressed_shown pressed here self.new.there) }
         ensures here { self.new.here ≡ self.old.here }
         ensures basis { self.new.basis ≡ self.old.basis }
         ensures script { script_on R.Rules self.new.basis rules.new ≡ script_on R.Rules self.old.basis rules.old }
@@ -280,7 +284,8 @@ impl<'g, B: Board> Trial<'g, B> {
         most: u32,
     ) -> Result<Pressed, Memory>
         ensures came { IfOk result (λ pressed. (here : Spot)
-            → Some (start_turns (script_on R.Rules self.old.basis rules.old) most self.old.there) ≡ pressed_shown pressed here self.new.there) }
+            → Some (start_turns (script_on R.Rules self.old.basis rules.old) most self.old.there)
+            ≡ pressed_shown pressed here self.new.there) }
         ensures here { self.new.here ≡ self.old.here }
         ensures basis { self.new.basis ≡ self.old.basis }
         ensures script { script_on R.Rules self.new.basis rules.new ≡ script_on R.Rules self.old.basis rules.old }
@@ -299,7 +304,8 @@ impl<'g, B: Board> Trial<'g, B> {
         requires same { done.now.changed ≡ false → self.old.there.board ≡ self.old.here.board }
         requires unset { done.now.checkpoint ≡ false → self.old.there.restart_board ≡ self.old.here.restart_board }
         ensures came { IfOk result (λ pressed. (g : Grid)
-            → key_told self.old.there (done_shown done.now g) AGAIN_LIMIT (all_key_turns (script_on R.Rules self.old.basis rules.old))
+            → key_told self.old.there (done_shown done.now g) AGAIN_LIMIT
+            (all_key_turns (script_on R.Rules self.old.basis rules.old))
             ≡ pressed_shown pressed (spot_with self.old.here None) self.new.there) }
         ensures here { self.new.here ≡ self.old.here }
         ensures basis { self.new.basis ≡ self.old.basis }
@@ -341,7 +347,8 @@ impl<'g, B: Board> Trial<'g, B> {
         rules: &mut TurnRules<R>,
         input: Input,
     ) -> Result<Pressed, Memory>
-        ensures came { IfOk result (λ pressed. input_taken (script_on R.Rules self.old.basis rules.old) self.old.here input
+        ensures came { IfOk result (λ pressed.
+            input_taken (script_on R.Rules self.old.basis rules.old) self.old.here input
             ≡ pressed_shown pressed (spot_with self.old.here None) self.new.there) }
         ensures here { self.new.here ≡ self.old.here }
         ensures basis { self.new.basis ≡ self.old.basis }
@@ -441,8 +448,8 @@ impl<'g, B: Board> Trial<'g, B> {
         }
     }
 
-    /// Tells where an input leads to from the spot, where a message waits, or none does. The spot stays. Each script that is
-    /// played by this game's turns leads there.
+    /// Tells where an input leads to from the spot, where a message waits, or none does. The spot stays. Each script
+    /// that is played by this game's turns leads there.
     ///
     /// # Errors
     ///
@@ -453,7 +460,8 @@ impl<'g, B: Board> Trial<'g, B> {
         waits: Option<Pending>,
         input: Input,
     ) -> Result<Pressed, Memory>
-        ensures led { IfOk result (λ pressed. (script : Script) (entry : ℕ) → PlaysAs script (script_on R.Rules self.old.basis rules.old)
+        ensures led { IfOk result (λ pressed. (script : Script) (entry : ℕ)
+            → PlaysAs script (script_on R.Rules self.old.basis rules.old)
             → next_spot script entry (spot_with self.old.here (waits_shown waits)) input
             ≡ pressed_shown pressed (spot_with self.old.here (waits_shown waits)) self.new.there) }
         ensures here { self.new.here ≡ self.old.here }

@@ -17,9 +17,9 @@ use std::marker::Model;
 use std::mem;
 use std::rc::Rc;
 
-/// The last whole frame, and the one that has begun. A row that has the same bytes in both is one row. What each drawing
-/// asks of the last frame is kept with it: the cell that shows the player, and how many columns a cell covers. So is in
-/// how many of its first rows the frame that has begun is like it.
+/// The last whole frame, and the one that has begun. A row that has the same bytes in both is one row. What each
+/// drawing asks of the last frame is kept with it: the cell that shows the player, and how many columns a cell covers.
+/// So is in how many of its first rows the frame that has begun is like it.
 #[derive(Drop)]
 pub struct Frames {
     alloc: Global,

@@ -135,8 +135,8 @@ fn add_row_parts(
     Ok(())
 }
 
-/// Adds what so many rows of so many columns show of the last frame: the part at a corner, where it isn't whole. Each cell
-/// covers as many columns as the widest character of the frame.
+/// Adds what so many rows of so many columns show of the last frame: the part at a corner, where it isn't whole. Each
+/// cell covers as many columns as the widest character of the frame.
 ///
 /// # Errors
 ///

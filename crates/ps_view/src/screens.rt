@@ -131,8 +131,8 @@ pub fn rows_below(alloc: Global, size: Size, told: &ToldLines) -> Result<Vec<Tex
     news_rows(alloc, rows, columns, told.news())
 }
 
-/// What the rows of a terminal show from the top: the part of the last frame at a corner, and the rows below it. There are at
-/// most as many as the terminal has.
+/// What the rows of a terminal show from the top: the part of the last frame at a corner, and the rows below it. There
+/// are at most as many as the terminal has.
 ///
 /// # Errors
 ///
