@@ -201,7 +201,6 @@ fn play_unless_quiet<'r, 's: 'r, B: Scan>(
 ///
 /// `Memory`, where a group makes many rounds, or a loop many passes, and no board alike has been kept before, or where
 /// the program begins to keep quiet groups. A part of the program may have been run.
-#[inline(never)]
 pub fn run_program<'r, 's: 'r, B: Scan>(
     program: &mut QuietGroups<'_, 's, B>,
     board: &mut B,

@@ -29,7 +29,7 @@ use std::alloc::Global;
 use std::marker::Model;
 
 /// A program of fewer sections isn't searched for quiet groups: comparing boards would cost more than it saves.
-const LEAST_SECTIONS: usize = 16;
+const LEAST_SECTIONS: usize = 40;
 
 /// Nor is one on a board of more cells for each section.
 const CELLS_OF_SECTION: usize = 256;

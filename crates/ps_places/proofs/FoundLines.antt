@@ -109,3 +109,30 @@ lines-more g table axis parts number part old new lines found low e are one =
           };
       below = λ x is. are.below x (one.inside x is);
     }
+
+-- lines on which one of the parts begins nowhere are left out, whichever part that is
+cut_by : (g : Grid) (table : Option (List ℕ)) (axis : Axis) (parts : List (List CompiledCell)) (number x : ℕ)
+    (part : List CompiledCell) (old new : List (List Bool)) (lines found : List Bool) (b : Bool) →
+    column_at lines x ≡ b → number < length parts → part ≡ part_of parts number → column_at found x ≡ false →
+    IsLineFound g table axis parts old lines 0 x →
+    IsPartFound g table axis part lines (length parts) number old new found → HasNoWay g table axis parts x
+cut_by g table axis parts number x part old new lines found true t low e out line one =
+    record { number = number; within = low; nowhere = rw (← e) (one.none x t out) }
+cut_by g table axis parts number x part old new lines found false t low e out line one = line.none t
+
+pub lines-cut : (g : Grid) (table : Option (List ℕ)) (axis : Axis) (parts : List (List CompiledCell)) (number : ℕ)
+    (part : List CompiledCell) (old new : List (List Bool)) (lines found : List Bool) → number < length parts →
+    part ≡ part_of parts number → AreLinesFound g table axis parts old lines 0 →
+    IsPartFound g table axis part lines (length parts) number old new found →
+    AreLinesFound g table axis parts new found 0
+lines-cut g table axis parts number part old new lines found low e are one =
+    record {
+      each = λ x across.
+          record {
+            found = λ is. record { at = λ n few. absurd (omega arith) };
+            none = λ out.
+                cut_by g table axis parts number x part old new lines found (column_at lines x) refl low e out
+                (are.each x across) one;
+          };
+      below = λ x is. are.below x (one.inside x is);
+    }

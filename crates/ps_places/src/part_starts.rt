@@ -267,10 +267,12 @@ pub fn begins_nowhere<B: Scan>(board: &B, axis: Axis, part: &[CompiledCell]) -> 
         result ≡ true → places (B.grid board.now) (direction_of axis) (meant ∷ []) ≡ [] }
 {
     let (_width, height) = board.size();
+    let rows = rows_of_part(board, axis, part);
+    if rows.is_empty() {
+        return true;
+    }
     let count = rows_with_room(axis, height, part.len());
-    rows_of_part(board, axis, part)
-        .both(Columns::below(count))
-        .is_empty()
+    rows.both(Columns::below(count)).is_empty()
 }
 
 /// Finds the columns in which a part begins of several rows of the board, and answers the rows that have one. What is
@@ -305,20 +307,22 @@ fn find_on_rows<B: Scan>(
     begun_between(rows, first, end, starts)
 }
 
-/// Finds the columns of each row of the board in which a part begins, and answers the rows that have one. What is in
-/// `scanned` afterwards is anything.
+/// Finds the columns of each of some rows of the board in which a part begins, where it begins on no other, and answers
+/// the rows that have one. What is in `scanned` afterwards is anything.
 ///
 /// Where one row is left by what the cells ask for, it is looked at right away: that tells as well whether the part has
 /// room there. This is in line where a rule has no other part: most such rules have no place, and a call would be felt.
 #[inline(always)]
-fn find_rows_in_line<B: Scan>(
+fn find_rows_among<B: Scan>(
     board: &B,
     axis: Axis,
     part: &[CompiledCell],
+    having: Columns<B::Words>,
     starts: &mut [Columns<B::Words>],
     scanned: &mut [Columns<B::Words>],
 ) -> Columns<B::Words>
     requires whole { HasCells part.now }
+    requires only { BeginsOnlyOn (B.grid board.now) (B.table board.now) axis part.now having }
     requires room { SIDE_LIMIT ≤ length starts.old }
     requires scanned { SIDE_LIMIT ≤ length scanned.old }
     ensures starts { AreStarts (B.grid board.now) (B.table board.now) axis part.now result starts.new }
@@ -326,7 +330,7 @@ fn find_rows_in_line<B: Scan>(
 {
     let (_width, height) = board.size();
     // Joined with all, so that no row is among them that a set has no place for.
-    let rows = rows_of_part(board, axis, part).both(Columns::all());
+    let rows = having.both(Columns::all());
     let mut left = rows;
     let Some(first) = left.take_first() else {
         return rows;
@@ -356,12 +360,14 @@ pub fn find_rows<B: Scan>(
     ensures starts { AreStarts (B.grid board.now) (B.table board.now) axis part.now result starts.new }
     ensures long { length starts.new ≡ length starts.old }
 {
-    find_rows_in_line(board, axis, part, starts, scanned)
+    let rows = rows_of_part(board, axis, part);
+    find_rows_among(board, axis, part, rows, starts, scanned)
 }
 
 impl<W: ColumnWords> RowScratch<Columns<W>> {
     /// Finds where the only part of a row begins as the board is, and answers the rows of the board that have a place:
-    /// for each of them its columns are kept. No memory is taken.
+    /// for each of them its columns are kept. No memory is taken. Most parts begin on no row by what their cells ask
+    /// for. Then nothing else is read.
     #[inline(always)]
     pub fn find_part<B: Scan<Words = W>>(
         &mut self,
@@ -378,10 +384,15 @@ impl<W: ColumnWords> RowScratch<Columns<W>> {
             0 < length (set_columns result) → places (B.grid board.now) (direction_of axis) (meant ∷ []) ≢ [] }
     {
         recall_shape(board);
-        find_rows_in_line(
+        let rows = rows_of_part(board, axis, part);
+        if rows.is_empty() {
+            return Columns::none();
+        }
+        find_rows_among(
             board,
             axis,
             part,
+            rows,
             self.starts.as_mut_slice(),
             self.scanned.as_mut_slice(),
         )

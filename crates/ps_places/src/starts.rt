@@ -14,6 +14,7 @@ ghost use Rattle.ps_places.specs.RowsFound.{AreRowsBelow};
 ghost use Rattle.ps_places.specs.RowPlaces.{all_places, row_meaning};
 ghost use Rattle.ps_places.specs.Starts.{HasLinesOf};
 
+use crate::candidates::rows_of_part;
 use crate::leaving_alone::kept_on_row;
 use crate::part_starts::{PartStarts, find_rows};
 use crate::scratch::ScratchFor;
@@ -172,6 +173,44 @@ fn all_lines<B: Scan>(board: &B, axis: Axis) -> Columns<B::Words>
     }
 }
 
+/// Those of some lines on which the last of several parts begins, where it may begin on few rows of the board, and the
+/// first one on many: so the positions of many starts needn't be taken over. Elsewhere all these lines. What is in
+/// `columns` and `scanned` afterwards is anything.
+fn lines_of_last<B: Scan>(
+    board: &B,
+    axis: Axis,
+    parts: &[List<CompiledCell>],
+    lines: Columns<B::Words>,
+    starts: &mut [Columns<B::Words>],
+    columns: &mut [Columns<B::Words>],
+    scanned: &mut [Columns<B::Words>],
+) -> Columns<B::Words>
+    requires whole { All HasCells parts.now }
+    requires room { SIDE_LIMIT * length parts.now ≤ length starts.old }
+    requires columns { SIDE_LIMIT ≤ length columns.old }
+    requires scanned { SIDE_LIMIT ≤ length scanned.old }
+    requires lines { AreLinesFound (B.grid board.now) (B.table board.now) axis parts.now starts.old lines 0 }
+    ensures lines { AreLinesFound (B.grid board.now) (B.table board.now) axis parts.now starts.new result 0 }
+    ensures long { length starts.new ≡ length starts.old }
+{
+    let count = parts.len();
+    if count < 2 {
+        return lines;
+    }
+    let front = rows_of_part(board, axis, parts[0].as_slice());
+    if front.has_few() {
+        return lines;
+    }
+    let part = parts[count - 1].as_slice();
+    let back = rows_of_part(board, axis, part);
+    if !back.has_few() {
+        return lines;
+    }
+    let rows = find_rows(board, axis, part, columns, scanned);
+    let begun = PartStarts { rows, columns };
+    take_part(board, axis, part, &begun, lines, starts, count, count - 1)
+}
+
 /// Finds the positions of parts that lie along an axis, and answers the lines on which each part has one. What is in
 /// `columns` and `scanned` afterwards is anything.
 fn find_lines<B: Scan>(
@@ -192,7 +231,8 @@ fn find_lines<B: Scan>(
 {
     recall_shape(board);
     let count = parts.len();
-    let mut lines = all_lines(board, axis);
+    let all = all_lines(board, axis);
+    let mut lines = lines_of_last(board, axis, parts, all, starts, columns, scanned);
     for number in 0..count {
         if lines.is_empty() {
             return lines;

@@ -12,6 +12,7 @@ pub mod Whole
 pub mod Scans
 pub mod RowsKept
 pub mod KeptRowByRow
+mod KeptInSet
 pub mod UnmarkedRows
 pub mod RowsOfPlanes
 pub mod Rows

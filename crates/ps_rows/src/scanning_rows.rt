@@ -1,10 +1,10 @@
 //! Rows of the board against a mask, all at once: each plane that the mask asks about is joined with all of them in one
 //! go.
 
-ghost use Rattle.std.specs.Prelude.{◌≡◌, ◌+◌, ◌<◌, ◌≤◌, ◌&&◌, ◌∷◌, ℕ, [], IfSome, length, nat_lt, replicate, slice_get};
-ghost use Rattle.std.specs.Prelude.{slice_index_or, true};
+ghost use Rattle.std.specs.Prelude.{◌≡◌, ◌+◌, ◌<◌, ◌≤◌, ◌&&◌, ◌∷◌, ℕ, [], IfSome, false, length, nat_lt, replicate};
+ghost use Rattle.std.specs.Prelude.{slice_get, slice_index_or, slice_set, true};
 ghost use Rattle.ps_model.specs.board.Movement.{is_number};
-ghost use Rattle.ps_board.specs.ColumnSets.{both_columns};
+ghost use Rattle.ps_board.specs.ColumnSets.{both_columns, column_at};
 ghost use Rattle.ps_program.specs.ProgramShown.{mask_shown};
 ghost use Rattle.ps_match.specs.InRoom.{meaning_of_mask};
 ghost use Rattle.ps_match.specs.ScannedRows.{AreRowsScanned};
@@ -29,6 +29,14 @@ fn keep_both<W: ColumnWords>(found: &mut [Columns<W>], words: &[Columns<W>])
     for step in 0..found.len() {
         found[step] = found[step].both(words[step]);
     }
+}
+
+/// Keeps of the set at a place the columns that are in this one.
+fn keep_at<W: ColumnWords>(found: &mut [Columns<W>], place: usize, columns: Columns<W>)
+    requires { place < length found.old }
+    ensures { found.new ≡ slice_set found.old place (both_columns (slice_index_or found.old place []) columns) }
+{
+    found[place] = found[place].both(columns);
 }
 
 /// Keeps of each set the columns that aren't in the set at the same place of others.
@@ -252,13 +260,33 @@ impl<W: ColumnWords> RowBoard<W> {
         }
     }
 
-    /// Keeps of each row the columns in which a layer has the motion that is asked for, row by row.
+    /// Rows of the board outside of which each cell has the motion that is asked for: where rest is, the rows of the
+    /// layer's planes of motions, by the index; of any other motion all.
+    fn rows_to_ask(&self, test: &MotionTest) -> Columns<W>
+        ensures { let b = self.now in (row : ℕ) → row < b.planes.height → column_at result row ≡ false →
+            IsRowOf (⟦<RowBoard<W> as Board>⟧.grid b) row b.all_columns (moved test.now) }
+    {
+        if self.layers() <= test.layer.0 {
+            return Columns::all();
+        }
+        let start = self.motions_from(test.layer.0);
+        match motion_plane(start, test.motion) {
+            Some(_) => Columns::all(),
+            None => self.planes.five_rows_of(start),
+        }
+    }
+
+    /// Keeps of each row the columns in which a layer has the motion that is asked for, row by row. A row in which each
+    /// cell is known to have it isn't looked at: where rest is asked for, most rows rest.
     fn keep_moved_by_row(&self, test: &MotionTest, first: u32, found: &mut [Columns<W>])
         requires { first + length found.old ≤ self.now.planes.height }
         ensures { AreKept (⟦<RowBoard<W> as Board>⟧.grid self.now) first found.old found.new (moved test.now) }
     {
-        for step in 0..found.len() {
-            found[step] = found[step].both(self.motion_row(test, first + step as u32));
+        let end = first + found.len() as u32;
+        let asked = self.rows_to_ask(test).not_below(first);
+        let mut left = asked.both(Columns::below(end));
+        while let Some(row) = left.take_first() {
+            keep_at(found, (row - first) as usize, self.motion_row(test, row));
         }
     }
 

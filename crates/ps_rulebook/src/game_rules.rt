@@ -13,7 +13,7 @@ use ps_engine::{
     scratch_for,
 };
 use ps_model::{Extent, Memory};
-use ps_program::CompiledSection;
+use ps_program::{CompiledRule, CompiledSection};
 use ps_turn::{Queue, Rules};
 use std::alloc::Global;
 use std::marker::Model;
@@ -30,6 +30,24 @@ pub struct GameRules<'p, 'r, B: Scan> {
     scratch: Vec<ScratchFor<B>>,
     /// For rounds and passes that come back.
     kept: KeptBoards<B>,
+    /// Whether a rule has `cancel`. Where none has, a run needn't look for it in the queue.
+    cancels: bool,
+}
+
+/// Whether one of some rules has `cancel`.
+fn has_cancel(rules: &[CompiledRule]) -> bool {
+    rules.iter().any(|rule| rule.commands.cancel)
+}
+
+/// Whether a rule of a section has `cancel`.
+fn cancels(section: &CompiledSection) -> bool {
+    match section {
+        CompiledSection::Group(rules) => has_cancel(rules.as_slice()),
+        CompiledSection::Loop(groups) => groups
+            .as_slice()
+            .iter()
+            .any(|rules| has_cancel(rules.as_slice())),
+    }
 }
 
 /// Written out, so that a function that owns rules calls this where it returns, instead of dropping their parts.
@@ -40,6 +58,7 @@ impl<'p, 'r, B: Scan> Drop for GameRules<'p, 'r, B> {
             program: _program,
             scratch: _scratch,
             kept: _kept,
+            cancels: _,
         } = self;
     }
 }
@@ -71,6 +90,7 @@ impl<'p, 'r, B: Scan> GameRules<'p, 'r, B> {
             program,
             scratch,
             kept: KeptBoards::new(alloc),
+            cancels: sections.iter().any(cancels),
         })
     }
 
@@ -97,10 +117,10 @@ impl<'p, 'r, B: Scan> GameRules<'p, 'r, B> {
         let program = &mut self.program;
         let scratch = self.scratch.as_mut_slice();
         match extent {
-            Extent::Whole => run_program(program, board, queue, scratch, &mut self.kept),
-            Extent::UntilCancelled => {
+            Extent::UntilCancelled if self.cancels => {
                 run_until_cancelled(program, board, queue, scratch, &mut self.kept)
             }
+            _ => run_program(program, board, queue, scratch, &mut self.kept),
         }
     }
 }

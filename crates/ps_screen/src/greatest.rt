@@ -51,14 +51,15 @@ pub fn greatest_of_each(alloc: Global, glyphs: &[&Glyph]) -> Result<Vec<u32>, Me
     Ok(mosts)
 }
 
-/// Whether two lists have the same objects, by the greatest number of each first.
-pub fn are_same_by(first: &[ObjectId], most: u32, second: &[ObjectId], other: u32) -> bool
-    requires first { most ≡ greatest first.now }
-    requires second { other ≡ greatest second.now }
-    ensures { result ≡ same_objects first.now second.now }
+/// Whether a glyph shows just these objects, by the greatest number among its own and that among these: where they
+/// aren't the same, the glyph isn't looked at.
+pub fn shows_by(glyph: &Glyph, most: u32, objects: &[ObjectId], other: u32) -> bool
+    requires glyph { most ≡ greatest (members (glyph_shown glyph.now).meaning) }
+    requires objects { other ≡ greatest objects.now }
+    ensures { result ≡ same_objects (members (glyph_shown glyph.now).meaning) objects.now }
 {
     if most != other {
         return false;
     }
-    are_same(first, second)
+    are_same(glyph.meaning.members(), objects)
 }

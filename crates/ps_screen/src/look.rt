@@ -9,7 +9,7 @@ ghost use Rattle.ps_screen.specs.Glyphs.{Covers, character_for, single_place};
 ghost use Rattle.ps_screen.specs.GreatestObjects.{greatest};
 
 use crate::covering::covering_characters;
-use crate::greatest::{are_same_by, greatest, greatest_of_each};
+use crate::greatest::{greatest, greatest_of_each, shows_by};
 use crate::meanings::ground_layer;
 use ps_model::{LayerId, Memory, ObjectId};
 use ps_names::{Glyph, Names};
@@ -82,7 +82,7 @@ fn first_glyph(glyphs: &[&Glyph], mosts: &[u32], objects: &[ObjectId]) -> Option
     let most = greatest(objects);
     for index in 0..glyphs.len() {
         let glyph = glyphs[index];
-        if are_same_by(glyph.meaning.members(), mosts[index], objects, most) {
+        if shows_by(glyph, mosts[index], objects, most) {
             return Some(glyph.character);
         }
     }

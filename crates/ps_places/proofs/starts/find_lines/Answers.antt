@@ -7,14 +7,28 @@ use Rattle.ps_places.proofs.SmallSteps.{at_least, less_left, reached}
 use Rattle.ps_places.proofs.FoundLines.{lines-init, lines-more, lines-none}
 use Rattle.ps_places.proofs.starts.find_lines.Goals as goal
 
+pub lines_of_last-lines-requires-clause-lines : goal.lines_of_last-lines-requires-clause-lines
+lines_of_last-lines-requires-clause-lines g c =
+    lines-init (g.B.Board.grid c.args.board.now) (g.B.Board.table c.args.board.now) c.args.axis c.args.parts.now
+    c.args.starts.now c.all_lines-all.result c.recall_shape.ensures.shape c.all_lines-all.ensures
+
+pub lines_of_last-lines-requires-clause-whole : goal.lines_of_last-lines-requires-clause-whole
+lines_of_last-lines-requires-clause-whole g c = c.requires.whole
+
+pub lines_of_last-lines-requires-clause-room : goal.lines_of_last-lines-requires-clause-room
+lines_of_last-lines-requires-clause-room g c = c.requires.room
+
+pub lines_of_last-lines-requires-clause-columns : goal.lines_of_last-lines-requires-clause-columns
+lines_of_last-lines-requires-clause-columns g c = c.requires.columns
+
+pub lines_of_last-lines-requires-clause-scanned : goal.lines_of_last-lines-requires-clause-scanned
+lines_of_last-lines-requires-clause-scanned g c = c.requires.scanned
+
 pub loop-number-init : goal.loop-number-init
 loop-number-init g c =
     record {
-      lines =
-          lines-init (g.B.Board.grid c.args.board.now) (g.B.Board.table c.args.board.now) c.args.axis
-          c.args.parts.now c.args.starts.now c.all_lines-lines.result c.recall_shape.ensures.shape
-          c.all_lines-lines.ensures;
-      long = refl;
+      lines = c.lines_of_last-lines.ensures.lines;
+      long = c.lines_of_last-lines.ensures.long;
     }
 
 pub returns-then-is_empty-clause-lines : goal.returns-then-is_empty-clause-lines
@@ -57,13 +71,13 @@ find_rows-rows-requires-clause-whole g c =
 
 pub find_rows-rows-requires-clause-room : goal.find_rows-rows-requires-clause-room
 find_rows-rows-requires-clause-room g c =
-    at_least SIDE_LIMIT (length c.loop-number.columns) (length c.args.columns.now) c.loop-number.auto.columns
-    c.requires.columns
+    at_least SIDE_LIMIT (length c.loop-number.columns) (length c.args.columns.now)
+    (c.loop-number.auto.columns ∙ c.lines_of_last-lines.auto.columns) c.requires.columns
 
 pub find_rows-rows-requires-clause-scanned : goal.find_rows-rows-requires-clause-scanned
 find_rows-rows-requires-clause-scanned g c =
-    at_least SIDE_LIMIT (length c.loop-number.scanned) (length c.args.scanned.now) c.loop-number.auto.scanned
-    c.requires.scanned
+    at_least SIDE_LIMIT (length c.loop-number.scanned) (length c.args.scanned.now)
+    (c.loop-number.auto.scanned ∙ c.lines_of_last-lines.auto.scanned) c.requires.scanned
 
 pub take_part-lines-requires-clause-whole : goal.take_part-lines-requires-clause-whole
 take_part-lines-requires-clause-whole g c =

@@ -5,7 +5,7 @@ use Rattle.ps_places.proofs.LineSets.{none_has}
 use Rattle.ps_places.proofs.OnlyOn.{begin-within}
 use Rattle.ps_places.proofs.FirstRows.{both_within, none_before, none_begun, none_left, one_begun}
 use Rattle.ps_places.proofs.FoundRows.{only_on}
-use Rattle.ps_places.proofs.part_starts.find_rows_in_line.Goals as goal
+use Rattle.ps_places.proofs.part_starts.find_rows_among.Goals as goal
 
 past : (first high height : ℕ) → high ≡ height → high ≤ first → height ≤ first
 past first high height same far = omega arith
@@ -22,11 +22,11 @@ returns-in_default-clause-starts g c =
     let rows : List Bool = c.both-rows.result in
     let out : (row : ℕ) → column_at rows row ≡ false =
     λ row. none_left rows (c.in_default.ensures.none refl)
-    (λ r on. both_within c.rows_of_part.result c.all.result rows r c.both-rows.ensures on) row (column_at rows row) refl in
+    (λ r on. both_within c.args.having c.all.result rows r c.both-rows.ensures on) row (column_at rows row) refl in
     none_begun grid (g.B.Board.table c.args.board.now) c.args.axis c.args.part.now rows c.size-width.ensures.shape.rows
-    (begin-within grid (g.B.Board.table c.args.board.now) c.args.axis c.args.part.now c.rows_of_part.result c.all.result
+    (begin-within grid (g.B.Board.table c.args.board.now) c.args.axis c.args.part.now c.args.having c.all.result
     rows c.size-width.ensures.shape (low_board c.size-width.result.1 (g.B.Board.grid c.args.board.now).height
-    g.B.Words.ColumnWords.limit c.size-width.ensures.height c.size-width.ensures.low) c.all.ensures c.both-rows.ensures c.rows_of_part.ensures)
+    g.B.Words.ColumnWords.limit c.size-width.ensures.height c.size-width.ensures.low) c.all.ensures c.both-rows.ensures c.requires.only)
     c.args.starts.now rows out (λ row low. out row)
 
 pub find_on_rows-requires-clause-whole : goal.find_on_rows-requires-clause-whole
@@ -35,9 +35,9 @@ find_on_rows-requires-clause-whole g c = c.requires.whole
 pub find_on_rows-requires-clause-only : goal.find_on_rows-requires-clause-only
 find_on_rows-requires-clause-only g c =
     begin-within (g.B.Board.grid c.args.board.now) (g.B.Board.table c.args.board.now) c.args.axis c.args.part.now
-    c.rows_of_part.result c.all.result c.both-rows.result c.size-width.ensures.shape (low_board c.size-width.result.1 (g.B.Board.grid c.args.board.now).height
+    c.args.having c.all.result c.both-rows.result c.size-width.ensures.shape (low_board c.size-width.result.1 (g.B.Board.grid c.args.board.now).height
     g.B.Words.ColumnWords.limit c.size-width.ensures.height c.size-width.ensures.low)
-    c.all.ensures c.both-rows.ensures c.rows_of_part.ensures
+    c.all.ensures c.both-rows.ensures c.requires.only
 
 pub find_on_rows-requires-clause-room : goal.find_on_rows-requires-clause-room
 find_on_rows-requires-clause-room g c = c.requires.room
@@ -50,13 +50,13 @@ returns-then-height-first-clause-starts g c =
     let grid : Grid = g.B.Board.grid c.args.board.now in
     let rows : List Bool = c.both-rows.result in
     let one : (row : ℕ) → column_at rows row ≡ true → row ≡ c.in-Some.first =
-    λ row on. only_on c.rows_of_part.result c.all.result rows c.take_first.new.self c.in-Some.first row
+    λ row on. only_on c.args.having c.all.result rows c.take_first.new.self c.in-Some.first row
     c.both-rows.ensures c.in-Some.ensures.some (c.is_empty.ensures.none c.if-not-is_empty.false) on in
     none_begun grid (g.B.Board.table c.args.board.now) c.args.axis c.args.part.now rows c.size-width.ensures.shape.rows
-    (begin-within grid (g.B.Board.table c.args.board.now) c.args.axis c.args.part.now c.rows_of_part.result c.all.result
+    (begin-within grid (g.B.Board.table c.args.board.now) c.args.axis c.args.part.now c.args.having c.all.result
     rows c.size-width.ensures.shape (low_board c.size-width.result.1 grid.height
     g.B.Words.ColumnWords.limit c.size-width.ensures.height c.size-width.ensures.low) c.all.ensures c.both-rows.ensures
-    c.rows_of_part.ensures)
+    c.requires.only)
     c.args.starts.now c.none.result (λ row. none_has c.none.result row c.none.ensures)
     (λ row near. none_before rows c.in-Some.first grid.height
     (past c.in-Some.first c.size-width.result.1 grid.height c.size-width.ensures.height c.if-height-first.true) one row
@@ -72,7 +72,7 @@ find_on_row-requires-clause-row g c =
 
 pub find_on_row-requires-clause-only : goal.find_on_row-requires-clause-only
 find_on_row-requires-clause-only g c = λ row on.
-    only_on c.rows_of_part.result c.all.result c.both-rows.result c.take_first.new.self c.in-Some.first row
+    only_on c.args.having c.all.result c.both-rows.result c.take_first.new.self c.in-Some.first row
     c.both-rows.ensures c.in-Some.ensures.some (c.is_empty.ensures.none c.if-not-is_empty.false) on
 
 pub returns-clause-starts : goal.returns-clause-starts
@@ -80,13 +80,13 @@ returns-clause-starts g c =
     let grid : Grid = g.B.Board.grid c.args.board.now in
     let rows : List Bool = c.both-rows.result in
     let one : (row : ℕ) → column_at rows row ≡ true → row ≡ c.in-Some.first =
-    λ row on. only_on c.rows_of_part.result c.all.result rows c.take_first.new.self c.in-Some.first row
+    λ row on. only_on c.args.having c.all.result rows c.take_first.new.self c.in-Some.first row
     c.both-rows.ensures c.in-Some.ensures.some (c.is_empty.ensures.none c.if-not-is_empty.false) on in
     one_begun grid (g.B.Board.table c.args.board.now) c.args.axis c.args.part.now rows c.size-width.ensures.shape.rows
-    (begin-within grid (g.B.Board.table c.args.board.now) c.args.axis c.args.part.now c.rows_of_part.result c.all.result
+    (begin-within grid (g.B.Board.table c.args.board.now) c.args.axis c.args.part.now c.args.having c.all.result
     rows c.size-width.ensures.shape (low_board c.size-width.result.1 grid.height
     g.B.Words.ColumnWords.limit c.size-width.ensures.height c.size-width.ensures.low) c.all.ensures c.both-rows.ensures
-    c.rows_of_part.ensures)
+    c.requires.only)
     c.find_on_row.new.starts c.find_on_row.result c.in-Some.first
     (on_board c.in-Some.first c.size-width.result.1 grid.height c.size-width.ensures.height c.if-height-first.false) one
     c.find_on_row.ensures.begun c.find_on_row.ensures.rows
