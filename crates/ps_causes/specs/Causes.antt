@@ -27,7 +27,7 @@ use Rattle.ps_facts.specs.declared.names.Named.{Named}
 use Rattle.ps_facts.specs.declared.slips.Slip as slips
 use Rattle.ps_causes.specs.Clues.{IsClue}
 use Rattle.ps_causes.specs.LikeHeaders.{header_word, IsLikeHeaderOf}
-use Rattle.ps_facts.specs.Declarations.{is_declared, IsDeclaredAt}
+use Rattle.ps_facts.specs.Declarations.{Declared, declared, is_declared, is_one_of, IsDeclaredAt}
 use Rattle.ps_facts.specs.KeyWords.{is_key_word}
 use Rattle.ps_facts.specs.LayerWords.{is_in_layers}
 use Rattle.ps_facts.specs.LineWords.{IsWordOf, texts_of}
@@ -72,12 +72,18 @@ pub record IsUnlayered (text : List ℕ) (line : ℕ) (word : Word) : Type 0 whe
   pub stands : IsWordOf text line word
   pub unlayered : is_in_layers text word.text.now ≡ false
 
--- a character of a row that is no name
+-- each character before that place is among the names
+abbrev pub AreNamesBefore : List Declared → List ℕ → ℕ → Type 0
+AreNamesBefore names characters at =
+    (k : ℕ) → k < at → is_one_of names (encode_utf8 (slice_index_or characters k 0)) ≡ true
+
+-- the first character of a row that is no name
 pub record IsUnknownGlyph (text : List ℕ) (line : ℕ) (row : Word) (character column : ℕ) : Type 0 where
   pub stands : IsWordOf text line row
   pub counted : 1 ≤ column
   pub place : slice_get (chars row.text.now) (column - 1) ≡ Some character
   pub undeclared : is_declared text (encode_utf8 character) ≡ false
+  pub first : AreNamesBefore (declared text) (chars row.text.now) (column - 1)
 
 -- the byte that begins a blank of that kind
 abbrev pub byte_of : Blank → ℕ
@@ -94,12 +100,19 @@ pub record IsBrokenRow (text : List ℕ) (line : ℕ) (row : Word) (blank : Blan
   pub behind : row.span.end < further.span.start
   pub parts : slice_index_or text row.span.end 0 ≡ byte_of blank
 
--- a line above is a header of the same section or of a later one
+-- each header above the one line is of a section before that of the other
+abbrev pub AreHeadersBefore : List ℕ → ℕ → ℕ → Type 0
+AreHeadersBefore text line above =
+    (other : ℕ) → 1 ≤ other → other < above → (line_at text other).is_header ≡ true →
+    rank (line_at text other).section < rank (line_at text line).section
+
+-- a line above is a header of the same section or of a later one, the first such line
 pub record IsLaterHeader (text : List ℕ) (line above : ℕ) : Type 0 where
   pub there : HasLine text above
   pub higher : above < line
   pub header : (line_at text above).is_header ≡ true
   pub later : rank (line_at text line).section ≤ rank (line_at text above).section
+  pub first : AreHeadersBefore text line above
 
 -- the line is a header, one stands above that belongs below it, and these are their sections
 pub record IsLateHeader (text : List ℕ) (line : ℕ) (header : Word) (section : Section) (above : ℕ) (other : Section) :
@@ -124,10 +137,17 @@ is_needed Sounds = false
 is_needed Rules = false
 is_needed Wins = false
 
--- no line is a header of the section, which a game needs
+-- each section is there that a game needs and that comes before this one
+abbrev pub AreThereBefore : List ℕ → Section → Type 0
+AreThereBefore text section =
+    (other : Section) → is_needed other ≡ true → rank other < rank section →
+    has_section (header_lines (lines_of text)) other ≡ true
+
+-- no line is a header of the section, which a game needs, the first such section
 pub record IsMissing (text : List ℕ) (section : Section) (clue : Clue) : Type 0 where
   pub needed : is_needed section ≡ true
   pub missing : has_section (header_lines (lines_of text)) section ≡ false
+  pub first : AreThereBefore text section
   pub true_clue : IsClue text section clue
 
 -- the byte at that place, from 1, is the first in no whole character

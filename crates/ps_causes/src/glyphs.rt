@@ -3,7 +3,7 @@
 ghost use Rattle.std.specs.Prelude.{◌≡◌, ◌<◌, false, IfOk, IfSome, length, slice_index_or, encode_utf8, ℕ, List, All};
 ghost use Rattle.std.specs.Str.{chars};
 ghost use Rattle.ps_model.specs.text.LineNumbers.{HasLine};
-ghost use Rattle.ps_causes.specs.Causes.{IsToldAt, byte_of};
+ghost use Rattle.ps_causes.specs.Causes.{AreNamesBefore, IsToldAt, byte_of};
 ghost use Rattle.ps_facts.specs.LineWords.{IsWordOf};
 ghost use Rattle.ps_facts.specs.Declarations.{declared, is_one_of};
 ghost use Rattle.ps_facts.specs.NamesShown.{names_shown};
@@ -31,6 +31,7 @@ fn first_unknown(names: &[Named<'_>], characters: &[char]) -> Option<usize>
     ensures within { IfSome result (λ at. at < length characters.now) }
     ensures unknown { IfSome result (λ at.
         is_one_of (names_shown names.now) (encode_utf8 (slice_index_or characters.now at 0)) ≡ false) }
+    ensures first { IfSome result (AreNamesBefore (names_shown names.now) characters.now) }
 {
     for at in 0..characters.len().min(MOST_CHARACTERS) {
         if !is_name(names, characters[at]) {

@@ -1,10 +1,10 @@
 //! Headers out of order, and sections that aren't there.
 
-ghost use Rattle.std.specs.Prelude.{◌≡◌, ◌++◌, true, false, ℕ, IfOk, IfSome, OnOk, map, string_bytes};
+ghost use Rattle.std.specs.Prelude.{◌≡◌, ◌++◌, ◌&&◌, true, false, nat_le, ℕ, IfOk, IfSome, OnOk, map, string_bytes};
 ghost use Rattle.ps_model.specs.text.LineNumbers.{HasLine, line_at};
 ghost use Rattle.ps_model.specs.text.Lines.{lines_of};
 ghost use Rattle.ps_model.specs.text.Sections.{rank, header_lines, has_section};
-ghost use Rattle.ps_causes.specs.Causes.{IsToldAt, IsLaterHeader, begins, is_needed};
+ghost use Rattle.ps_causes.specs.Causes.{AreThereBefore, IsToldAt, IsLaterHeader, begins, is_needed};
 ghost use Rattle.ps_causes.specs.Clues.{IsClue};
 ghost use Rattle.ps_causes.specs.LikeHeaders.{AreLike, IsLikeHeaderOf, header_word, letter, letters, letters_of};
 ghost use Rattle.ps_text.specs.WordViews.{text_of};
@@ -17,14 +17,23 @@ use ps_model::{Cut, Memory, Section};
 use ps_text::{Source, Word, same_name, words};
 use std::alloc::Global;
 
+/// Whether a line above a line is a header, of the same section or of a later one.
+fn is_later_header(source: &Source, line: u32, above: u32) -> bool
+    requires line { HasLine source.now line }
+    requires above { HasLine source.now above }
+    ensures { let other = line_at source.now above in
+        result ≡ (other.is_header && nat_le (rank (line_at source.now line).section) (rank other.section)) }
+{
+    source.is_header(above) && rank(source.section(line)) <= rank(source.section(above))
+}
+
 /// The first line above a line that is a header, of the same section or of a later one.
 fn header_above(source: &Source, line: u32) -> Option<u32>
     requires { HasLine source.now line }
     ensures { IfSome result (λ above. IsLaterHeader source.now line above) }
 {
-    let place = rank(source.section(line));
     for above in 1..line {
-        if source.is_header(above) && rank(source.section(above)) >= place {
+        if is_later_header(source, line, above) {
             return Some(above);
         }
     }
@@ -75,6 +84,7 @@ fn has_section(source: &Source, section: Section) -> bool
 fn missing_section(source: &Source) -> Option<Section>
     ensures missing { IfSome result (λ section. has_section (header_lines (lines_of source.now)) section ≡ false) }
     ensures needed { IfSome result (λ section. is_needed section ≡ true) }
+    ensures first { IfSome result (AreThereBefore source.now) }
 {
     if !has_section(source, Section::Objects) {
         return Some(Section::Objects);

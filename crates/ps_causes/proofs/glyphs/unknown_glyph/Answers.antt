@@ -23,4 +23,5 @@ returns c text line names same stands =
           ap (λ (names : List Declared). is_one_of names (encode_utf8 found)) (sym names)
           ∙ ap (λ (character : ℕ). is_one_of (names_shown c.args.names.now) (encode_utf8 character)) is
           ∙ c.in_ok-at.ensures.unknown;
+      first = rw (place, ← same, ← names) c.in_ok-at.ensures.first;
     }
