@@ -15,13 +15,17 @@ _play_games() {
 _play() {
     local word=${COMP_WORDS[COMP_CWORD]} before=${COMP_WORDS[COMP_CWORD - 1]} options
     case $before in
-    --level | --view | --explain)
+    --level | --limit | --view | --explain)
         COMPREPLY=()
         return
         ;;
     --keys | --sizes | --show)
         mapfile -t COMPREPLY < <(compgen -f -- "$word")
         compopt -o filenames 2>/dev/null
+        return
+        ;;
+    --format)
+        mapfile -t COMPREPLY < <(compgen -W 'text gnu json' -- "$word")
         return
         ;;
     --title)
@@ -34,7 +38,7 @@ _play() {
         return
         ;;
     esac
-    options='--level --fresh --plain --check --why --help --version'
+    options='--level --fresh --plain --check --why --all --limit --format --help --version'
     case ${COMP_WORDS[0]##*/} in
     ps_play) options+=' --keys --view --sizes --show --describe --explain' ;;
     *) options+=' --page --title --engine --prove --keep --install' ;;

@@ -8,5 +8,6 @@ mod sizes;
 
 pub use checking::{check, check_named};
 pub use faults::CheckFault;
-pub use finding::first_fault;
+pub use finding::{Finding, finding_of, first_fault};
 pub use ps_devices::ByteWriter;
+pub use sizes::{Size, size_of};

@@ -1,4 +1,5 @@
 pub mod Details
+pub mod Reported
 pub mod Statuses
 pub mod Told
 pub mod ViewedGames

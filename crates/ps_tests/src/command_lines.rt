@@ -60,8 +60,17 @@ const CHECKED: &str = "ok: objects 9, layers 4, rules 1, levels 1\n";
 const UNBOUND: &str =
     "Nothing on the left decides which is meant by a property, or by a word of several moves, on the right.\n";
 
+/// The objects of JSON on the game of two levels, and on the text that ends before its levels.
+const OBJECTS: &str =
+    "{\"author\":\"\",\"complete\":true,\"counts\":{\"layers\":3,\"levels\":2,\"objects\":3,\"rules\":0},\"faults\":[],\
+    \"file\":\"two.game\",\"homepage\":\"\",\"levels\":[{\"columns\":2,\"rows\":1},{\"columns\":3,\"rows\":1}],\"ok\":true,\
+    \"title\":\"T\"}\n\
+    {\"author\":null,\"complete\":true,\"counts\":null,\"faults\":[{\"code\":\"GM2\",\"column\":1,\"line\":11,\
+    \"message\":\"There is no header LEVELS.\",\"name\":\"NoSection\"}],\"file\":\"cut.game\",\"homepage\":null,\
+    \"levels\":null,\"ok\":false,\"title\":null}\n";
+
 /// The words of command lines that aren't right.
-const BAD_LINES: [&[&str]; 32] = [
+const BAD_LINES: [&[&str]; 39] = [
     &["ps_play", "a.game", "--show", "-"],
     &["ps_play", "--view", "24x80", "--show", "-"],
     &["ps_play", "--describe"],
@@ -96,6 +105,13 @@ const BAD_LINES: [&[&str]; 32] = [
     &["ps_play", "a.game", "--level", "1", "--level", "1"],
     &["ps_play", "a.game", "--level", "1", "--check"],
     &["ps_play", "--explain", "RU7", "--level", "1"],
+    &["ps_play", "--all", "a.game"],
+    &["ps_play", "--check", "a.game", "--limit", "2"],
+    &["ps_play", "--check", "--all", "a.game", "--limit", "0"],
+    &["ps_play", "--explain", "RU7", "--all"],
+    &["ps_play", "--format", "gnu", "a.game"],
+    &["ps_play", "--check", "--format", "xml", "a.game"],
+    &["ps_play", "--explain", "RU7", "--format", "json"],
 ];
 
 /// Command lines that ask for a game to be played, and what must come of each.
@@ -309,7 +325,7 @@ const PLAYS: [(Told, &[Line]); 11] = [
 ];
 
 /// Command lines that ask for a check, and what must come of each.
-const CHECKS: [(Told, &[Line]); 8] = [
+const CHECKS: [(Told, &[Line]); 13] = [
     // A game is checked, and no key is asked for.
     (
         Told {
@@ -400,6 +416,98 @@ const CHECKS: [(Told, &[Line]); 8] = [
         &[(
             &["ps_play", "--check", "lost.game", "a.game"],
             "lost.game\na.game\n",
+        )],
+    ),
+    // All faults of a text are told, with their number.
+    (
+        Told {
+            input: b"d",
+            reads: 0,
+            status: 1,
+            shown: "line 11: GM2 NoSection\n1 fault\n",
+            printed: "",
+            complained: "",
+        },
+        &[(&["ps_play", "--check", "--all", "cut.game"], "cut.game\n")],
+    ),
+    // So they are of several files, and of a game its line.
+    (
+        Told {
+            input: b"d",
+            reads: 0,
+            status: 1,
+            shown: "a.game: ok: objects 9, layers 4, rules 1, levels 1\n\
+            cut.game: line 11: GM2 NoSection\n\
+            cut.game: 1 fault\n",
+            printed: "",
+            complained: "lost.game: cannot read game\n",
+        },
+        &[(
+            &[
+                "ps_play",
+                "--check",
+                "--all",
+                "--limit",
+                "3",
+                "a.game",
+                "lost.game",
+                "cut.game",
+            ],
+            "a.game\nlost.game\ncut.game\n",
+        )],
+    ),
+    // For editors the first fault is a line, and a game none.
+    (
+        Told {
+            input: b"d",
+            reads: 0,
+            status: 1,
+            shown: "cut.game:11:1: error: There is no header LEVELS. [GM2]\n",
+            printed: "",
+            complained: "",
+        },
+        &[(
+            &[
+                "ps_play", "--check", "--format", "gnu", "a.game", "cut.game",
+            ],
+            "a.game\ncut.game\n",
+        )],
+    ),
+    // For programs each text that can be read is an object.
+    (
+        Told {
+            input: b"d",
+            reads: 0,
+            status: 1,
+            shown: OBJECTS,
+            printed: "",
+            complained: "lost.game: cannot read game\n",
+        },
+        &[(
+            &[
+                "ps_play",
+                "--check",
+                "--format=json",
+                "two.game",
+                "lost.game",
+                "cut.game",
+            ],
+            "two.game\nlost.game\ncut.game\n",
+        )],
+    ),
+    // The form for people is the one of every check.
+    (
+        Told {
+            input: b"d",
+            reads: 0,
+            status: 0,
+            shown: CHECKED,
+            printed: "",
+            complained: "",
+        },
+        &[(
+            &["ps_play", "--check", "--format", "text", "a.game"],
+            "a.game\n",
         )],
     ),
     // A game on standard input is checked.

@@ -1,3 +1,4 @@
+pub mod Columns
 pub mod GameWording
 pub mod Lines
 pub mod Marked

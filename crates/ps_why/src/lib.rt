@@ -4,6 +4,7 @@
 #![tactic(auto)]
 
 mod characters;
+mod columns;
 mod game_wording;
 mod lines;
 mod marked;

@@ -71,7 +71,7 @@ fn mark_length(text: &[u8]) -> usize
 }
 
 /// Where the line of a number begins, from 1: after the line feeds before it, and after a byte order mark.
-fn line_start(text: &[u8], line: u32) -> usize
+pub fn line_start(text: &[u8], line: u32) -> usize
     ensures place { result ≡ line_start text.now line }
     ensures within { result ≤ length text.now }
 {

@@ -6,6 +6,7 @@ ghost use Rattle.ps_causes.specs.Causes.{IsToldAt};
 ghost use Rattle.ps_why.specs.Told.{TellsTruth};
 
 use crate::characters::shown;
+use crate::columns::column_of;
 use crate::marked::marks_of;
 use crate::page::line_shown;
 use crate::wording::sentence;
@@ -20,6 +21,8 @@ pub struct Details {
     /// The line that has the fault, after its number, and below it a mark under the words that it is about, if there
     /// are such. Each line ends with a line feed. Of a text that is too long, nothing.
     pub line: String,
+    /// The column of the line in which the mark begins, counted in characters from 1; the first where nothing is marked.
+    pub column: usize,
     /// A sentence or two, without a line feed. Empty where no more is told than the fault.
     pub sentence: String,
 }
@@ -29,12 +32,18 @@ fn told_by(alloc: Global, text: &[u8], fault: Fault, cause: Cause<'_>) -> Result
     requires short { length text.now ≤ TEXT_LIMIT }
     requires cause { IsToldAt text.now fault.line cause }
     ensures { IfOk result (λ told.
-        TellsTruth text.now fault.line (string_bytes told.line) (string_bytes told.sentence)) }
+        TellsTruth text.now fault.line told.column (string_bytes told.line) (string_bytes told.sentence)) }
 {
-    let line = line_shown(alloc, text, fault.line, marks_of(cause))?;
+    let marks = marks_of(cause);
+    let line = line_shown(alloc, text, fault.line, marks)?;
+    let column = column_of(text, fault.line, marks);
     let words = sentence(alloc, cause)?;
     let sentence = shown(alloc, &words)?;
-    Ok(Details { line, sentence })
+    Ok(Details {
+        line,
+        column,
+        sentence,
+    })
 }
 
 /// What is said about a fault of a text that was read.
@@ -42,7 +51,7 @@ fn told_of(alloc: Global, text: &[u8], source: &Source, fault: Fault) -> Result<
     requires short { length text.now ≤ TEXT_LIMIT }
     requires source { source.now ≡ text.now }
     ensures { IfOk result (λ told.
-        TellsTruth text.now fault.line (string_bytes told.line) (string_bytes told.sentence)) }
+        TellsTruth text.now fault.line told.column (string_bytes told.line) (string_bytes told.sentence)) }
 {
     let cause = cause_of(alloc, text, source, fault)?;
     told_by(alloc, text, fault, cause)
@@ -56,11 +65,12 @@ fn told_of(alloc: Global, text: &[u8], source: &Source, fault: Fault) -> Result<
 /// `Memory` if a growth was refused.
 pub fn why(alloc: Global, text: &[u8], fault: Fault) -> Result<Details, Memory>
     ensures { IfOk result (λ told.
-        TellsTruth text.now fault.line (string_bytes told.line) (string_bytes told.sentence)) }
+        TellsTruth text.now fault.line told.column (string_bytes told.line) (string_bytes told.sentence)) }
 {
     if text.len() > TEXT_LIMIT {
         return Ok(Details {
             line: String::new(alloc),
+            column: 1,
             sentence: String::new(alloc),
         });
     }

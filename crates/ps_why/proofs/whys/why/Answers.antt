@@ -14,6 +14,7 @@ returns-then-text-gt-TEXT_LIMIT c =
       cause = Untold;
       is_true = tt;
       are_lines = c.new.ensures.bytes ∙ rw long refl;
+      is_column = refl;
       are_words = c.new-then-text-gt-TEXT_LIMIT.ensures.bytes ∙ sym (ap shown_characters chars-nil);
     }
 

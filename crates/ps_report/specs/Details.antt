@@ -1,0 +1,19 @@
+-- What a check tells of a fault below the line of it.
+use Rattle.std.specs.Prelude.{◌≡◌, ◌≢◌, List, ℕ, [], ◌∷◌, ◌++◌}
+use Rattle.ps_model.specs.declared.faults.Fault.{Fault}
+use Rattle.ps_why.specs.Told.{TellsTruth}
+
+-- what a check tells of a fault: its column, the text's own line of it, and a sentence; that on a cause which is true of
+-- the text, where one is told
+pub record IsToldOn (text : List ℕ) (fault : Fault) (column : ℕ) (shown sentence : List ℕ) : Type 0 where
+  pub words : List ℕ
+  pub truth : TellsTruth text fault.line column shown words
+  pub own : words ≢ [] → sentence ≡ words
+
+-- lines on a fault: the text's own line of it, and a sentence
+pub record AreLinesOn (text : List ℕ) (fault : Fault) (lines : List ℕ) : Type 0 where
+  pub column : ℕ
+  pub shown : List ℕ
+  pub sentence : List ℕ
+  pub told : IsToldOn text fault column shown sentence
+  pub are : lines ≡ shown ++ (sentence ++ 10 ∷ [])
