@@ -1,0 +1,4 @@
+pub mod SolvedLevels
+pub mod SolvedTexts
+pub mod SolvedWords
+pub mod TellsLevels

@@ -1,0 +1,20 @@
+//! What can be asked of a level, and how the answer is told.
+//!
+//! A [`SolvableGame`] says whether its levels can be won, and by how few keys; a [`LevelSolver`] reads it from a text. A
+//! command line asks for no more than this, and so needs nothing of what searches. A [`Solved`] is the answer, and a
+//! [`LevelTeller`] writes the lines that tell it.
+#![tactic(auto)]
+
+mod lines;
+mod solved;
+mod solvers;
+mod tellers;
+#[cfg(test)]
+mod tests;
+
+pub use lines::level_line;
+pub use ps_model::{Input, Memory, Refusal};
+pub use ps_search::{Unwatched, Watcher};
+pub use solved::{Solved, Unsolved};
+pub use solvers::{LevelSolver, SolvableGame};
+pub use tellers::{LevelTeller, TellFault};
