@@ -1,0 +1,3 @@
+mod SearchedSpots
+mod KeptKeys
+mod Led
