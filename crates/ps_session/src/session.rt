@@ -1,11 +1,12 @@
 //! A session.
 
-ghost use Rattle.std.specs.Prelude.{◌≡◌, ◌++◌, ◌≤◌, true, IfErr, IfOk, IfSome, IsOk, List, OnErr, OnOk};
+ghost use Rattle.std.specs.Prelude.{◌≡◌, ◌++◌, ◌≤◌, ℕ, true, IfErr, IfOk, IfSome, IsOk, List, None, OnErr, OnOk};
 ghost use Rattle.ps_model.specs.game.Outputs.{ending_of};
 ghost use Rattle.ps_model.specs.session.KeySteps.{key_step};
+ghost use Rattle.ps_model.specs.session.Solving.{spot};
 ghost use Rattle.ps_model.specs.session.StartSteps.{enter};
-ghost use Rattle.ps_stage.specs.Sides.{side_at};
 ghost use Rattle.ps_model.specs.board.Grid.{Grid};
+ghost use Rattle.ps_stage.specs.Sides.{side_at};
 ghost use Rattle.ps_stage.specs.Standings.{basis_of, play_of, script_for};
 ghost use Rattle.ps_stage.specs.StepsShown.{stands};
 ghost use Rattle.ps_session.specs.IgnoredKeys.{is_ignored};
@@ -177,12 +178,13 @@ impl<'g, B: Board, H: History<B>> Session<'g, B, H> {
         self.stage.game()
     }
 
-    /// The level in which the player is, with what its message goes on with, if one waits. At a message entry and at the end
-    /// there is no level.
+    /// The level in which the player is, with what its message goes on with, if one waits. At a message entry and at the
+    /// end there is no level.
     pub fn level(&self) -> Option<(&PlayedLevel<B>, Option<Pending>)>
         ensures level { IfSome result (λ here. (history : List Grid)
             × (self.now.session ≡ stands here.1 (play_of history here.0.now))) }
         ensures table { IfSome result (λ here. here.0.now.basis ≡ basis_of B.table_for self.now.game.names) }
+        ensures nowhere { result ≡ None → (entry : ℕ) → spot entry self.now.session ≡ None }
     {
         match &self.location {
             Location::Playing(level) => Some((level, None)),

@@ -2,7 +2,6 @@
 use Rattle.std.specs.Prelude.{◌≡◌, ℕ, List, Option, Some}
 use Rattle.ps_model.specs.board.Grid.{Grid}
 use Rattle.ps_model.specs.board.Turns.{Script}
-use Rattle.ps_model.specs.session.Sessions.{Session, Playing, Waiting, AtMessage, Ended}
 use Rattle.ps_model.specs.session.Solving.{Spot}
 use Rattle.ps_engine.specs.RulesInRoom.{sections_meaning}
 use Rattle.ps_program.specs.declared.program.CompiledSection.{CompiledSection}
@@ -48,10 +47,3 @@ pub record IsStanding (keys : KeyTable) (trial : TrialValue) (own_grid : Grid) (
   pub start : IsSpotKey keys start.words start.restart
   pub own_grid : own_grid ≡ packed_grid keys.packed at.words
   pub own_table : own_table ≡ Some keys.packed.table
-
--- the entry where a session is
-abbrev pub entry_in : Session → ℕ
-entry_in (Playing play) = play.entry
-entry_in (Waiting play pending) = play.entry
-entry_in (AtMessage at) = at
-entry_in (Ended ending) = 0

@@ -33,7 +33,7 @@ const INPUTS: [Input; 5] = [
 
 /// A search of a level, from a spot of it, by the turns of a game. It goes from spot to spot, and keeps each as a key of
 /// `N` words.
-pub struct LevelSearch<'g, W: ColumnWords, const N: usize> {
+pub(crate) struct LevelSearch<'g, W: ColumnWords, const N: usize> {
     /// Tries inputs at the spot where the search is.
     trial: Trial<'g, RowBoard<W>>,
     rules: TurnRules<GameRules<'g, 'g, RowBoard<W>>>,
@@ -98,7 +98,7 @@ impl<'g, W: ColumnWords, const N: usize> LevelSearch<'g, W, N> {
     ///
     /// `Full`, where the board that a restart goes back to has no key so short; `Moves`, where it isn't known that nothing
     /// moves on the boards of the spot; or `Memory`.
-    pub fn try_new(
+    pub(crate) fn try_new(
         alloc: Global,
         trial: Trial<'g, RowBoard<W>>,
         rules: TurnRules<GameRules<'g, 'g, RowBoard<W>>>,
@@ -166,7 +166,7 @@ impl<'g, W: ColumnWords, const N: usize> LevelSearch<'g, W, N> {
     ///
     /// If it runs out of memory, the watcher stops it or a key is full, the answer says up to which length no list leads
     /// past. It can be called again, and begins anew then.
-    pub fn solve<T: Watcher>(&mut self, alloc: Global, limit: u32, watcher: &mut T) -> Solved
+    pub(crate) fn solve<T: Watcher>(&mut self, alloc: Global, limit: u32, watcher: &mut T) -> Solved
         ensures solved { (script : Script) (entry : ℕ) (session : Session) → PlaysAs script self.old.script
             → spot entry session ≡ Some (start_of self.old) → IsSolved script entry session limit result }
     {

@@ -1,19 +1,10 @@
 //! Levels that are searched.
 
-ghost use Rattle.ps_model.specs.session.RoomSizes.{HasRoomSize};
-ghost use Rattle.ps_stage.specs.Playable.{ArePlayable};
-
-use crate::playable::playable_game;
-use crate::sessions::search_from;
-use crate::solved::{Solved, Unsolved};
-use crate::widths::{RuleSections, solve_session};
-use ps_compile::{CompiledPrograms, compile};
-use ps_game::Game;
-use ps_model::Input;
-use ps_rulebook::{OneWord, RowBoard, RowHistory, WORD_BITS, rules_of_sections};
+use crate::solved::{NotSearched, Solved, Unsolved};
+use crate::solving::{KeysPlayed, solve_after, solve_level};
+use ps_game::read_game;
+use ps_model::{Input, Key};
 use ps_search::{Unwatched, Watcher};
-use ps_session::{BoardSides, OutputText, Session, SessionGame};
-use ps_turn::{Rules, TurnRules};
 use std::process::Abort;
 
 /// The text of a game up to its rules.
@@ -46,82 +37,14 @@ fn shown(solved: &Solved) -> (&'static str, usize, u32) {
                 Unsolved::Memory => "memory",
                 Unsolved::Stopped => "stopped",
                 Unsolved::Full => "full",
-                Unsolved::Moves => "moves",
+                Unsolved::Boards => "boards",
             };
             (word, *states as usize, *depth)
         }
     }
 }
 
-/// A session at the first entry of a game, a level.
-fn begun<'g, R: Rules<RowBoard<OneWord>>>(
-    rt: &(impl Abort + AllocGlobal),
-    game: &'g Game,
-    rules: &mut TurnRules<R>,
-) -> Option<Session<'g, RowBoard<OneWord>, RowHistory<OneWord>>>
-    requires playable { ArePlayable game.now.names game.now.entries }
-    requires rooms { HasRoomSize game.now.options }
-{
-    let title = game.title.as_str();
-    let parts = SessionGame::new(title, game.options, &game.names, &game.entries, &game.wins);
-    assert!(rt; parts.side_at(0) <= WORD_BITS);
-    let mut output = OutputText::new(rt.alloc());
-    let sides = BoardSides {
-        above: 0,
-        most: WORD_BITS,
-    };
-    let started = Session::start_at(rt.alloc(), parts, sides, rules, 0, &mut output);
-    let Ok(session) = started else {
-        return None;
-    };
-    Some(session)
-}
-
-/// Searches the first entry of a game from its start on, with keys of `N` words.
-fn searched<T: Watcher, const N: usize>(
-    rt: &(impl Abort + AllocGlobal),
-    game: &Game,
-    programs: &CompiledPrograms<'_>,
-    limit: u32,
-    watcher: &mut T,
-) -> Option<Solved>
-    requires playable { ArePlayable game.now.names game.now.entries }
-    requires rooms { HasRoomSize game.now.options }
-{
-    let alloc = rt.alloc();
-    let sections = (programs.plain.sections(), programs.late.sections());
-    let Ok(mut rules) = rules_of_sections(alloc, sections.0, sections.1) else {
-        return None;
-    };
-    let session = begun(rt, game, &mut rules)?;
-    let Ok(Some(mut search)) = search_from::<OneWord, N>(alloc, &session, rules) else {
-        return None;
-    };
-    Some(search.solve(alloc, limit, watcher))
-}
-
-/// Searches the first entry of a game from its start on, with keys as wide as it needs.
-fn searched_widely<'r>(
-    rt: &(impl Abort + AllocGlobal),
-    game: &Game,
-    programs: &'r CompiledPrograms<'r>,
-    limit: u32,
-) -> Option<Solved>
-    requires playable { ArePlayable game.now.names game.now.entries }
-    requires rooms { HasRoomSize game.now.options }
-{
-    let sections = RuleSections {
-        plain: programs.plain.sections(),
-        late: programs.late.sections(),
-    };
-    let Ok(mut rules) = rules_of_sections(rt.alloc(), sections.plain, sections.late) else {
-        return None;
-    };
-    let session = begun(rt, game, &mut rules)?;
-    solve_session(rt.alloc(), &session, sections, limit, &mut Unwatched)
-}
-
-/// Searches the level of a game with these lines below its names, with keys of one word.
+/// Searches the level of a game with these lines below its names.
 fn solved<T: Watcher>(
     rt: &(impl Abort + AllocGlobal),
     lines: &str,
@@ -130,17 +53,8 @@ fn solved<T: Watcher>(
     watcher: &mut T,
 ) -> Solved {
     let text = format!(in rt.alloc(); "{NAMES}{lines}{level}").expect(rt, "memory for a text");
-    let game = playable_game(rt.alloc(), text.as_bytes()).expect(rt, "a game");
-    let programs = compile(rt.alloc(), &game.names, &game.rules).expect(rt, "memory for rules");
-    searched::<T, 1>(rt, &game, &programs, limit, watcher).expect(rt, "a search")
-}
-
-/// The same with keys as wide as it needs.
-fn solved_widely(rt: &(impl Abort + AllocGlobal), lines: &str, level: &str, limit: u32) -> Solved {
-    let text = format!(in rt.alloc(); "{NAMES}{lines}{level}").expect(rt, "memory for a text");
-    let game = playable_game(rt.alloc(), text.as_bytes()).expect(rt, "a game");
-    let programs = compile(rt.alloc(), &game.names, &game.rules).expect(rt, "memory for rules");
-    searched_widely(rt, &game, &programs, limit).expect(rt, "a search")
+    let game = read_game(rt.alloc(), text.as_bytes()).expect(rt, "a game");
+    solve_level(rt.alloc(), &game, 0, limit, watcher).expect(rt, "a search")
 }
 
 #[test]
@@ -212,8 +126,46 @@ const WALK: &str =
 
 #[test]
 fn wide_keys_do_where_narrow_ones_are_full(rt: HostRuntime) {
-    let full = solved(&rt, PUSHING, WALK, 100, &mut Unwatched);
-    assert_eq!(rt; shown(&full), ("full", 64, 31));
-    let never = solved_widely(&rt, PUSHING, WALK, 100);
+    let never = solved(&rt, PUSHING, WALK, 100, &mut Unwatched);
     assert_eq!(rt; shown(&never), ("never", 80, 0));
+}
+
+#[test]
+fn keys_lead_to_other_levels(rt: HostRuntime) {
+    let text = format!(in rt.alloc(); "{NAMES}{PUSHING}P*O\n\nmessage Hello\n\nP.*.O\n").expect(
+        &rt,
+        "memory for a text",
+    );
+    let game = read_game(rt.alloc(), text.as_bytes()).expect(&rt, "a game");
+    let keys = [
+        Key::Move(Input::Right),
+        Key::Move(Input::Action),
+        Key::Move(Input::Right),
+    ];
+    let played = KeysPlayed {
+        entry: 0,
+        keys: &keys,
+    };
+    let here = solve_after(rt.alloc(), &game, played, 100, &mut Unwatched).expect(&rt, "a search");
+    assert_eq!(rt; here.entry, 2);
+    assert_eq!(rt; shown(&here.solved), ("won", 2, 0));
+    let message = KeysPlayed {
+        entry: 0,
+        keys: &keys[..1],
+    };
+    let none = solve_after(rt.alloc(), &game, message, 100, &mut Unwatched);
+    match none {
+        Err(why) => assert_eq!(rt; why, NotSearched::NoLevel),
+        Ok(_) => assert!(rt; false)
+    }
+    let second = solve_level(rt.alloc(), &game, 2, 100, &mut Unwatched).expect(&rt, "a search");
+    assert_eq!(rt; shown(&second), ("won", 3, 0));
+    match solve_level(rt.alloc(), &game, 1, 100, &mut Unwatched) {
+        Err(why) => assert_eq!(rt; why, NotSearched::NoLevel),
+        Ok(_) => assert!(rt; false)
+    }
+    match solve_level(rt.alloc(), &game, 9, 100, &mut Unwatched) {
+        Err(why) => assert_eq!(rt; why, NotSearched::NoLevel),
+        Ok(_) => assert!(rt; false)
+    }
 }

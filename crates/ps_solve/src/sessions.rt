@@ -1,12 +1,13 @@
 //! Searches from sessions.
 
-ghost use Rattle.std.specs.Prelude.{◌≡◌, IfOk, IfSome, Some, true};
+ghost use Rattle.std.specs.Prelude.{◌≡◌, ℕ, IfOk, IfSome, None, Ok, OnErr, Some, true};
 ghost use Rattle.ps_model.specs.session.Sessions.{Play};
 ghost use Rattle.ps_model.specs.session.Solving.{spot, spot_of};
 ghost use Rattle.ps_stage.specs.Standings.{turn_parts};
 ghost use Rattle.ps_stage.specs.StepsShown as staged;
 ghost use Rattle.ps_trial.specs.Told.{pending_shown, waits_shown};
-ghost use Rattle.ps_solve.specs.Searches.{entry_in, script_of, start_of};
+ghost use Rattle.ps_solve.specs.Searches.{script_of, start_of};
+ghost use Rattle.ps_solve.specs.SolvedLevels.{IsIn, entry_in};
 
 use crate::level_search::LevelSearch;
 use ps_board::{Board, ColumnWords};
@@ -44,8 +45,8 @@ fn waits_of(waits: Option<StagePending>) -> Option<Pending>
 /// # Errors
 ///
 /// `Full`, where the board that a restart goes back to has no key so short; `Moves`, where it isn't known that nothing
-/// moves on the boards of the level; or `Memory`.
-pub fn search_from<'g, W: ColumnWords, const N: usize>(
+/// moves on the boards of the level, or that they have the same sides; or `Memory`.
+pub(crate) fn search_from<'g, W: ColumnWords, const N: usize>(
     alloc: Global,
     session: &Session<'g, RowBoard<W>, RowHistory<W>>,
     rules: TurnRules<GameRules<'g, 'g, RowBoard<W>>>,
@@ -56,12 +57,14 @@ pub fn search_from<'g, W: ColumnWords, const N: usize>(
     }) rules.plain rules.late)) }
     ensures start { IfOk result (λ found. IfSome found (λ search. spot (entry_in session.now.session) session.now.session
         ≡ Some (start_of search))) }
+    ensures nowhere { result ≡ Ok None → (entry : ℕ) → spot entry session.now.session ≡ None }
+    ensures there { OnErr result (IsIn (entry_in session.now.session) session.now.session) }
 {
     let Some((level, waits)) = session.level() else {
         return Ok(None);
     };
     if !level.board().is_alike(level.restart_board()) {
-        return Ok(None);
+        return Err(NotPacked::Moves);
     }
     let game = session.game();
     let turns = game.turns().copied();

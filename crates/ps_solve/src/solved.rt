@@ -4,11 +4,12 @@ ghost use Rattle.std.specs.Prelude.{ℕ};
 ghost use Rattle.ps_model.specs.board.Turns.{Script};
 ghost use Rattle.ps_model.specs.session.Sessions.{Session};
 ghost use Rattle.ps_search.specs.Answers.{IsReason};
-ghost use Rattle.ps_solve.specs.SolvedLevels.{IsFound, IsSolved, IsUnsolved};
+ghost use Rattle.ps_solve.specs.SolvedLevels.{IsFound, IsIn, IsSolved, IsUnsolved};
 
 use ps_model::Input;
 use ps_rows::NotPacked;
 use ps_search::{Found, Why};
+use thiserror::Error;
 
 /// Whether directions and `x` lead past a level from a spot of it, and by how few of them.
 #[derive(Drop)]
@@ -38,10 +39,41 @@ pub enum Unsolved {
     Memory,
     /// The watcher stopped the search.
     Stopped,
-    /// The words of a key are full: wider keys may do.
+    /// The words of a key are full: more places of the board differ from the start than the widest keys have bits for.
     Full,
-    /// It isn't known that nothing moved on a board after its turns.
-    Moves,
+    /// A board can't be kept as a key: it isn't known that nothing moves on it after its turns, or that its sides are those
+    /// of the level. No game is known for which this comes.
+    Boards,
+}
+
+/// What is told of the level where a search begins.
+#[derive(Drop)]
+pub struct SolvedHere {
+    /// The place of the level among the entries.
+    pub entry: usize,
+    pub solved: Solved,
+}
+
+/// Why nothing is searched.
+#[derive(Clone, Copy, PartialEq, Eq, Debug, Error)]
+pub enum NotSearched {
+    /// There is no level: a message is shown, or the game has ended.
+    #[error("no level is played there")]
+    NoLevel,
+    /// Out of memory, before the search began.
+    #[error("out of memory")]
+    Memory,
+}
+
+/// Why a search doesn't know where a spot has no key.
+fn why_not_packed(fault: NotPacked) -> Unsolved
+    ensures { (limit states : ℕ) → IsUnsolved limit states result }
+{
+    match fault {
+        NotPacked::Full => Unsolved::Full,
+        NotPacked::Moves => Unsolved::Boards,
+        NotPacked::Memory => Unsolved::Memory,
+    }
 }
 
 /// Why a search doesn't know.
@@ -52,9 +84,20 @@ fn why_of(why: Why<NotPacked>) -> Unsolved
         Why::Limit => Unsolved::Limit,
         Why::Memory => Unsolved::Memory,
         Why::Stopped => Unsolved::Stopped,
-        Why::Moves(NotPacked::Full) => Unsolved::Full,
-        Why::Moves(NotPacked::Moves) => Unsolved::Moves,
-        Why::Moves(NotPacked::Memory) => Unsolved::Memory,
+        Why::Moves(fault) => why_not_packed(fault),
+    }
+}
+
+/// The answer of a search that can't begin at a spot of a level.
+pub(crate) fn not_begun(fault: NotPacked) -> Solved
+    ensures { (script : Script) (entry : ℕ) (session : Session) (limit : ℕ)
+        → IsIn entry session → IsSolved script entry session limit result }
+{
+    let why = why_not_packed(fault);
+    Solved::Unknown {
+        states: 0,
+        depth: 0,
+        why,
     }
 }
 

@@ -17,7 +17,7 @@ use std::marker::Model;
 
 /// What a search keeps of a spot.
 #[derive(Clone, Copy, PartialEq, Eq, Hash)]
-pub struct SpotKey<const N: usize> {
+pub(crate) struct SpotKey<const N: usize> {
     /// The key of its board.
     pub board: PackedKey<N>,
     /// The number of the board that a restart goes back to.
