@@ -25,8 +25,8 @@ pub record KeyParts : Type 0 where
 abbrev pub key_parts : List ℕ → ℕ → Option Pending → KeyParts
 key_parts words restart waits = record { words = words; restart = restart; waits = waits }
 
--- a search: the game by whose turns it goes, what its keys rest on, the key of the spot where it begins, and that of the
--- spot where it is
+-- a search: the game by whose turns it goes, and what its keys rest on. It has the key of the spot where it begins, and
+-- that of the spot where it is
 pub record SearchValue : Type 0 where
   pub script : Script
   pub keys : KeyTable

@@ -1,5 +1,5 @@
--- What the keys of spots stand for. The key of a spot is that of its board, the number of the board that a restart goes
--- back to, and what a waiting message goes on with.
+-- What the keys of spots stand for. The key of a spot has that of its board, and what a waiting message goes on with. It
+-- has the number of the board that a restart goes back to, too.
 use Rattle.std.specs.Prelude.{◌≡◌, ℕ, ◌<◌, List, [], Option, Some, length, slice_index_or}
 use Rattle.std.specs.List.{All}
 use Rattle.ps_model.specs.board.Grid.{Grid}

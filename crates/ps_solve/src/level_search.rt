@@ -124,7 +124,7 @@ impl<'g, W: ColumnWords, const N: usize> LevelSearch<'g, W, N> {
     }
 
     /// Has the trial restart to the board with this number from then on, and goes to the spot of that board.
-    fn restart_at(&mut self, number: usize)
+    fn restart_at(&mut self, number: u32)
         requires { number < length self.old.keys.restarts }
         ensures script { self.new.script ≡ self.old.script }
         ensures keys { self.new.keys ≡ self.old.keys }
@@ -164,8 +164,8 @@ impl<'g, W: ColumnWords, const N: usize> LevelSearch<'g, W, N> {
     /// What it tells is true of each script that is played by the game's turns, from each session at the spot where the
     /// search begins.
     ///
-    /// If it runs out of memory, the watcher stops it or a key is full, the answer says up to which length no list leads
-    /// past. It can be called again, and begins anew then.
+    /// It may run out of memory, the watcher may stop it, or a key may be full. Then the answer says up to which length no
+    /// list leads past. It can be called again, and begins anew then.
     pub(crate) fn solve<T: Watcher>(&mut self, alloc: Global, limit: u32, watcher: &mut T) -> Solved
         ensures solved { (script : Script) (entry : ℕ) (session : Session) → PlaysAs script self.old.script
             → spot entry session ≡ Some (start_of self.old) → IsSolved script entry session limit result }

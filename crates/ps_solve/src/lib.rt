@@ -7,8 +7,6 @@
 #![tactic(auto)]
 
 mod level_search;
-#[cfg(test)]
-mod levels;
 mod played;
 mod sessions;
 mod solved;

@@ -1,4 +1,4 @@
-//! What is told of a level.
+//! The answers of a search.
 
 ghost use Rattle.std.specs.Prelude.{ℕ};
 ghost use Rattle.ps_model.specs.board.Turns.{Script};
@@ -46,7 +46,7 @@ pub enum Unsolved {
     Boards,
 }
 
-/// What is told of the level where a search begins.
+/// The answer about the level where a search begins.
 #[derive(Drop)]
 pub struct SolvedHere {
     /// The place of the level among the entries.

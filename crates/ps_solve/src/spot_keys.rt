@@ -21,7 +21,7 @@ pub(crate) struct SpotKey<const N: usize> {
     /// The key of its board.
     pub board: PackedKey<N>,
     /// The number of the board that a restart goes back to.
-    pub restart: usize,
+    pub restart: u32,
     /// What a waiting message goes on with.
     pub waits: Option<Pending>,
 }
@@ -109,16 +109,19 @@ impl<W: ColumnWords, const N: usize> SpotKeys<W, N> {
     ///
     /// # Errors
     ///
-    /// `Memory`, and each key stands for what it did.
-    fn number_of(&mut self, key: PackedKey<N>) -> Result<usize, NotPacked>
+    /// `Memory`, or `Full` where numbers of boards have no room for another; and each key stands for what it did.
+    fn number_of(&mut self, key: PackedKey<N>) -> Result<u32, NotPacked>
         requires { IsKey self.old.packed key.words }
         ensures number { IfOk result (IsRestart self.new (packed_grid self.old.packed key.entry.words)) }
         ensures kept { KeepsKeys self.old self.new }
         ensures packed { self.new.packed ≡ self.old.packed }
     {
-        match self.restarts.insert_full(key) {
-            Ok((number, _)) => Ok(number),
-            Err(_) => Err(NotPacked::Memory),
+        let Ok((number, _)) = self.restarts.insert_full(key) else {
+            return Err(NotPacked::Memory);
+        };
+        match u32::try_from(number) {
+            Ok(number) => Ok(number),
+            Err(_) => Err(NotPacked::Full),
         }
     }
 
@@ -132,7 +135,7 @@ impl<W: ColumnWords, const N: usize> SpotKeys<W, N> {
         key: &PackedKey<N>,
         from: &RowBoard<W>,
         to: &RowBoard<W>,
-    ) -> Result<usize, NotPacked>
+    ) -> Result<u32, NotPacked>
         requires key { IsKey self.old.packed key.now.words }
         requires from { ⟦<RowBoard<W> as Board>⟧.grid from.now ≡ packed_grid self.old.packed key.now.words }
         requires own { ⟦<RowBoard<W> as Board>⟧.table from.now ≡ Some self.old.packed.table }
@@ -182,7 +185,7 @@ impl<W: ColumnWords, const N: usize> SpotKeys<W, N> {
         &mut self,
         at: &SpotKey<N>,
         trial: &Trial<'_, RowBoard<W>>,
-    ) -> Result<usize, NotPacked>
+    ) -> Result<u32, NotPacked>
         requires { IsAt self.old trial.now at.now.board.words at.now.restart }
         ensures number { IfOk result (IsRestart self.new trial.now.there.restart_board) }
         ensures kept { KeepsKeys self.old self.new }
@@ -225,12 +228,12 @@ impl<W: ColumnWords, const N: usize> SpotKeys<W, N> {
     }
 
     /// The key of a board that restarts go back to.
-    pub(crate) fn restart_key(&self, number: usize) -> PackedKey<N>
+    pub(crate) fn restart_key(&self, number: u32) -> PackedKey<N>
         requires { number < length self.now.restarts }
         ensures words { result.words ≡ slice_index_or self.now.restarts number [] }
         ensures known { IsKey self.now.packed result.words }
     {
-        match self.restarts.get_index(number) {
+        match self.restarts.get_index(number as usize) {
             Some(key) => *key,
             None => unreachable!(),
         }

@@ -1,10 +1,11 @@
-//! Levels that are searched.
+//! Levels that are solved: won by the fewest keys, never won, or not known to be.
 
-use crate::solved::{NotSearched, Solved, Unsolved};
-use crate::solving::{KeysPlayed, solve_after, solve_level};
-use ps_game::read_game;
+use crate::playable::playable_game;
 use ps_model::{Input, Key};
-use ps_search::{Unwatched, Watcher};
+use ps_solve::{
+    KeysPlayed, NotSearched, Solved, SolvedHere, Unsolved, Unwatched, Watcher, solve_after,
+    solve_level,
+};
 use std::process::Abort;
 
 /// The text of a game up to its rules.
@@ -44,7 +45,7 @@ fn shown(solved: &Solved) -> (&'static str, usize, u32) {
     }
 }
 
-/// Searches the level of a game with these lines below its names.
+/// Solves the first level of a game with these lines below its names.
 fn solved<T: Watcher>(
     rt: &(impl Abort + AllocGlobal),
     lines: &str,
@@ -53,8 +54,34 @@ fn solved<T: Watcher>(
     watcher: &mut T,
 ) -> Solved {
     let text = format!(in rt.alloc(); "{NAMES}{lines}{level}").expect(rt, "memory for a text");
-    let game = read_game(rt.alloc(), text.as_bytes()).expect(rt, "a game");
+    let game = playable_game(rt.alloc(), text.as_bytes()).expect(rt, "a game");
     solve_level(rt.alloc(), &game, 0, limit, watcher).expect(rt, "a search")
+}
+
+/// Solves a level of a game of three entries, a level, a message and a level, from where keys lead.
+fn solved_after(
+    rt: &(impl Abort + AllocGlobal),
+    entry: usize,
+    keys: &[Key],
+) -> Result<SolvedHere, NotSearched> {
+    let levels = "P*O\n\nmessage Hello\n\nP.*.O\n";
+    let text = format!(in rt.alloc(); "{NAMES}{PUSHING}{levels}").expect(rt, "memory for a text");
+    let game = playable_game(rt.alloc(), text.as_bytes()).expect(rt, "a game");
+    solve_after(
+        rt.alloc(),
+        &game,
+        KeysPlayed { entry, keys },
+        100,
+        &mut Unwatched,
+    )
+}
+
+/// Why nothing is searched.
+fn not_searched(solved: Result<SolvedHere, NotSearched>) -> Option<NotSearched> {
+    match solved {
+        Ok(_) => None,
+        Err(why) => Some(why),
+    }
 }
 
 #[test]
@@ -132,40 +159,27 @@ fn wide_keys_do_where_narrow_ones_are_full(rt: HostRuntime) {
 
 #[test]
 fn keys_lead_to_other_levels(rt: HostRuntime) {
-    let text = format!(in rt.alloc(); "{NAMES}{PUSHING}P*O\n\nmessage Hello\n\nP.*.O\n").expect(
-        &rt,
-        "memory for a text",
-    );
-    let game = read_game(rt.alloc(), text.as_bytes()).expect(&rt, "a game");
     let keys = [
         Key::Move(Input::Right),
         Key::Move(Input::Action),
         Key::Move(Input::Right),
     ];
-    let played = KeysPlayed {
-        entry: 0,
-        keys: &keys,
-    };
-    let here = solve_after(rt.alloc(), &game, played, 100, &mut Unwatched).expect(&rt, "a search");
+    let here = solved_after(&rt, 0, &keys).expect(&rt, "a search");
     assert_eq!(rt; here.entry, 2);
     assert_eq!(rt; shown(&here.solved), ("won", 2, 0));
-    let message = KeysPlayed {
-        entry: 0,
-        keys: &keys[..1],
-    };
-    let none = solve_after(rt.alloc(), &game, message, 100, &mut Unwatched);
-    match none {
-        Err(why) => assert_eq!(rt; why, NotSearched::NoLevel),
-        Ok(_) => assert!(rt; false)
-    }
-    let second = solve_level(rt.alloc(), &game, 2, 100, &mut Unwatched).expect(&rt, "a search");
-    assert_eq!(rt; shown(&second), ("won", 3, 0));
-    match solve_level(rt.alloc(), &game, 1, 100, &mut Unwatched) {
-        Err(why) => assert_eq!(rt; why, NotSearched::NoLevel),
-        Ok(_) => assert!(rt; false)
-    }
-    match solve_level(rt.alloc(), &game, 9, 100, &mut Unwatched) {
-        Err(why) => assert_eq!(rt; why, NotSearched::NoLevel),
-        Ok(_) => assert!(rt; false)
-    }
+    let back = [Key::Move(Input::Right), Key::Undo];
+    let again = solved_after(&rt, 2, &back).expect(&rt, "a search");
+    assert_eq!(rt; shown(&again.solved), ("won", 3, 0));
+}
+
+#[test]
+fn no_level_is_played_at_a_message(rt: HostRuntime) {
+    let no_level = Some(NotSearched::NoLevel);
+    assert_eq!(rt;
+        not_searched(solved_after(&rt, 0, &[Key::Move(Input::Right)])),
+        no_level
+    );
+    assert_eq!(rt; not_searched(solved_after(&rt, 1, &[])), no_level);
+    assert_eq!(rt; not_searched(solved_after(&rt, 3, &[])), no_level);
+    assert_eq!(rt; not_searched(solved_after(&rt, 0, &[Key::Quit])), no_level);
 }
