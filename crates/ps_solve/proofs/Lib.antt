@@ -5,3 +5,4 @@ mod Standing
 mod FromSessions
 mod PlayedKeys
 mod AlikeLevels
+mod SourceLevels

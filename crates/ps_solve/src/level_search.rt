@@ -1,15 +1,16 @@
 //! The search of a level.
 
-ghost use Rattle.std.specs.Prelude.{◌≡◌, ◌<◌, ℕ, IfOk, Some, length};
+ghost use Rattle.std.specs.Prelude.{◌≡◌, ◌<◌, ℕ, IfOk, Option, Some, length};
 ghost use Rattle.ps_model.specs.session.Sessions.{Session};
-ghost use Rattle.ps_model.specs.session.Solving.{spot};
+ghost use Rattle.ps_model.specs.session.Solving.{Spot, spot};
 ghost use Rattle.ps_model.specs.board.Turns.{Script};
+ghost use Rattle.ps_search.specs.Steps.{IsStep};
 ghost use Rattle.ps_trial.specs.Scripts.{PlaysAs};
 ghost use Rattle.ps_trial.specs.SilentStarts.{spot_with};
-ghost use Rattle.ps_trial.specs.Told.{waits_shown};
+ghost use Rattle.ps_trial.specs.Told.{pressed_shown, waits_shown};
 ghost use Rattle.ps_solve.specs.Searches.{key_parts, script_of, start_of};
 ghost use Rattle.ps_solve.specs.SolvedLevels.{IsSolved};
-ghost use Rattle.ps_solve.specs.SpotKeys.{IsSpotKey};
+ghost use Rattle.ps_solve.specs.SpotKeys.{IsAt, IsSpotKey, KeepsKeys, spot_at};
 
 use crate::solved::{Solved, told};
 use crate::spot_keys::{SpotKey, SpotKeys};
@@ -61,6 +62,7 @@ impl<'g, W: ColumnWords, const N: usize> Drop for LevelSearch<'g, W, N> {
 }
 
 impl<'g, W: ColumnWords, const N: usize> Model for LevelSearch<'g, W, N> {
+    ghost use Rattle.std.specs.Prelude.{◌≤◌};
     ghost use Rattle.ps_solve.specs.Searches.{IsStanding, SearchValue, key_parts, script_of};
 
     ghost Value = { SearchValue };
@@ -72,7 +74,7 @@ impl<'g, W: ColumnWords, const N: usize> Model for LevelSearch<'g, W, N> {
       at = key_parts s.at.board.words s.at.restart s.at.waits;
     } };
 
-    ghost invariant = { λ s. IsStanding s.keys s.trial (⟦<RowBoard<W> as Board>⟧.grid s.board.value)
+    ghost invariant = { λ s. (N ≤ 64) × IsStanding s.keys s.trial (⟦<RowBoard<W> as Board>⟧.grid s.board.value)
         (⟦<RowBoard<W> as Board>⟧.table s.board.value) (key_parts s.start.board.words s.start.restart s.start.waits)
         (key_parts s.at.board.words s.at.restart s.at.waits) };
 }
@@ -89,6 +91,36 @@ fn boxed_copy<B: Board>(alloc: Global, board: &B) -> Result<Box<B>, Memory>
     let copy = board.try_copy(alloc)?;
     let copy = Box::new(alloc, copy)?;
     Ok(copy)
+}
+
+/// The step of the input that was tried last at the spot of a key.
+///
+/// # Errors
+///
+/// Why the spot to which it led has no key, and each key stands for what it did.
+fn step_to<W: ColumnWords, const N: usize>(
+    keys: &mut SpotKeys<W, N>,
+    at: &SpotKey<N>,
+    trial: &Trial<'_, RowBoard<W>>,
+    pressed: Pressed,
+) -> Result<Step<SpotKey<N>>, NotPacked>
+    requires { IsAt keys.old trial.now at.now.board.words at.now.restart }
+    ensures led { IfOk result (λ step. (came : Option Spot)
+        → came ≡ pressed_shown pressed (spot_with trial.now.here (waits_shown at.now.waits)) trial.now.there
+        → IsStep (λ key. IsSpotKey keys.new key.board.words key.restart)
+        (λ key. spot_at keys.new key.board.words key.restart key.waits)
+        (spot_with trial.now.here (waits_shown at.now.waits)) came step) }
+    ensures kept { KeepsKeys keys.old keys.new }
+    ensures own { keys.new.packed.table ≡ keys.old.packed.table }
+{
+    match pressed {
+        Pressed::Same => Ok(Step::Same),
+        Pressed::Past => Ok(Step::Past),
+        Pressed::To(waits) => match keys.pack(at, trial, waits) {
+            Ok(key) => Ok(Step::To(key)),
+            Err(fault) => Err(fault),
+        },
+    }
 }
 
 impl<'g, W: ColumnWords, const N: usize> LevelSearch<'g, W, N> {
@@ -211,15 +243,11 @@ impl<'g, W: ColumnWords, const N: usize> Moves for LevelSearch<'g, W, N> {
     }
 
     fn step(&mut self, input: Input) -> Result<Step<SpotKey<N>>, NotPacked> {
-        match self.trial.press(&mut self.rules, self.at.waits, input) {
-            Err(_) => Err(NotPacked::Memory),
-            Ok(Pressed::Same) => Ok(Step::Same),
-            Ok(Pressed::Past) => Ok(Step::Past),
-            Ok(Pressed::To(waits)) => match self.keys.pack(&self.at, &self.trial, waits) {
-                Ok(key) => Ok(Step::To(key)),
-                Err(fault) => Err(fault),
-            },
-        }
+        let pressed = match self.trial.press(&mut self.rules, self.at.waits, input) {
+            Ok(pressed) => pressed,
+            Err(_) => return Err(NotPacked::Memory),
+        };
+        step_to(&mut self.keys, &self.at, &self.trial, pressed)
     }
 
     ghost one_place = { Prim.search (rules, nat_tests) };

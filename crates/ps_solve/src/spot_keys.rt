@@ -1,6 +1,6 @@
 //! Keys of spots, and what they stand for.
 
-ghost use Rattle.std.specs.Prelude.{◌≡◌, ◌<◌, IfOk, Some, length, replicate, slice_index_or, []};
+ghost use Rattle.std.specs.Prelude.{◌≡◌, ◌<◌, ◌≤◌, IfOk, Some, length, replicate, slice_index_or, []};
 ghost use Rattle.ps_board.specs.Rows.{DifferOnlyOn};
 ghost use Rattle.ps_rows.specs.Packings.{IsKey, packed_grid};
 ghost use Rattle.ps_trial.specs.SilentStarts.{spot_with};
@@ -14,6 +14,9 @@ use ps_rows::{NotPacked, PackedKey, RowBoard, RowPacking};
 use ps_trial::{Pending, Trial};
 use std::alloc::Global;
 use std::marker::Model;
+
+/// How many words the widest keys have.
+pub(crate) const MOST_WORDS: usize = 64;
 
 /// What a search keeps of a spot.
 #[derive(Clone, Copy, PartialEq, Eq, Hash)]
@@ -44,7 +47,7 @@ impl<W: ColumnWords, const N: usize> Drop for SpotKeys<W, N> {
 }
 
 impl<W: ColumnWords, const N: usize> Model for SpotKeys<W, N> {
-    ghost use Rattle.std.specs.Prelude.{map};
+    ghost use Rattle.std.specs.Prelude.{◌≤◌, map};
     ghost use Rattle.ps_solve.specs.SpotKeys.{AreKeys, KeyTable};
 
     ghost Value = { KeyTable };
@@ -54,7 +57,7 @@ impl<W: ColumnWords, const N: usize> Model for SpotKeys<W, N> {
       restarts = map (λ key. key.words) k.restarts.keys;
     } };
 
-    ghost invariant = { λ k. AreKeys k.packing (map (λ key. key.words) k.restarts.keys) };
+    ghost invariant = { λ k. (N ≤ 64) × AreKeys k.packing (map (λ key. key.words) k.restarts.keys) };
 }
 
 impl<W: ColumnWords, const N: usize> SpotKeys<W, N> {
@@ -63,13 +66,18 @@ impl<W: ColumnWords, const N: usize> SpotKeys<W, N> {
     ///
     /// # Errors
     ///
-    /// `Moves`, where it isn't known that nothing moves at the start, or `Memory`.
+    /// `Full`, where keys would be wider than `MOST_WORDS`; `Moves`, where it isn't known that nothing moves at the
+    /// start; or `Memory`.
     pub(crate) fn try_new(alloc: Global, start: &RowBoard<W>) -> Result<SpotKeys<W, N>, NotPacked>
         ensures start { IfOk result (λ keys.
             packed_grid keys.packed (replicate N 0) ≡ ⟦<RowBoard<W> as Board>⟧.grid start.now) }
         ensures known { IfOk result (λ keys. IsKey keys.packed (replicate N 0)) }
         ensures table { IfOk result (λ keys. Some keys.packed.table ≡ ⟦<RowBoard<W> as Board>⟧.table start.now) }
+        ensures narrow { IfOk result (λ keys. N ≤ 64) }
     {
+        if N > MOST_WORDS {
+            return Err(NotPacked::Full);
+        }
         let packing = RowPacking::try_new(alloc, start)?;
         Ok(SpotKeys {
             packing,

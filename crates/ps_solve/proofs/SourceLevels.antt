@@ -1,0 +1,53 @@
+-- What an answer says of a game in play is true of the game as its text means it.
+use Rattle.std.proofs.Common.{◌≡◌, ◌∙◌, ◌≢◌, ℕ, List, Option, Some, None, Ok, Err, Result, sym, ap, subst}
+use Rattle.ps_model.specs.declared.play.Input.{Input}
+use Rattle.ps_model.specs.declared.play.Key.{Key}
+use Rattle.ps_model.specs.board.Turns.{Script, script_at}
+use Rattle.ps_model.specs.game.Games.{Game, game}
+use Rattle.ps_model.specs.game.Outputs.{opening_step}
+use Rattle.ps_model.specs.session.Sessions.{Session}
+use Rattle.ps_model.specs.session.Solving.{session_after_inputs}
+use Rattle.ps_laws.specs.AlikeScripts.{SameRuns}
+use Rattle.ps_program.specs.ProgramShown.{sections_shown}
+use Rattle.ps_program.specs.declared.program.CompiledSection.{CompiledSection}
+use Rattle.ps_rulebook.specs.PlayedGames.{AreCompiled, parts_at}
+use Rattle.ps_rulebook.proofs.PlayedGames.{games-play_as_written}
+use Rattle.ps_rulebook.proofs.RowRooms.{rows_give_room}
+use Rattle.ps_run.specs.GamesInPlay.{script_on}
+use Rattle.ps_run.proofs.Scripts.{own_table, script_is}
+use Rattle.ps_solve.specs.declared.solved.NotSearched.{NotSearched}
+use Rattle.ps_solve.specs.declared.solved.NotSearched.TheVariants.{NoLevel}
+use Rattle.ps_solve.specs.declared.solved.Solved.{Solved}
+use Rattle.ps_solve.specs.declared.solved.SolvedHere.{SolvedHere}
+use Rattle.ps_solve.specs.SolvedLevels.{IsSolvedAfter, IsSolvedAt, IsSolvedHere, IsSolvedIn, IsIn, IsSolved, entry_in}
+use Rattle.ps_solve.proofs.AlikeLevels.{here_alike, in_one_level}
+use Rattle.ps_solve.proofs.PlayedKeys.{played, same_inputs}
+
+-- the entry that is told is that of the session
+pub here_in : (script : Script) (session : Session) (limit entry : ℕ) (solved : Solved) → entry ≡ entry_in session →
+    IsSolvedIn script session limit (Some solved) →
+    IsSolvedHere script session limit (Some (record { entry = entry; solved = solved }))
+here_in script session limit entry solved e is =
+    subst (λ (own : ℕ). IsIn own session × IsSolved script own session limit solved) (sym e) is
+
+-- a game that is played by its compiled programs has the runs of the game as it is written
+pub runs_as_written : (text : List ℕ) (read : Game) (entry : ℕ) (plain late : List CompiledSection) (script : Script) →
+    game text ≡ Some read → AreCompiled read.names read.rules (sections_shown plain) (sections_shown late) →
+    script ≡ script_on (parts_at read entry) plain late → SameRuns script (script_at read entry)
+runs_as_written text read entry plain late script is made own =
+    subst (λ (s : Script). SameRuns s (script_at read entry)) (sym (own ∙ script_is (parts_at read entry) plain late))
+    (games-play_as_written text read is entry plain late made own_table rows_give_room)
+
+-- what is found from a session that keys lead to is so of the source, where scripts have the same runs
+pub found_after : (script source : Script) (session : Session) (keys : List Key) (limit : ℕ) (found : Option SolvedHere) →
+    SameRuns script source → session ≡ played script keys → IsSolvedHere script session limit found →
+    IsSolvedHere source (played source keys) limit found
+found_after script source session keys limit found runs came is =
+    here_alike script source session (played source keys)
+    (λ inputs. ap (λ (s : Session). session_after_inputs script s inputs) came
+    ∙ same_inputs script source runs keys inputs) limit found is
+
+-- the level of an entry is another one than that of the session
+pub other_level : (script : Script) (session : Session) (limit entry other : ℕ) → entry ≢ other → IsIn other session →
+    IsSolvedAt script entry session limit (Err NoLevel)
+other_level script session limit entry other differ at = in_one_level entry other session differ at
