@@ -32,8 +32,10 @@ other_place : (entry other at : ℕ) (play : Play) (pending : Option Pending) (h
     spot_of (at == entry) play pending ≡ None
 other_place entry other at play pending here differ e =
     let is : (at == other) ≡ true = nowhere_else (at == other) play pending here e in
-    let isn't : (at == entry) ≡ false = grind (arith, nat_tests) in
-    ap (λ (same : Bool). spot_of same play pending) isn't
+    let same : at ≡ other = grind (arith, nat_tests) in
+    let apart : at ≢ entry = λ both. differ (sym both ∙ same) in
+    let no_place : (at == entry) ≡ false = grind (arith, nat_tests) in
+    ap (λ (own : Bool). spot_of own play pending) no_place
 
 -- a session is in one level
 pub in_one_level : (entry other : ℕ) (session : Session) → entry ≢ other → IsIn other session →

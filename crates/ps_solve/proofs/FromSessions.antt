@@ -1,16 +1,17 @@
 -- Searches from sessions.
-use Rattle.std.proofs.Common.{◌≡◌, ◌∙◌, ◌==◌, ℕ, true, Option, Some, None, List, refl, sym, ap, subst, arith}
+use Rattle.std.proofs.Common.{◌≡◌, ◌∙◌, ◌==◌, ℕ, Bool, true, Option, Some, None, List, refl, sym, ap, subst, arith}
 use Rattle.std.proofs.lemmas.Bool.Decides.{nat_tests}
 use Rattle.ps_model.specs.board.Grid.{Grid}
 use Rattle.ps_model.specs.board.Turns.{Script}
 use Rattle.ps_model.specs.names.Names.{Names}
+use Rattle.ps_model.specs.session.Sessions as model
 use Rattle.ps_model.specs.session.Sessions.{Play, Session}
 use Rattle.ps_model.specs.session.Solving.{Spot, spot, spot_of}
 use Rattle.ps_program.specs.declared.program.CompiledSection.{CompiledSection}
 use Rattle.ps_rulebook.specs.PlayedGames.{meant_of}
 use Rattle.ps_run.specs.GamesInPlay.{GameInPlay, script_in, script_on}
 use Rattle.ps_stage.specs.Standings.{SessionParts, script_for, turn_parts}
-use Rattle.ps_stage.specs.StepsShown.{stands}
+use Rattle.ps_stage.specs.StepsShown.{pending_shown, stands}
 use Rattle.ps_stage.specs.declared.locations.Pending as staged
 use Rattle.ps_trial.specs.Desks.{Basis}
 use Rattle.ps_trial.specs.Scripts.{PlaysAs}
@@ -23,10 +24,30 @@ use Rattle.ps_solve.specs.SolvedLevels.{IsIn, entry_in}
 own_place : (n : ℕ) → (n == n) ≡ true
 own_place n = grind (arith, nat_tests)
 
+-- what a message goes on with, where one waits
+abbrev waits_staged : Option staged.Pending → Option model.Pending
+waits_staged None = None
+waits_staged (Some pending) = Some (pending_shown pending)
+
+-- a level that is played is at its spot
+pub stands_at_spot : (waits : Option staged.Pending) (play : Play) →
+    spot play.entry (stands waits play) ≡ spot_of true play (waits_staged waits)
+stands_at_spot None play = ap (λ (same : Bool). spot_of same play None) (own_place play.entry)
+stands_at_spot (Some pending) play =
+    ap (λ (same : Bool). spot_of same play (Some (pending_shown pending))) (own_place play.entry)
+
 -- a level that is played is that of its entry
 pub stands_in : (waits : Option staged.Pending) (play : Play) → IsIn (entry_in (stands waits play)) (stands waits play)
-stands_in None play = (_, ap (λ same. spot_of same play None) (own_place play.entry))
-stands_in (Some pending) play = (_, ap (λ same. spot_of same play (Some _)) (own_place play.entry))
+stands_in None play =
+    let here : Spot = record { board = play.board; restart_board = play.restart_board; waits = None } in
+    (here, stands_at_spot None play)
+stands_in (Some pending) play =
+    let here : Spot = record {
+      board = play.board;
+      restart_board = play.restart_board;
+      waits = Some (pending_shown pending);
+    } in
+    (here, stands_at_spot (Some pending) play)
 
 pub is_in : (session : Session) (waits : Option staged.Pending) (play : Play) → session ≡ stands waits play →
     IsIn (entry_in session) session
@@ -78,13 +99,13 @@ pub plays_there : (play row : GameInPlay) (game : SessionParts) (plain late : Li
     PlaysAs (script_in play) (script_for own_table game (meant_of plain) (meant_of late))
 unfolding script_on
 plays_there play row game plain late same own p l =
-    let names : play.game.names ≡ game.names = sym (ap (λ (s : Script). s.names) same) ∙ sym (ap (λ g. g.names) own) in
+    let names : play.game.names ≡ game.names = sym (ap (λ (s : Script). s.names) same) ∙ sym (ap (λ (g : SessionParts). g.names) own) in
     record {
-      options = sym (ap (λ (s : Script). s.options) same) ∙ sym (ap (λ g. g.options) own);
+      options = sym (ap (λ (s : Script). s.options) same) ∙ sym (ap (λ (g : SessionParts). g.options) own);
       names = names;
       plain = ap (λ (n : Names). meant_of play.plain (own_table n.layers)) names
           ∙ ap (λ (s : List CompiledSection). meant_of s (own_table game.names.layers)) (sym p);
       late = ap (λ (n : Names). meant_of play.late (own_table n.layers)) names
           ∙ ap (λ (s : List CompiledSection). meant_of s (own_table game.names.layers)) (sym l);
-      wins = sym (ap (λ (s : Script). s.wins) same) ∙ sym (ap (λ g. g.wins) own);
+      wins = sym (ap (λ (s : Script). s.wins) same) ∙ sym (ap (λ (g : SessionParts). g.wins) own);
     }

@@ -1,5 +1,6 @@
 -- Scripts with the same runs come to the same sessions by keys.
-use Rattle.std.proofs.Common.{◌≡◌, ◌∙◌, ℕ, zero, ◌==◌, false, List, [], ◌∷◌, ◌++◌, None, Some, map, refl, sym, ap}
+use Rattle.std.proofs.Common.{◌≡◌, ◌∙◌, ℕ, zero, ◌==◌, ◌&&◌, Bool, false, List, [], ◌∷◌, ◌++◌, Option, None, Some, map}
+use Rattle.std.proofs.Common.{if◌then◌else◌, refl, sym, ap}
 use Rattle.std.specs.Prelude.{option_to_list}
 use Rattle.ps_model.specs.declared.play.Input.{Input}
 use Rattle.ps_model.specs.declared.play.Input.TheVariants.{Up, Down, Left, Right, Action}
@@ -7,7 +8,7 @@ use Rattle.ps_model.specs.declared.play.Key.{Key}
 use Rattle.ps_model.specs.declared.play.Key.TheVariants.{Move, Undo, Restart, Quit}
 use Rattle.ps_model.specs.board.Turns.{Script}
 use Rattle.ps_model.specs.game.Outputs.{opening_step}
-use Rattle.ps_model.specs.session.Keys.{key_of, keys_behind, keys_of, leading_arrow}
+use Rattle.ps_model.specs.session.Keys.{arrow_of, key_of, keys_behind, keys_of, leading_arrow}
 use Rattle.ps_model.specs.session.KeySteps.{key_step}
 use Rattle.ps_model.specs.session.Sessions.{Session}
 use Rattle.ps_model.specs.session.Solving.{session_after_inputs}
@@ -50,19 +51,25 @@ no_escape Quit = refl
 no_arrow : (byte : ℕ) (bytes : List ℕ) → (byte == 27) ≡ false → leading_arrow (byte ∷ bytes) ≡ None
 no_arrow byte [] e = refl
 no_arrow byte (second ∷ []) e = refl
-no_arrow byte (second ∷ third ∷ others) e = rw e refl
+no_arrow byte (second ∷ third ∷ others) e =
+    ap (λ (is_escape : Bool). if is_escape && second == 91 then arrow_of third else None) e
 
 key_first : (byte : ℕ) (bytes : List ℕ) → leading_arrow (byte ∷ bytes) ≡ None →
     keys_behind zero (byte ∷ bytes) ≡ option_to_list (key_of byte) ++ keys_behind 0 bytes
-key_first byte bytes e = rw e refl
+key_first byte bytes e =
+    let by : Option Key → List Key = λ found. elim found [
+      | Some key ↦ key ∷ keys_behind 2 bytes
+      | None ↦ option_to_list (key_of byte) ++ keys_behind 0 bytes
+    ] in
+    ap by e
 
 -- the keys of the bytes of keys
 keys_are : (keys : List Key) → keys_of (map byte_of keys) ≡ keys
 keys_are [] = refl
 keys_are (key ∷ keys) =
     key_first (byte_of key) (map byte_of keys) (no_arrow (byte_of key) (map byte_of keys) (no_escape key))
-    ∙ ap (λ found. option_to_list found ++ keys_behind 0 (map byte_of keys)) (key_is key)
-    ∙ ap (λ others. key ∷ others) (keys_are keys)
+    ∙ ap (λ (found : Option Key). option_to_list found ++ keys_behind 0 (map byte_of keys)) (key_is key)
+    ∙ ap (λ (others : List Key). key ∷ others) (keys_are keys)
 
 -- inputs are keys
 inputs_are : (script : Script) (session : Session) (inputs : List Input) →

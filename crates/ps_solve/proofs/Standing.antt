@@ -3,7 +3,8 @@ use Rattle.std.proofs.Common.{◌≡◌, ◌∙◌, ◌<◌, ℕ, List, Option, 
 use Rattle.ps_model.specs.board.Grid.{Grid}
 use Rattle.ps_model.specs.session.Solving.{Spot}
 use Rattle.ps_rows.specs.Packings.{IsKey, Packed, packed_grid}
-use Rattle.ps_trial.specs.Desks.{TrialValue}
+use Rattle.ps_trial.specs.Desks.{Basis, TrialValue}
+use Rattle.ps_trial.specs.SilentStarts.{Boards}
 use Rattle.ps_trial.specs.declared.told.Pending.{Pending}
 use Rattle.ps_turn.specs.States.{HaveSameSides}
 use Rattle.ps_solve.specs.Searches.{KeyParts, IsStanding, key_parts}
@@ -24,9 +25,9 @@ pub at_same : (keys : KeyTable) (before now : TrialValue) (words : List ℕ) (re
     now.here ≡ before.here → IsAt keys before words restart → IsAt keys now words restart
 at_same keys before now words restart basis here at = record {
   known = at.known;
-  own = ap (λ b. b.table) basis ∙ at.own;
-  board = ap (λ h. h.board) here ∙ at.board;
-  restart_board = ap (λ h. h.restart_board) here ∙ at.restart_board;
+  own = ap (λ (b : Basis). b.table) basis ∙ at.own;
+  board = ap (λ (h : Boards). h.board) here ∙ at.board;
+  restart_board = ap (λ (h : Boards). h.restart_board) here ∙ at.restart_board;
 }
 
 module _ (keys : KeyTable) (own_grid : Grid) (own_table : Option (List ℕ)) (start at : KeyParts) where
@@ -60,7 +61,7 @@ module _ (keys : KeyTable) (own_grid : Grid) (own_table : Option (List ℕ)) (st
   stands_at before now grid table words restart waits stands known basis board restart_board shows same = record {
     at = record {
       known = known;
-      own = ap (λ b. b.table) basis ∙ stands.at.own;
+      own = ap (λ (b : Basis). b.table) basis ∙ stands.at.own;
       board = board ∙ shows;
       restart_board = restart_board;
     };
