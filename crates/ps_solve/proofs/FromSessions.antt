@@ -3,13 +3,11 @@ use Rattle.std.proofs.Common.{◌≡◌, ◌∙◌, ◌==◌, ℕ, Bool, true, O
 use Rattle.std.proofs.lemmas.Bool.Decides.{nat_tests}
 use Rattle.ps_model.specs.board.Grid.{Grid}
 use Rattle.ps_model.specs.board.Turns.{Script}
-use Rattle.ps_model.specs.names.Names.{Names}
 use Rattle.ps_model.specs.session.Sessions as model
 use Rattle.ps_model.specs.session.Sessions.{Play, Session}
 use Rattle.ps_model.specs.session.Solving.{Spot, spot, spot_of}
 use Rattle.ps_program.specs.declared.program.CompiledSection.{CompiledSection}
 use Rattle.ps_rulebook.specs.PlayedGames.{meant_of}
-use Rattle.ps_run.specs.GamesInPlay.{GameInPlay, script_in, script_on}
 use Rattle.ps_stage.specs.Standings.{SessionParts, script_for, turn_parts}
 use Rattle.ps_stage.specs.StepsShown.{pending_shown, stands}
 use Rattle.ps_stage.specs.declared.locations.Pending as staged
@@ -72,9 +70,6 @@ spot_is session waits play here is at =
 
 -- scripts -------------------------------------------------------------------------------------------------------------
 
-abbrev own_table : List ℕ → Option (List ℕ)
-own_table layers = Some layers
-
 -- a script that is played as a game is by sections is played as the turns of a search are
 pub plays_parts : (script own : Script) (table_for : List ℕ → Option (List ℕ)) (game : SessionParts)
     (plain late own_plain own_late : List CompiledSection) → own_plain ≡ plain → own_late ≡ late →
@@ -92,20 +87,3 @@ plays_parts script own table_for game plain late own_plain own_late p l is plays
       late = plays.late;
       wins = plays.wins;
     })
-
--- a game in play is played by the same sections, wherever its session keeps it
-pub plays_there : (play row : GameInPlay) (game : SessionParts) (plain late : List CompiledSection) →
-    script_in row ≡ script_in play → game ≡ row.game → plain ≡ play.plain → late ≡ play.late →
-    PlaysAs (script_in play) (script_for own_table game (meant_of plain) (meant_of late))
-unfolding script_on
-plays_there play row game plain late same own p l =
-    let names : play.game.names ≡ game.names = sym (ap (λ (s : Script). s.names) same) ∙ sym (ap (λ (g : SessionParts). g.names) own) in
-    record {
-      options = sym (ap (λ (s : Script). s.options) same) ∙ sym (ap (λ (g : SessionParts). g.options) own);
-      names = names;
-      plain = ap (λ (n : Names). meant_of play.plain (own_table n.layers)) names
-          ∙ ap (λ (s : List CompiledSection). meant_of s (own_table game.names.layers)) (sym p);
-      late = ap (λ (n : Names). meant_of play.late (own_table n.layers)) names
-          ∙ ap (λ (s : List CompiledSection). meant_of s (own_table game.names.layers)) (sym l);
-      wins = sym (ap (λ (s : Script). s.wins) same) ∙ sym (ap (λ (g : SessionParts). g.wins) own);
-    }
