@@ -1,5 +1,6 @@
 -- Where a search stands, as it goes from spot to spot.
 use Rattle.std.proofs.Common.{◌≡◌, ◌∙◌, ◌<◌, ℕ, List, Option, Some, None, length, refl, sym, ap}
+use Rattle.ps_board.specs.Histories.{BoardShown}
 use Rattle.ps_model.specs.board.Grid.{Grid}
 use Rattle.ps_model.specs.session.Solving.{Spot}
 use Rattle.ps_rows.specs.Packings.{IsKey, Packed, packed_grid}
@@ -30,12 +31,12 @@ at_same keys before now words restart basis here at = record {
   restart_board = ap (λ (h : Boards). h.restart_board) here ∙ at.restart_board;
 }
 
-module _ (keys : KeyTable) (own_grid : Grid) (own_table : Option (List ℕ)) (start at : KeyParts) where
+module _ (keys : KeyTable) (board : BoardShown) (first here : KeyParts) where
   -- a search that is still there
   pub stands_still : (before now : TrialValue) → now.basis ≡ before.basis → now.here ≡ before.here →
-      IsStanding keys before own_grid own_table start at → IsStanding keys now own_grid own_table start at
-  stands_still before now basis here stands = record {
-    at = at_same keys before now at.words at.restart basis here stands.at;
+      IsStanding keys before board first here → IsStanding keys now board first here
+  stands_still before now basis same stands = record {
+    at = at_same keys before now here.words here.restart basis same stands.at;
     start = stands.start;
     own_grid = stands.own_grid;
     own_table = stands.own_table;
@@ -43,29 +44,29 @@ module _ (keys : KeyTable) (own_grid : Grid) (own_table : Option (List ℕ)) (st
 
   -- where keys keep their meanings
   pub stands_on : (new : KeyTable) (trial : TrialValue) → KeepsKeys keys new → new.packed.table ≡ keys.packed.table →
-      IsStanding keys trial own_grid own_table start at → IsStanding new trial own_grid own_table start at
+      IsStanding keys trial board first here → IsStanding new trial board first here
   stands_on new trial keeps own stands = record {
-    at = at_kept keys new keeps trial at.words at.restart own stands.at;
-    start = (keeps start.words start.restart None stands.start).0;
+    at = at_kept keys new keeps trial here.words here.restart own stands.at;
+    start = (keeps first.words first.restart None stands.start).0;
     own_grid = stands.own_grid
-        ∙ sym (ap (λ (s : Spot). s.board) (keeps at.words at.restart None stands.at.known).1);
+        ∙ sym (ap (λ (s : Spot). s.board) (keeps here.words here.restart None stands.at.known).1);
     own_table = stands.own_table ∙ ap Some (sym own);
   }
 
   -- a search that has gone to the spot of another key
-  pub stands_at : (before now : TrialValue) (grid : Grid) (table : Option (List ℕ)) (words : List ℕ) (restart : ℕ)
-      (waits : Option Pending) → IsStanding keys before own_grid own_table start at → IsSpotKey keys words restart →
-      now.basis ≡ before.basis → now.here.board ≡ grid → now.here.restart_board ≡ restart_grid keys restart →
-      grid ≡ packed_grid keys.packed words → table ≡ own_table →
-      IsStanding keys now grid table start (key_parts words restart waits)
-  stands_at before now grid table words restart waits stands known basis board restart_board shows same = record {
+  pub stands_at : (before now : TrialValue) (own : BoardShown) (words : List ℕ) (restart : ℕ) (waits : Option Pending) →
+      IsStanding keys before board first here → IsSpotKey keys words restart →
+      now.basis ≡ before.basis → now.here.board ≡ own.grid → now.here.restart_board ≡ restart_grid keys restart →
+      own.grid ≡ packed_grid keys.packed words → own.table ≡ board.table →
+      IsStanding keys now own first (key_parts words restart waits)
+  stands_at before now own words restart waits stands known basis shows restart_board is same = record {
     at = record {
       known = known;
       own = ap (λ (b : Basis). b.table) basis ∙ stands.at.own;
-      board = board ∙ shows;
+      board = shows ∙ is;
       restart_board = restart_board;
     };
     start = stands.start;
-    own_grid = shows;
+    own_grid = is;
     own_table = same ∙ stands.own_table;
   }

@@ -1,6 +1,6 @@
 -- A search of a level, as contracts see it.
 use Rattle.std.specs.Prelude.{◌≡◌, ℕ, List, Option, Some}
-use Rattle.ps_model.specs.board.Grid.{Grid}
+use Rattle.ps_board.specs.Histories.{BoardShown}
 use Rattle.ps_model.specs.board.Turns.{Script}
 use Rattle.ps_model.specs.session.Solving.{Spot}
 use Rattle.ps_engine.specs.RulesInRoom.{sections_meaning}
@@ -28,10 +28,16 @@ key_parts words restart waits = record { words = words; restart = restart; waits
 -- a search: the game by whose turns it goes, and what its keys rest on. It has the key of the spot where it begins, and
 -- that of the spot where it is
 pub record SearchValue : Type 0 where
-  pub script : Script
+  pub basis : Basis
+  pub plain : List CompiledSection
+  pub late : List CompiledSection
   pub keys : KeyTable
   pub start : KeyParts
   pub at : KeyParts
+
+-- that game
+abbrev pub played_by : SearchValue → Script
+played_by search = script_of search.basis search.plain search.late
 
 -- where it begins, and where it is
 abbrev pub start_of : SearchValue → Spot
@@ -41,9 +47,8 @@ abbrev pub here_of : SearchValue → Spot
 here_of search = spot_at search.keys search.at.words search.at.restart search.at.waits
 
 -- the trial is at the spot of a key, whose board a second board shows, and the start has a key
-pub record IsStanding (keys : KeyTable) (trial : TrialValue) (own_grid : Grid) (own_table : Option (List ℕ))
-    (start at : KeyParts) : Type 0 where
-  pub at : IsAt keys trial at.words at.restart
-  pub start : IsSpotKey keys start.words start.restart
-  pub own_grid : own_grid ≡ packed_grid keys.packed at.words
-  pub own_table : own_table ≡ Some keys.packed.table
+pub record IsStanding (keys : KeyTable) (trial : TrialValue) (board : BoardShown) (first here : KeyParts) : Type 0 where
+  pub at : IsAt keys trial here.words here.restart
+  pub start : IsSpotKey keys first.words first.restart
+  pub own_grid : board.grid ≡ packed_grid keys.packed here.words
+  pub own_table : board.table ≡ Some keys.packed.table

@@ -8,14 +8,15 @@ ghost use Rattle.ps_search.specs.Steps.{IsStep};
 ghost use Rattle.ps_trial.specs.Scripts.{PlaysAs};
 ghost use Rattle.ps_trial.specs.SilentStarts.{spot_with};
 ghost use Rattle.ps_trial.specs.Told.{pressed_shown, waits_shown};
-ghost use Rattle.ps_solve.specs.Searches.{key_parts, script_of, start_of};
+ghost use Rattle.ps_solve.specs.Searches.{key_parts, played_by, script_of, start_of};
 ghost use Rattle.ps_solve.specs.SolvedLevels.{IsSolved};
 ghost use Rattle.ps_solve.specs.SpotKeys.{IsAt, IsSpotKey, KeepsKeys, spot_at};
 
+use crate::own_boards::OwnBoard;
 use crate::solved::{Solved, told};
 use crate::spot_keys::{SpotKey, SpotKeys};
-use ps_board::{Board, ColumnWords};
-use ps_model::{Input, Memory};
+use ps_board::ColumnWords;
+use ps_model::Input;
 use ps_rows::{NotPacked, RowBoard};
 use ps_rulebook::GameRules;
 use ps_search::{Moves, Step, Watcher, search};
@@ -40,7 +41,7 @@ pub(crate) struct LevelSearch<'g, W: ColumnWords, const N: usize> {
     rules: TurnRules<GameRules<'g, 'g, RowBoard<W>>>,
     keys: SpotKeys<W, N>,
     /// A board of the search's own, on which keys are unpacked. It shows the board of the spot where the search is.
-    board: Box<RowBoard<W>>,
+    board: OwnBoard<RowBoard<W>>,
     /// The spot where the search begins.
     start: SpotKey<N>,
     /// The spot where it is.
@@ -63,34 +64,22 @@ impl<'g, W: ColumnWords, const N: usize> Drop for LevelSearch<'g, W, N> {
 
 impl<'g, W: ColumnWords, const N: usize> Model for LevelSearch<'g, W, N> {
     ghost use Rattle.std.specs.Prelude.{◌≤◌};
-    ghost use Rattle.ps_solve.specs.Searches.{IsStanding, SearchValue, key_parts, script_of};
+    ghost use Rattle.ps_solve.specs.Searches.{IsStanding, SearchValue, key_parts};
 
     ghost Value = { SearchValue };
 
     ghost view = { λ s. record {
-      script = script_of s.trial.basis s.rules.plain s.rules.late;
+      basis = s.trial.basis;
+      plain = s.rules.plain;
+      late = s.rules.late;
       keys = s.keys;
       start = key_parts s.start.board.words s.start.restart s.start.waits;
       at = key_parts s.at.board.words s.at.restart s.at.waits;
     } };
 
-    ghost invariant = { λ s. (N ≤ 64) × IsStanding s.keys s.trial (⟦<RowBoard<W> as Board>⟧.grid s.board.value)
-        (⟦<RowBoard<W> as Board>⟧.table s.board.value) (key_parts s.start.board.words s.start.restart s.start.waits)
+    ghost invariant = { λ s. (N ≤ 64) × IsStanding s.keys s.trial s.board
+        (key_parts s.start.board.words s.start.restart s.start.waits)
         (key_parts s.at.board.words s.at.restart s.at.waits) };
-}
-
-/// A board that shows what another one does.
-///
-/// # Errors
-///
-/// `Memory`.
-fn boxed_copy<B: Board>(alloc: Global, board: &B) -> Result<Box<B>, Memory>
-    ensures grid { IfOk result (λ copy. B.grid copy.value ≡ B.grid board.now) }
-    ensures table { IfOk result (λ copy. B.table copy.value ≡ B.table board.now) }
-{
-    let copy = board.try_copy(alloc)?;
-    let copy = Box::new(alloc, copy)?;
-    Ok(copy)
 }
 
 /// The step of the input that was tried last at the spot of a key.
@@ -136,13 +125,13 @@ impl<'g, W: ColumnWords, const N: usize> LevelSearch<'g, W, N> {
         rules: TurnRules<GameRules<'g, 'g, RowBoard<W>>>,
         waits: Option<Pending>,
     ) -> Result<LevelSearch<'g, W, N>, NotPacked>
-        ensures script { IfOk result (λ search. search.script ≡ script_of trial.basis rules.plain rules.late) }
+        ensures script { IfOk result (λ search. played_by search ≡ script_of trial.basis rules.plain rules.late) }
         ensures start { IfOk result (λ search. start_of search ≡ spot_with trial.here (waits_shown waits)) }
     {
         let mut keys = SpotKeys::try_new(alloc, trial.here())?;
         let start = keys.pack_start(&trial, waits)?;
         let at = start;
-        let Ok(board) = boxed_copy(alloc, trial.here()) else {
+        let Ok(board) = OwnBoard::copy_of(alloc, trial.here()) else {
             return Err(NotPacked::Memory);
         };
         Ok(LevelSearch {
@@ -158,7 +147,7 @@ impl<'g, W: ColumnWords, const N: usize> LevelSearch<'g, W, N> {
     /// Has the trial restart to the board with this number from then on, and goes to the spot of that board.
     fn restart_at(&mut self, number: u32)
         requires { number < length self.old.keys.restarts }
-        ensures script { self.new.script ≡ self.old.script }
+        ensures script { played_by self.new ≡ played_by self.old }
         ensures keys { self.new.keys ≡ self.old.keys }
         ensures start { self.new.start ≡ self.old.start }
         ensures at { self.new.at.restart ≡ number }
@@ -167,9 +156,9 @@ impl<'g, W: ColumnWords, const N: usize> LevelSearch<'g, W, N> {
             return;
         }
         let board = self.keys.restart_key(number);
-        self.keys.unpack(&self.at.board, &board, &mut *self.board);
-        self.trial.go_to(&*self.board);
-        self.trial.restart_at(&*self.board);
+        self.keys.unpack(&self.at.board, &board, &mut self.board);
+        self.trial.go_to(self.board.board());
+        self.trial.restart_at(self.board.board());
         self.at = SpotKey {
             board,
             restart: number,
@@ -181,14 +170,14 @@ impl<'g, W: ColumnWords, const N: usize> LevelSearch<'g, W, N> {
     fn go_to(&mut self, key: &SpotKey<N>)
         requires known { IsSpotKey self.old.keys key.now.board.words key.now.restart }
         requires restart { self.old.at.restart ≡ key.now.restart }
-        ensures script { self.new.script ≡ self.old.script }
+        ensures script { played_by self.new ≡ played_by self.old }
         ensures keys { self.new.keys ≡ self.old.keys }
         ensures start { self.new.start ≡ self.old.start }
         ensures at { self.new.at ≡ key_parts key.now.board.words key.now.restart key.now.waits }
     {
         self.keys
-            .unpack(&self.at.board, &key.board, &mut *self.board);
-        self.trial.go_to(&*self.board);
+            .unpack(&self.at.board, &key.board, &mut self.board);
+        self.trial.go_to(self.board.board());
         self.at = *key;
     }
 
@@ -199,7 +188,7 @@ impl<'g, W: ColumnWords, const N: usize> LevelSearch<'g, W, N> {
     /// It may run out of memory, the watcher may stop it, or a key may be full. Then the answer says up to which length no
     /// list leads past. It can be called again, and begins anew then.
     pub(crate) fn solve<T: Watcher>(&mut self, alloc: Global, limit: u32, watcher: &mut T) -> Solved
-        ensures solved { (script : Script) (entry : ℕ) (session : Session) → PlaysAs script self.old.script
+        ensures solved { (script : Script) (entry : ℕ) (session : Session) → PlaysAs script (played_by self.old)
             → spot entry session ≡ Some (start_of self.old) → IsSolved script entry session limit result }
     {
         let found = search(alloc, self, &INPUTS, limit, watcher);
@@ -209,7 +198,7 @@ impl<'g, W: ColumnWords, const N: usize> LevelSearch<'g, W, N> {
 
 impl<'g, W: ColumnWords, const N: usize> Moves for LevelSearch<'g, W, N> {
     ghost use Rattle.ps_model.specs.session.Solving.{Spot, next_spot};
-    ghost use Rattle.ps_solve.specs.Searches.{here_of, start_of};
+    ghost use Rattle.ps_solve.specs.Searches.{here_of, played_by, start_of};
     ghost use Rattle.ps_solve.specs.SpotKeys.{IsSpotKey, spot_at};
     ghost use Rattle.std.proofs.Common.{rules};
     ghost use Rattle.std.proofs.lemmas.Bool.Decides.{nat_tests};
@@ -222,7 +211,7 @@ impl<'g, W: ColumnWords, const N: usize> Moves for LevelSearch<'g, W, N> {
 
     ghost Place = { Spot };
 
-    ghost next = { λ search here input. next_spot search.script 0 here input };
+    ghost next = { λ search here input. next_spot (played_by search) 0 here input };
 
     ghost start = { λ search. start_of search };
 

@@ -7,6 +7,7 @@
 #![tactic(auto)]
 
 mod level_search;
+mod own_boards;
 mod played;
 mod sessions;
 mod solved;

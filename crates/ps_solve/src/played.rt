@@ -40,7 +40,7 @@ pub(crate) fn play_keys<'g>(
 ) -> Result<GamePlay<'g>, Memory>
     requires { EntriesFit SIDE_LIMIT game.entries }
     ensures script { IfOk result (λ play.
-        script_in play ≡ script_on game.entry sections.plain.now sections.late.now) }
+        script_in play ≡ script_on game.entry sections.entry.plain.now sections.entry.late.now) }
     ensures session { IfOk result (λ play.
         play.session ≡ session_after (script_in play) (opening_step (script_in play)).session keys.now) }
 {

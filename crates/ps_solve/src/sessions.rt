@@ -6,7 +6,7 @@ ghost use Rattle.ps_model.specs.session.Solving.{spot, spot_of};
 ghost use Rattle.ps_stage.specs.Standings.{turn_parts};
 ghost use Rattle.ps_stage.specs.StepsShown as staged;
 ghost use Rattle.ps_trial.specs.Told.{pending_shown, waits_shown};
-ghost use Rattle.ps_solve.specs.Searches.{script_of, start_of};
+ghost use Rattle.ps_solve.specs.Searches.{played_by, script_of, start_of};
 ghost use Rattle.ps_solve.specs.SolvedLevels.{IsIn, entry_in};
 
 use crate::level_search::LevelSearch;
@@ -51,7 +51,7 @@ pub(crate) fn search_from<'g, W: ColumnWords, const N: usize>(
     session: &Session<'g, RowBoard<W>, RowHistory<W>>,
     rules: TurnRules<GameRules<'g, 'g, RowBoard<W>>>,
 ) -> Result<Option<LevelSearch<'g, W, N>>, NotPacked>
-    ensures script { IfOk result (λ found. IfSome found (λ search. search.script ≡ script_of (record {
+    ensures script { IfOk result (λ found. IfSome found (λ search. played_by search ≡ script_of (record {
       table = ⟦<RowBoard<W> as Board>⟧.table_for session.now.game.names.layers;
       parts = turn_parts session.now.game;
     }) rules.plain rules.late)) }

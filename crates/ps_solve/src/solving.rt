@@ -66,8 +66,8 @@ pub fn solve_after<T: Watcher>(
 ) -> Result<SolvedHere, NotSearched>
     requires playable { ArePlayable game.now.names game.now.entries }
     requires rooms { HasRoomSize game.now.options }
-    ensures { (text : List ℕ) → game_in text ≡ Some game.now → let script = script_at game.now played.entry in
-        IsSolvedAfter script (session_after script (opening_step script).session played.keys.now) limit result }
+    ensures { (text : List ℕ) → game_in text ≡ Some game.now → let script = script_at game.now played.entry.entry in
+        IsSolvedAfter script (session_after script (opening_step script).session played.entry.keys.now) limit result }
 {
     let compiled = match compile(alloc, &game.names, &game.rules) {
         Ok(compiled) => compiled,

@@ -8,6 +8,7 @@ ghost use Rattle.ps_trial.specs.Told.{waits_shown};
 ghost use Rattle.ps_turn.specs.States.{HaveSameSides};
 ghost use Rattle.ps_solve.specs.SpotKeys.{IsAt, IsRestart, IsSpotKey, KeepsBoards, KeepsKeys, spot_at};
 
+use crate::own_boards::OwnBoard;
 use indexmap::IndexSet;
 use ps_board::{Board, ColumnWords, Columns};
 use ps_rows::{NotPacked, PackedKey, RowBoard, RowPacking};
@@ -248,14 +249,19 @@ impl<W: ColumnWords, const N: usize> SpotKeys<W, N> {
     }
 
     /// Makes a board that shows what one key stands for show what another one does.
-    pub(crate) fn unpack(&self, from: &PackedKey<N>, to: &PackedKey<N>, board: &mut RowBoard<W>)
+    pub(crate) fn unpack(
+        &self,
+        from: &PackedKey<N>,
+        to: &PackedKey<N>,
+        board: &mut OwnBoard<RowBoard<W>>,
+    )
         requires from { IsKey self.now.packed from.now.words }
         requires to { IsKey self.now.packed to.now.words }
-        requires board { ⟦<RowBoard<W> as Board>⟧.grid board.old ≡ packed_grid self.now.packed from.now.words }
-        requires table { ⟦<RowBoard<W> as Board>⟧.table board.old ≡ Some self.now.packed.table }
-        ensures grid { ⟦<RowBoard<W> as Board>⟧.grid board.new ≡ packed_grid self.now.packed to.now.words }
-        ensures table { ⟦<RowBoard<W> as Board>⟧.table board.new ≡ ⟦<RowBoard<W> as Board>⟧.table board.old }
+        requires board { board.old.grid ≡ packed_grid self.now.packed from.now.words }
+        requires table { board.old.table ≡ Some self.now.packed.table }
+        ensures grid { board.new.grid ≡ packed_grid self.now.packed to.now.words }
+        ensures table { board.new.table ≡ board.old.table }
     {
-        self.packing.unpack(from, to, board);
+        self.packing.unpack(from, to, &mut *board.board);
     }
 }

@@ -1,5 +1,6 @@
 //! Searches with keys as wide as a level needs.
 
+ghost use Rattle.std.specs.Prelude.{ℕ};
 ghost use Rattle.ps_model.specs.board.Turns.{Script};
 ghost use Rattle.ps_rulebook.specs.PlayedGames.{meant_of};
 ghost use Rattle.ps_stage.specs.Standings.{script_for};
@@ -51,7 +52,7 @@ fn solve_with<'g, W: ColumnWords, T: Watcher, const N: usize>(
     watcher: &mut T,
 ) -> Option<Solved>
     ensures { (script : Script) → PlaysAs script (script_for ⟦<RowBoard<W> as Board>⟧.table_for session.now.game
-        (meant_of sections.plain.now) (meant_of sections.late.now))
+        (meant_of sections.entry.plain.now) (meant_of sections.entry.late.now))
         → IsSolvedIn script session.now.session limit result }
 {
     let Ok(rules) = rules_of_sections(alloc, sections.plain, sections.late) else {
@@ -77,7 +78,7 @@ fn solve_widely<'g, W: ColumnWords, T: Watcher>(
     watcher: &mut T,
 ) -> Option<Solved>
     ensures { (script : Script) → PlaysAs script (script_for ⟦<RowBoard<W> as Board>⟧.table_for session.now.game
-        (meant_of sections.plain.now) (meant_of sections.late.now))
+        (meant_of sections.entry.plain.now) (meant_of sections.entry.late.now))
         → IsSolvedIn script session.now.session limit result }
 {
     let solved = solve_with::<W, T, 1>(alloc, session, sections, limit, watcher);
@@ -107,7 +108,7 @@ pub(crate) fn solve_session<'g, W: ColumnWords, T: Watcher>(
     watcher: &mut T,
 ) -> Option<SolvedHere>
     ensures { (script : Script) → PlaysAs script (script_for ⟦<RowBoard<W> as Board>⟧.table_for session.now.game
-        (meant_of sections.plain.now) (meant_of sections.late.now))
+        (meant_of sections.entry.plain.now) (meant_of sections.entry.late.now))
         → IsSolvedHere script session.now.session limit result }
 {
     let Some((level, _)) = session.level() else {

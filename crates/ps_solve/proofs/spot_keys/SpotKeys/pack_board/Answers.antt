@@ -6,9 +6,10 @@ use Rattle.ps_solve.proofs.spot_keys.SpotKeys.pack_board.Goals as goal
 
 pub invariant_of-self : goal.invariant_of-self
 invariant_of-self g c =
-    let restarts : List (List ℕ) = map (λ (key : PackedKey g.row.N). key.words) c.self.inside.restarts.keys in
-    (c.self.invariant.0,
-     keys_kept c.self.inside.packing c.pack.new.self restarts c.pack.ensures.kept c.self.invariant.1)
+    let restarts : List (List ℕ) = map (λ (key : PackedKey g.row.N). key.words) c.self.inside.restarts.keys in (
+      c.self.invariant.0,
+      keys_kept c.self.inside.packing c.pack.new.self restarts c.pack.ensures.kept c.self.invariant.1,
+    )
 
 pub returns-clause-kept : goal.returns-clause-kept
 returns-clause-kept g c =
