@@ -125,13 +125,13 @@ impl<W: ColumnWords, const N: usize> SpotKeys<W, N> {
         ensures kept { KeepsKeys self.old self.new }
         ensures packed { self.new.packed ≡ self.old.packed }
     {
-        let Ok((number, _)) = self.restarts.insert_full(key) else {
+        let Ok((place, _)) = self.restarts.insert_full(key) else {
             return Err(NotPacked::Memory);
         };
-        match u32::try_from(number) {
-            Ok(number) => Ok(number),
-            Err(_) => Err(NotPacked::Full),
-        }
+        let Ok(number) = u32::try_from(place) else {
+            return Err(NotPacked::Full);
+        };
+        Ok(number)
     }
 
     /// The number of a board that restarts go back to, where turns made it of one with a known key.
