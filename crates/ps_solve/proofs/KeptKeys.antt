@@ -86,6 +86,18 @@ module _ {Key : Type 0} (eq : Key → Key → Bool) (words : Key → List ℕ) (
           subst (AreKeys packed) (sym (map-append words keys (key ∷ [])))
           (All-push (IsKey packed) (map words keys) (words key) all known)
 
+  -- the key at a place is one of the keys
+  pub key_at : (keys : List Key) (number : ℕ) (key : Key) → slice_get keys number ≡ Some key →
+      AreKeys packed (map words keys) → IsKey packed (words key)
+  key_at keys number key at all =
+      let here = slice_get_within keys number key at in
+      let long = length-map keys words in
+      let below : number < length (map words keys) = omega arith in
+      let own : slice_index_or (map words keys) number [] ≡ words key =
+      get_or_from_slice_get (map words keys) number (words key) []
+      (slice_get-map words keys number ∙ ap (option_map words) at) in
+      subst (IsKey packed) own (all number [] below)
+
   -- the number of a key that is there is that of the board for which it stands
   pub number_found : ((one other : Key) → eq one other ≡ true → words one ≡ words other) → (keys : List Key) (key : Key)
       (number : ℕ) (found : Key) → slice_get keys number ≡ Some found → eq key found ≡ true →

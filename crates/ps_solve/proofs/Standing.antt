@@ -1,14 +1,16 @@
 -- Where a search stands, as it goes from spot to spot.
-use Rattle.std.proofs.Common.{◌≡◌, ◌∙◌, ◌<◌, ℕ, List, Option, Some, None, length, refl, sym, ap}
+use Rattle.std.proofs.Common.{◌≡◌, ◌∙◌, ◌<◌, ℕ, List, Option, Some, None, length, refl, sym, ap, subst}
 use Rattle.ps_board.specs.Histories.{BoardShown}
 use Rattle.ps_model.specs.board.Grid.{Grid}
-use Rattle.ps_model.specs.session.Solving.{Spot}
+use Rattle.ps_model.specs.declared.play.Input.{Input}
+use Rattle.ps_model.specs.board.Turns.{Script}
+use Rattle.ps_model.specs.session.Solving.{Spot, next_spot}
 use Rattle.ps_rows.specs.Packings.{IsKey, Packed, packed_grid}
 use Rattle.ps_trial.specs.Desks.{Basis, TrialValue}
 use Rattle.ps_trial.specs.SilentStarts.{Boards}
 use Rattle.ps_trial.specs.declared.told.Pending.{Pending}
 use Rattle.ps_turn.specs.States.{HaveSameSides}
-use Rattle.ps_solve.specs.Searches.{KeyParts, IsStanding, key_parts}
+use Rattle.ps_solve.specs.Searches.{KeyParts, IsStanding, SearchValue, here_of, key_parts, start_of}
 use Rattle.ps_solve.specs.SpotKeys.{KeyTable, KeepsKeys, IsAt, IsSpotKey, restart_grid, spot_at}
 use Rattle.ps_solve.proofs.KeptKeys.{at_kept}
 
@@ -70,3 +72,34 @@ module _ (keys : KeyTable) (board : BoardShown) (first here : KeyParts) where
     own_grid = is;
     own_table = same ∙ stands.own_table;
   }
+
+-- keys that are the same keep their meanings
+pub keeps_same : (old new : KeyTable) → new ≡ old → KeepsKeys old new
+keeps_same old new same = subst (KeepsKeys old) (sym same) (λ words restart waits known. (known, refl))
+
+-- a search that goes by the same turns has the same steps
+pub same_steps : (old new : Script) → new ≡ old →
+    (λ (here : Spot) (input : Input). next_spot new 0 here input) ≡
+    (λ (here : Spot) (input : Input). next_spot old 0 here input)
+same_steps old new same = ap (λ (script : Script) (here : Spot) (input : Input). next_spot script 0 here input) same
+
+-- a search that has gone to the spot of a key is there
+pub gone_to : (old new : SearchValue) (words : List ℕ) (restart : ℕ) (waits : Option Pending) → new.keys ≡ old.keys →
+    new.at ≡ key_parts words restart waits → here_of new ≡ spot_at old.keys words restart waits
+gone_to old new words restart waits keys at =
+    ap (λ (p : KeyParts). spot_at new.keys p.words p.restart p.waits) at
+    ∙ ap (λ (k : KeyTable). spot_at k words restart waits) keys
+
+-- a search begins where it began, where its keys keep their meanings
+pub begins_same : (old new : SearchValue) → new.start ≡ old.start → KeepsKeys old.keys new.keys →
+    IsSpotKey old.keys old.start.words old.start.restart → start_of new ≡ start_of old
+begins_same old new start keeps known =
+    ap (λ (p : KeyParts). spot_at new.keys p.words p.restart p.waits) start
+    ∙ (keeps old.start.words old.start.restart old.start.waits known).1
+
+-- it is where it was
+pub here_same : (old new : SearchValue) → new.at ≡ old.at → KeepsKeys old.keys new.keys →
+    IsSpotKey old.keys old.at.words old.at.restart → here_of new ≡ here_of old
+here_same old new at keeps known =
+    ap (λ (p : KeyParts). spot_at new.keys p.words p.restart p.waits) at
+    ∙ (keeps old.at.words old.at.restart old.at.waits known).1
