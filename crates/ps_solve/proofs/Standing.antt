@@ -78,10 +78,11 @@ pub keeps_same : (old new : KeyTable) → new ≡ old → KeepsKeys old new
 keeps_same old new same = subst (KeepsKeys old) (sym same) (λ words restart waits known. (known, refl))
 
 -- a search that goes by the same turns has the same steps
-pub same_steps : (old new : Script) → new ≡ old →
-    (λ (here : Spot) (input : Input). next_spot new 0 here input) ≡
-    (λ (here : Spot) (input : Input). next_spot old 0 here input)
-same_steps old new same = ap (λ (script : Script) (here : Spot) (input : Input). next_spot script 0 here input) same
+abbrev pub steps_of : Script → Spot → Input → Option Spot
+steps_of script here input = next_spot script 0 here input
+
+pub same_steps : (old new : Script) → new ≡ old → steps_of new ≡ steps_of old
+same_steps old new same = ap steps_of same
 
 -- a search that has gone to the spot of a key is there
 pub gone_to : (old new : SearchValue) (words : List ℕ) (restart : ℕ) (waits : Option Pending) → new.keys ≡ old.keys →

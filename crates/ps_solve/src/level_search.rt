@@ -125,8 +125,8 @@ impl<'g, W: ColumnWords, const N: usize> LevelSearch<'g, W, N> {
         rules: TurnRules<GameRules<'g, 'g, RowBoard<W>>>,
         waits: Option<Pending>,
     ) -> Result<LevelSearch<'g, W, N>, NotPacked>
-        ensures script { IfOk result (λ search. played_by search ≡ script_of trial.basis rules.plain rules.late) }
-        ensures start { IfOk result (λ search. start_of search ≡ spot_with trial.here (waits_shown waits)) }
+        ensures script { IfOk result (λ search. played_by search ≡ script_of trial.entry.basis rules.entry.plain rules.entry.late) }
+        ensures start { IfOk result (λ search. start_of search ≡ spot_with trial.entry.here (waits_shown waits)) }
     {
         let mut keys = SpotKeys::try_new(alloc, trial.here())?;
         let start = keys.pack_start(&trial, waits)?;

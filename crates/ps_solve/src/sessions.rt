@@ -54,7 +54,7 @@ pub(crate) fn search_from<'g, W: ColumnWords, const N: usize>(
     ensures script { IfOk result (λ found. IfSome found (λ search. played_by search ≡ script_of (record {
       table = ⟦<RowBoard<W> as Board>⟧.table_for session.now.game.names.layers;
       parts = turn_parts session.now.game;
-    }) rules.plain rules.late)) }
+    }) rules.entry.plain rules.entry.late)) }
     ensures start { IfOk result (λ found. IfSome found (λ search. spot (entry_in session.now.session) session.now.session
         ≡ Some (start_of search))) }
     ensures nowhere { result ≡ Ok None → (entry : ℕ) → spot entry session.now.session ≡ None }
