@@ -1,11 +1,9 @@
 -- Keys go on to stand for what they did.
-use Rattle.std.proofs.Common.{◌≡◌, ◌∙◌, ℕ, ◌<◌, ◌≤◌, ◌++◌, ◌∷◌, [], Bool, true, false, if◌then◌else◌, List, Option, Some, None}
+use Rattle.std.proofs.Common.{◌≡◌, ◌∙◌, ℕ, ◌<◌, ◌≤◌, ◌++◌, ◌∷◌, [], ◌⊎◌, inl, inr, List, Option, Some, None}
 use Rattle.std.proofs.Common.{length, map, refl, sym, ap, subst, arith, slice_get, slice_index_or, option_map}
-use Rattle.std.specs.List.{list_any}
 use Rattle.std.proofs.lemmas.List.{get_or_append_left, length-append, length-map, map-append}
 use Rattle.std.proofs.lemmas.List.Elements.{All-push}
 use Rattle.std.proofs.lemmas.Option.{get_or_from_slice_get, slice_get-map, slice_get_within}
-use Rattle.indexmap.specs.IndexSet.{insert_key}
 use Rattle.ps_model.specs.board.Grid.{Grid}
 use Rattle.ps_model.specs.session.Sessions as model
 use Rattle.ps_model.specs.session.Solving.{Spot}
@@ -57,34 +55,32 @@ more_restarts packed restarts more longer same words restart waits known =
           (waits_shown waits) refl (ap (λ (own : List ℕ). packed_grid packed own) (same restart below)),
     )
 
-module _ {Key : Type 0} (eq : Key → Key → Bool) (words : Key → List ℕ) (packed : Packed) where
-  -- a key that is inserted changes no number
-  pub inserted_kept : (keys : List Key) (key : Key) →
-      KeepsKeys (table_of packed (map words keys)) (table_of packed (map words (insert_key eq keys key)))
-  inserted_kept keys key = by (list_any (eq key) keys)
-    where
-      longer : length (map words keys) ≤ length (map words keys ++ words key ∷ [])
-      longer = let e = length-append (map words keys) (words key ∷ []) in omega arith
+module _ {Key : Type 0} (words : Key → List ℕ) (packed : Packed) where
+  grown : (keys : List Key) (key : Key) → length (map words keys) ≤ length (map words keys ++ words key ∷ [])
+  grown keys key = let e = length-append (map words keys) (words key ∷ []) in omega arith
 
-      by : (known : Bool) →
-          KeepsKeys (table_of packed (map words keys)) (table_of packed (map words (if known then keys else keys ++ key ∷ [])))
-      by true = λ own restart waits known. (known, refl)
-      by false =
-          subst (λ (more : List (List ℕ)). KeepsKeys (table_of packed (map words keys)) (table_of packed more))
-          (sym (map-append words keys (key ∷ [])))
-          (more_restarts packed (map words keys) (map words keys ++ words key ∷ []) longer
-          (λ number below. get_or_append_left (map words keys) (words key ∷ []) [] number below))
+  -- a key that is kept changes no number
+  pub noted_kept : (keys more : List Key) (key : Key) → (more ≡ keys) ⊎ (more ≡ keys ++ key ∷ []) →
+      KeepsKeys (table_of packed (map words keys)) (table_of packed (map words more))
+  noted_kept keys more key (inl same) =
+      subst (λ (own : List Key). KeepsKeys (table_of packed (map words keys)) (table_of packed (map words own))) (sym same)
+      (λ own restart waits known. (known, refl))
+  noted_kept keys more key (inr longer) =
+      subst (λ (own : List Key). KeepsKeys (table_of packed (map words keys)) (table_of packed (map words own))) (sym longer)
+      (subst (λ (own : List (List ℕ)). KeepsKeys (table_of packed (map words keys)) (table_of packed own))
+      (sym (map-append words keys (key ∷ [])))
+      (more_restarts packed (map words keys) (map words keys ++ words key ∷ []) (grown keys key)
+      (λ number below. get_or_append_left (map words keys) (words key ∷ []) [] number below)))
 
   -- and each has a key then
-  pub inserted_keys : (keys : List Key) (key : Key) → AreKeys packed (map words keys) → IsKey packed (words key) →
-      AreKeys packed (map words (insert_key eq keys key))
-  inserted_keys keys key all known = by (list_any (eq key) keys)
-    where
-      by : (has : Bool) → AreKeys packed (map words (if has then keys else keys ++ key ∷ []))
-      by true = all
-      by false =
-          subst (AreKeys packed) (sym (map-append words keys (key ∷ [])))
-          (All-push (IsKey packed) (map words keys) (words key) all known)
+  pub noted_keys : (keys more : List Key) (key : Key) → (more ≡ keys) ⊎ (more ≡ keys ++ key ∷ []) →
+      AreKeys packed (map words keys) → IsKey packed (words key) → AreKeys packed (map words more)
+  noted_keys keys more key (inl same) all known =
+      subst (λ (own : List Key). AreKeys packed (map words own)) (sym same) all
+  noted_keys keys more key (inr longer) all known =
+      subst (λ (own : List Key). AreKeys packed (map words own)) (sym longer)
+      (subst (AreKeys packed) (sym (map-append words keys (key ∷ [])))
+      (All-push (IsKey packed) (map words keys) (words key) all known))
 
   -- the key at a place is one of the keys
   pub key_at : (keys : List Key) (number : ℕ) (key : Key) → slice_get keys number ≡ Some key →
@@ -99,17 +95,17 @@ module _ {Key : Type 0} (eq : Key → Key → Bool) (words : Key → List ℕ) (
       subst (IsKey packed) own (all number [] below)
 
   -- the number of a key that is there is that of the board for which it stands
-  pub number_found : ((one other : Key) → eq one other ≡ true → words one ≡ words other) → (keys : List Key) (key : Key)
-      (number : ℕ) (found : Key) → slice_get keys number ≡ Some found → eq key found ≡ true →
+  pub number_found : (keys : List Key) (key : Key) (number : ℕ) (found : Key) → slice_get keys number ≡ Some found →
+      words key ≡ words found →
       IsRestart (table_of packed (map words keys)) (packed_grid packed (words key)) number
-  number_found same keys key number found at is =
+  number_found keys key number found at is =
       let here = slice_get_within keys number found at in
       let long = length-map keys words in
       let below : number < length (map words keys) = omega arith in
       let own : slice_index_or (map words keys) number [] ≡ words found =
       get_or_from_slice_get (map words keys) number (words found) []
       (slice_get-map words keys number ∙ ap (option_map words) at) in
-      (below, ap (λ (ws : List ℕ). packed_grid packed ws) (own ∙ sym (same key found is)))
+      (below, ap (λ (ws : List ℕ). packed_grid packed ws) (own ∙ sym is))
 
 module _ (old new : KeyTable) (keeps : KeepsKeys old new) where
   -- a trial goes on to be at the spot of its key

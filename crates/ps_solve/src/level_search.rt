@@ -1,6 +1,6 @@
 //! The search of a level.
 
-ghost use Rattle.std.specs.Prelude.{◌≡◌, ◌<◌, ℕ, IfOk, Option, Some, length};
+ghost use Rattle.std.specs.Prelude.{◌≡◌, ◌<◌, ◌≤◌, ℕ, IfOk, Option, Some, length};
 ghost use Rattle.ps_model.specs.session.Sessions.{Session};
 ghost use Rattle.ps_model.specs.session.Solving.{Spot, spot};
 ghost use Rattle.ps_model.specs.board.Turns.{Script};
@@ -42,10 +42,10 @@ pub(crate) struct LevelSearch<'g, W: ColumnWords, const N: usize> {
     keys: SpotKeys<W, N>,
     /// A board of the search's own, on which keys are unpacked. It shows the board of the spot where the search is.
     board: OwnBoard<RowBoard<W>>,
-    /// The spot where the search begins.
-    start: SpotKey<N>,
-    /// The spot where it is.
-    at: SpotKey<N>,
+    /// The key of the spot where the search begins, and that of the spot where it is. They are boxed, so that the size of a
+    /// search doesn't depend on how wide its keys are.
+    start: Box<SpotKey<N>>,
+    at: Box<SpotKey<N>>,
 }
 
 /// Written out, so that an owner calls this where it returns, instead of dropping the parts.
@@ -56,8 +56,8 @@ impl<'g, W: ColumnWords, const N: usize> Drop for LevelSearch<'g, W, N> {
             rules: _rules,
             keys: _keys,
             board: _board,
-            start: _,
-            at: _,
+            start: _start,
+            at: _at,
         } = self;
     }
 }
@@ -73,13 +73,13 @@ impl<'g, W: ColumnWords, const N: usize> Model for LevelSearch<'g, W, N> {
       plain = s.rules.plain;
       late = s.rules.late;
       keys = s.keys;
-      start = key_parts s.start.board.words s.start.restart s.start.waits;
-      at = key_parts s.at.board.words s.at.restart s.at.waits;
+      start = key_parts s.start.value.board.words s.start.value.restart s.start.value.waits;
+      at = key_parts s.at.value.board.words s.at.value.restart s.at.value.waits;
     } };
 
     ghost invariant = { λ s. (N ≤ 64) × IsStanding s.keys s.trial s.board
-        (key_parts s.start.board.words s.start.restart s.start.waits)
-        (key_parts s.at.board.words s.at.restart s.at.waits) };
+        (key_parts s.start.value.board.words s.start.value.restart s.start.value.waits)
+        (key_parts s.at.value.board.words s.at.value.restart s.at.value.waits) };
 }
 
 /// The step of the input that was tried last at the spot of a key.
@@ -93,7 +93,8 @@ fn step_to<W: ColumnWords, const N: usize>(
     trial: &Trial<'_, RowBoard<W>>,
     pressed: Pressed,
 ) -> Result<Step<SpotKey<N>>, NotPacked>
-    requires { IsAt keys.old trial.now at.now.board.words at.now.restart }
+    requires narrow { N ≤ 64 }
+    requires at { IsAt keys.old trial.now at.now.board.words at.now.restart }
     ensures led { IfOk result (λ step. (came : Option Spot)
         → came ≡ pressed_shown pressed (spot_with trial.now.here (waits_shown at.now.waits)) trial.now.there
         → IsStep (λ key. IsSpotKey keys.new key.board.words key.restart)
@@ -125,12 +126,15 @@ impl<'g, W: ColumnWords, const N: usize> LevelSearch<'g, W, N> {
         rules: TurnRules<GameRules<'g, 'g, RowBoard<W>>>,
         waits: Option<Pending>,
     ) -> Result<LevelSearch<'g, W, N>, NotPacked>
+        requires narrow { N ≤ 64 }
         ensures script { IfOk result (λ search. played_by search ≡ script_of trial.entry.basis rules.entry.plain rules.entry.late) }
         ensures start { IfOk result (λ search. start_of search ≡ spot_with trial.entry.here (waits_shown waits)) }
     {
         let mut keys = SpotKeys::try_new(alloc, trial.here())?;
-        let start = keys.pack_start(&trial, waits)?;
-        let at = start;
+        let key = keys.pack_start(&trial, waits)?;
+        let (Ok(start), Ok(at)) = (Box::new(alloc, key), Box::new(alloc, key)) else {
+            return Err(NotPacked::Memory);
+        };
         let Ok(board) = OwnBoard::copy_of(alloc, trial.here()) else {
             return Err(NotPacked::Memory);
         };
@@ -159,7 +163,7 @@ impl<'g, W: ColumnWords, const N: usize> LevelSearch<'g, W, N> {
         self.keys.unpack(&self.at.board, &board, &mut self.board);
         self.trial.go_to(self.board.board());
         self.trial.restart_at(self.board.board());
-        self.at = SpotKey {
+        *self.at = SpotKey {
             board,
             restart: number,
             waits: None,
@@ -178,7 +182,7 @@ impl<'g, W: ColumnWords, const N: usize> LevelSearch<'g, W, N> {
         self.keys
             .unpack(&self.at.board, &key.board, &mut self.board);
         self.trial.go_to(self.board.board());
-        self.at = *key;
+        *self.at = *key;
     }
 
     /// Searches the level for the shortest list of directions and `x` that leads past it, and keeps at most `limit` spots.
@@ -222,7 +226,7 @@ impl<'g, W: ColumnWords, const N: usize> Moves for LevelSearch<'g, W, N> {
     ghost here = { λ search. here_of search };
 
     fn start(&mut self) -> Result<SpotKey<N>, NotPacked> {
-        Ok(self.start)
+        Ok(*self.start)
     }
 
     fn go(&mut self, key: &SpotKey<N>) -> Result<(), NotPacked> {
@@ -236,7 +240,7 @@ impl<'g, W: ColumnWords, const N: usize> Moves for LevelSearch<'g, W, N> {
             Ok(pressed) => pressed,
             Err(_) => return Err(NotPacked::Memory),
         };
-        step_to(&mut self.keys, &self.at, &self.trial, pressed)
+        step_to(&mut self.keys, &*self.at, &self.trial, pressed)
     }
 
     ghost one_place = { Prim.search (rules, nat_tests) };

@@ -1,6 +1,6 @@
 //! Searches from sessions.
 
-ghost use Rattle.std.specs.Prelude.{◌≡◌, ℕ, IfOk, IfSome, None, Ok, OnErr, Some, true};
+ghost use Rattle.std.specs.Prelude.{◌≡◌, ◌≤◌, ℕ, IfOk, IfSome, None, Ok, OnErr, Some, true};
 ghost use Rattle.ps_model.specs.session.Sessions.{Play};
 ghost use Rattle.ps_model.specs.session.Solving.{spot, spot_of};
 ghost use Rattle.ps_stage.specs.Standings.{turn_parts};
@@ -51,6 +51,7 @@ pub(crate) fn search_from<'g, W: ColumnWords, const N: usize>(
     session: &Session<'g, RowBoard<W>, RowHistory<W>>,
     rules: TurnRules<GameRules<'g, 'g, RowBoard<W>>>,
 ) -> Result<Option<LevelSearch<'g, W, N>>, NotPacked>
+    requires narrow { N ≤ 64 }
     ensures script { IfOk result (λ found. IfSome found (λ search. played_by search ≡ script_of (record {
       table = ⟦<RowBoard<W> as Board>⟧.table_for session.now.game.names.layers;
       parts = turn_parts session.now.game;

@@ -1,6 +1,6 @@
 //! Keys of spots, and what they stand for.
 
-ghost use Rattle.std.specs.Prelude.{◌≡◌, ◌<◌, ◌≤◌, IfOk, Some, length, replicate, slice_index_or, []};
+ghost use Rattle.std.specs.Prelude.{◌≡◌, ◌<◌, ◌≤◌, ◌⊎◌, ◌++◌, ◌∷◌, true, slice_get, IfOk, Some, length, replicate, slice_index_or, []};
 ghost use Rattle.ps_board.specs.Rows.{DifferOnlyOn};
 ghost use Rattle.ps_rows.specs.Packings.{IsKey, packed_grid};
 ghost use Rattle.ps_trial.specs.SilentStarts.{spot_with};
@@ -11,13 +11,12 @@ ghost use Rattle.ps_solve.specs.SpotKeys.{IsAt, IsRestart, IsSpotKey, KeepsBoard
 use crate::own_boards::OwnBoard;
 use indexmap::IndexSet;
 use ps_board::{Board, ColumnWords, Columns};
+use ps_model::Memory;
 use ps_rows::{NotPacked, PackedKey, RowBoard, RowPacking};
 use ps_trial::{Pending, Trial};
 use std::alloc::Global;
+use std::hash::Hash;
 use std::marker::Model;
-
-/// How many words the widest keys have.
-pub(crate) const MOST_WORDS: usize = 64;
 
 /// What a search keeps of a spot.
 #[derive(Clone, Copy, PartialEq, Eq, Hash)]
@@ -61,24 +60,36 @@ impl<W: ColumnWords, const N: usize> Model for SpotKeys<W, N> {
     ghost invariant = { λ k. (N ≤ 64) × AreKeys k.packing (map (λ key. key.words) k.restarts.keys) };
 }
 
+/// Keeps a key, unless it is known: its number.
+///
+/// # Errors
+///
+/// `Memory`, and the keys stay as they are.
+fn note_key<K: Eq + Hash + Drop>(keys: &mut IndexSet<K>, key: K) -> Result<usize, Memory>
+    ensures kept { (keys.new.keys ≡ keys.old.keys) ⊎ (keys.new.keys ≡ keys.old.keys ++ key.entry ∷ []) }
+    ensures found { IfOk result (λ number. (known : K) × (slice_get keys.new.keys number ≡ Some known)
+        × (K.eq key.entry known ≡ true)) }
+{
+    match keys.insert_full(key) {
+        Ok((number, _)) => Ok(number),
+        Err(_) => Err(Memory),
+    }
+}
+
 impl<W: ColumnWords, const N: usize> SpotKeys<W, N> {
     /// Keys of spots whose boards come of a start, which has the empty key. There is no board yet that restarts go back
     /// to.
     ///
     /// # Errors
     ///
-    /// `Full`, where keys would be wider than `MOST_WORDS`; `Moves`, where it isn't known that nothing moves at the
-    /// start; or `Memory`.
+    /// `Moves`, where it isn't known that nothing moves at the start, or `Memory`.
     pub(crate) fn try_new(alloc: Global, start: &RowBoard<W>) -> Result<SpotKeys<W, N>, NotPacked>
+        requires narrow { N ≤ 64 }
         ensures start { IfOk result (λ keys.
             packed_grid keys.packed (replicate N 0) ≡ ⟦<RowBoard<W> as Board>⟧.grid start.now) }
         ensures known { IfOk result (λ keys. IsKey keys.packed (replicate N 0)) }
         ensures table { IfOk result (λ keys. Some keys.packed.table ≡ ⟦<RowBoard<W> as Board>⟧.table start.now) }
-        ensures narrow { IfOk result (λ keys. N ≤ 64) }
     {
-        if N > MOST_WORDS {
-            return Err(NotPacked::Full);
-        }
         let packing = RowPacking::try_new(alloc, start)?;
         Ok(SpotKeys {
             packing,
@@ -125,7 +136,7 @@ impl<W: ColumnWords, const N: usize> SpotKeys<W, N> {
         ensures kept { KeepsKeys self.old self.new }
         ensures packed { self.new.packed ≡ self.old.packed }
     {
-        let Ok((place, _)) = self.restarts.insert_full(key) else {
+        let Ok(place) = note_key(&mut self.restarts, key) else {
             return Err(NotPacked::Memory);
         };
         let Ok(number) = u32::try_from(place) else {

@@ -1,6 +1,6 @@
 //! Searches with keys as wide as a level needs.
 
-ghost use Rattle.std.specs.Prelude.{ℕ};
+ghost use Rattle.std.specs.Prelude.{◌≤◌, ℕ};
 ghost use Rattle.ps_model.specs.board.Turns.{Script};
 ghost use Rattle.ps_rulebook.specs.PlayedGames.{meant_of};
 ghost use Rattle.ps_stage.specs.Standings.{script_for};
@@ -51,6 +51,7 @@ fn solve_with<'g, W: ColumnWords, T: Watcher, const N: usize>(
     limit: u32,
     watcher: &mut T,
 ) -> Option<Solved>
+    requires { N ≤ 64 }
     ensures { (script : Script) → PlaysAs script (script_for ⟦<RowBoard<W> as Board>⟧.table_for session.now.game
         (meant_of sections.entry.plain.now) (meant_of sections.entry.late.now))
         → IsSolvedIn script session.now.session limit result }
