@@ -132,7 +132,11 @@ impl<'g, W: ColumnWords, const N: usize> LevelSearch<'g, W, N> {
     {
         let mut keys = SpotKeys::try_new(alloc, trial.here())?;
         let key = keys.pack_start(&trial, waits)?;
-        let (Ok(start), Ok(at)) = (Box::new(alloc, key), Box::new(alloc, key)) else {
+        let again = key;
+        let Ok(start) = Box::new(alloc, key) else {
+            return Err(NotPacked::Memory);
+        };
+        let Ok(at) = Box::new(alloc, again) else {
             return Err(NotPacked::Memory);
         };
         let Ok(board) = OwnBoard::copy_of(alloc, trial.here()) else {
