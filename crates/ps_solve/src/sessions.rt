@@ -61,8 +61,9 @@ pub(crate) fn search_from<'g, W: ColumnWords, const N: usize>(
     ensures nowhere { result ≡ Ok None → (entry : ℕ) → spot entry session.now.session ≡ None }
     ensures there { OnErr result (IsIn (entry_in session.now.session) session.now.session) }
 {
-    let Some((level, waits)) = session.level() else {
-        return Ok(None);
+    let (level, waits) = match session.level() {
+        Some(here) => here,
+        None => return Ok(None),
     };
     if !level.board().is_alike(level.restart_board()) {
         return Err(NotPacked::Moves);

@@ -66,9 +66,9 @@ impl<W: ColumnWords, const N: usize> Model for SpotKeys<W, N> {
 ///
 /// `Memory`, and the keys stay as they are.
 fn note_key<K: Eq + Hash + Drop>(keys: &mut IndexSet<K>, key: K) -> Result<usize, Memory>
-    ensures kept { (keys.new.keys ≡ keys.old.keys) ⊎ (keys.new.keys ≡ keys.old.keys ++ key.entry ∷ []) }
+    ensures kept { (keys.new.keys ≡ keys.old.keys) ⊎ (keys.new.keys ≡ keys.old.keys ++ key ∷ []) }
     ensures found { IfOk result (λ number. (known : K) × (slice_get keys.new.keys number ≡ Some known)
-        × (K.eq key.entry known ≡ true)) }
+        × (K.eq key known ≡ true)) }
 {
     match keys.insert_full(key) {
         Ok((number, _)) => Ok(number),
