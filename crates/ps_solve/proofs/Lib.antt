@@ -1,6 +1,7 @@
 mod SearchedSpots
 mod KeptKeys
 mod Led
+mod KeyRooms
 mod Standing
 mod FromSessions
 mod PlayedKeys

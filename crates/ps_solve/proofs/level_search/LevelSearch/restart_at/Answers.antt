@@ -1,28 +1,59 @@
-use Rattle.std.proofs.Common.{rules, ◌≡◌, ◌<◌, ℕ, IfOk, Option, Some, length, ◌+◌, ◌-◌, ◌*◌, ◌≤◌, ◌/◌, ◌%◌, Bool, true, false, nat_eq, nat_lt, List, [], ◌∷◌, ◌++◌, slice_index_or, slice_set, bit_and, bit_or, Fits, w8, w32, w64, Bor, MutBor}
-use Rattle.ps_model.specs.session.Sessions.{Session}
-use Rattle.ps_model.specs.session.Solving.{Spot, spot}
-use Rattle.ps_model.specs.board.Turns.{Script}
-use Rattle.ps_search.specs.Steps.{IsStep}
-use Rattle.ps_trial.specs.Scripts.{PlaysAs}
-use Rattle.ps_trial.specs.SilentStarts.{spot_with}
-use Rattle.ps_trial.specs.Told.{pressed_shown, waits_shown}
-use Rattle.ps_solve.specs.Searches.{key_parts, played_by, script_of, start_of}
-use Rattle.ps_solve.specs.SolvedLevels.{IsSolved}
-use Rattle.ps_solve.specs.SpotKeys.{IsAt, IsSpotKey, KeepsKeys, spot_at}
+use Rattle.std.proofs.Common.{◌≡◌, ◌∙◌, ◌<◌, None, length, List, ℕ, arith, ap, sym, subst}
+use Rattle.ps_rows.specs.Packings.{IsKey, packed_grid}
+use Rattle.ps_trial.specs.Desks.{Basis}
+use Rattle.ps_solve.specs.Searches.{SearchValue, played_by, script_of}
+use Rattle.ps_solve.specs.declared.spot_keys.SpotKey.{SpotKey}
+use Rattle.ps_solve.proofs.KeyRooms.{board_key_room}
+use Rattle.ps_solve.proofs.Standing.{same_sides, stands_at}
 use Rattle.ps_solve.proofs.level_search.LevelSearch.restart_at.Goals as goal
 
--- src/level_search.rt:160:9
+pub unpack-requires : goal.unpack-requires
+unpack-requires g c =
+    let packed = c.self.inside.keys.packed in (
+      omega arith,
+      (
+        board_key_room _ c.self.invariant.0,
+        (
+          subst (λ (key : SpotKey g.row.N). IsKey packed key.board.words) (sym c.deref-2.ensures)
+              c.self.invariant.1.at.known.0,
+          (
+            c.restart_key-board.ensures.known,
+            (
+              c.self.invariant.1.own_grid
+                  ∙ ap (λ (key : SpotKey g.row.N). packed_grid packed key.board.words) (sym c.deref-2.ensures),
+              c.self.invariant.1.own_table,
+            ),
+          ),
+        ),
+      ),
+    )
+
 pub go_to-requires-clause-sides : goal.go_to-requires-clause-sides
-go_to-requires-clause-sides g c = ?
+go_to-requires-clause-sides g c =
+    same_sides c.self.inside.keys.packed c.restart_key-board.result.words c.self.inside.at.value.board.words _
+    c.self.inside.trial.here.board (c.board.ensures.grid ∙ c.unpack.ensures.grid) c.self.invariant.1.at.board
 
--- src/level_search.rt:161:9
 pub restart_at-requires-clause-table : goal.restart_at-requires-clause-table
-restart_at-requires-clause-table g c = ?
+restart_at-requires-clause-table g c =
+    c.board-2.ensures.table ∙ c.unpack.ensures.table ∙ c.self.invariant.1.own_table ∙ sym c.self.invariant.1.at.own
+    ∙ sym (ap (λ (b : Basis). b.table) c.go_to.ensures.basis)
 
--- src/level_search.rt:148:5
 pub invariant_of-self : goal.invariant_of-self
-invariant_of-self g c = ?
+invariant_of-self g c =
+    let below : c.args.number < length c.self.inside.keys.restarts =
+    subst (λ (s : SearchValue). c.args.number < length s.keys.restarts) (sym c.self.view_is) c.requires in (
+      c.self.invariant.0,
+      stands_at c.self.inside.keys c.self.inside.board _ _ c.self.inside.trial c.restart_at.new.self
+          c.unpack.new.board c.restart_key-board.result.words c.args.number None c.self.invariant.1
+          (c.restart_key-board.ensures.known, below) (c.restart_at.ensures.basis ∙ c.go_to.ensures.basis)
+          (c.restart_at.ensures.board ∙ c.go_to.ensures.board ∙ c.board.ensures.grid)
+          (c.restart_at.ensures.restart_board ∙ c.board-2.ensures.grid ∙ c.unpack.ensures.grid
+          ∙ ap (λ (words : List ℕ). packed_grid c.self.inside.keys.packed words) c.restart_key-board.ensures.words)
+          c.unpack.ensures.grid c.unpack.ensures.table,
+    )
 
--- src/level_search.rt:148:5
 pub returns-clause-script : goal.returns-clause-script
-returns-clause-script g c = ?
+returns-clause-script g c =
+    ap (λ (b : Basis). script_of b c.self.inside.rules.plain c.self.inside.rules.late)
+    (c.restart_at.ensures.basis ∙ c.go_to.ensures.basis)
+    ∙ ap played_by c.self.view_is
