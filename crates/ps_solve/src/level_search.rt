@@ -199,6 +199,7 @@ impl<'g, W: ColumnWords, const N: usize> LevelSearch<'g, W, N> {
         ensures solved { (script : Script) (entry : ℕ) (session : Session) → PlaysAs script (played_by self.old)
             → spot entry session ≡ Some (start_of self.old) → IsSolved script entry session limit result }
     {
+        let _keys = &self.keys;
         let found = search(alloc, self, &INPUTS, limit, watcher);
         told(found)
     }

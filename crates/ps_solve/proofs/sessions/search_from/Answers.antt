@@ -1,12 +1,12 @@
-use Rattle.std.proofs.Common.{◌≡◌, ◌∙◌, Some, ap, sym}
+use Rattle.std.proofs.Common.{◌≡◌, ◌∙◌, Some, ap, refl, sym}
 use Rattle.ps_solve.proofs.FromSessions.{is_in, spot_is}
 use Rattle.ps_solve.proofs.sessions.search_from.Goals as goal
 
-pub returns-in_default-clause-nowhere : goal.returns-in_default-clause-nowhere
-returns-in_default-clause-nowhere g c = λ same entry. ?
+pub returns-in-None-clause-nowhere : goal.returns-in-None-clause-nowhere
+returns-in-None-clause-nowhere g c = λ same. c.in-None.ensures.nowhere refl
 
 pub returns-then-not-is_alike-clause-there : goal.returns-then-not-is_alike-clause-there
 returns-then-not-is_alike-clause-there g c = is_in _ _ _ c.in-Some.ensures.level.1
 
-pub returns-in_default-tried-clause-there : goal.returns-in_default-tried-clause-there
-returns-in_default-tried-clause-there g c = is_in _ _ _ c.in-Some.ensures.level.1
+pub returns-in_default-clause-there : goal.returns-in_default-clause-there
+returns-in_default-clause-there g c = is_in _ _ _ c.in-Some.ensures.level.1
