@@ -1,5 +1,6 @@
 -- Where a search stands, as it goes from spot to spot.
-use Rattle.std.proofs.Common.{◌≡◌, ◌∙◌, ◌<◌, ℕ, List, Option, Some, None, length, refl, sym, ap, subst}
+use Rattle.std.proofs.Common.{◌≡◌, ◌∙◌, ◌<◌, ℕ, List, Option, Some, None, length, refl, sym, ap, subst, Result, Ok, Err}
+use Rattle.std.specs.Prelude.{OnOk}
 use Rattle.ps_board.specs.Histories.{BoardShown}
 use Rattle.ps_model.specs.board.Grid.{Grid}
 use Rattle.ps_model.specs.declared.play.Input.{Input}
@@ -104,3 +105,8 @@ pub here_same : (old new : SearchValue) → new.at ≡ old.at → KeepsKeys old.
 here_same old new at keeps known =
     ap (λ (p : KeyParts). spot_at new.keys p.words p.restart p.waits) at
     ∙ (keeps old.at.words old.at.restart old.at.waits known).1
+
+-- what holds anyway holds where there is a result
+pub on_ok : {A E P : Type 0} (result : Result A E) → P → OnOk result P
+on_ok (Ok value) holds = holds
+on_ok (Err error) holds = tt

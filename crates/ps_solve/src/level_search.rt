@@ -235,6 +235,7 @@ impl<'g, W: ColumnWords, const N: usize> Moves for LevelSearch<'g, W, N> {
     }
 
     fn go(&mut self, key: &SpotKey<N>) -> Result<(), NotPacked> {
+        let _keys = &self.keys;
         self.restart_at(key.restart);
         self.go_to(key);
         Ok(())
