@@ -1,6 +1,8 @@
 -- Where a search stands, as it goes from spot to spot.
 use Rattle.std.proofs.Common.{◌≡◌, ◌∙◌, ◌<◌, ℕ, List, Option, Some, None, length, refl, sym, ap, subst, Result, Ok, Err}
-use Rattle.std.specs.Prelude.{OnOk}
+use Rattle.std.specs.Prelude.{IfOk, OnOk}
+use Rattle.ps_search.specs.Steps.{IsStep}
+use Rattle.ps_search.specs.declared.moves.Step.{Step}
 use Rattle.ps_board.specs.Histories.{BoardShown}
 use Rattle.ps_model.specs.board.Grid.{Grid}
 use Rattle.ps_model.specs.declared.play.Input.{Input}
@@ -11,7 +13,7 @@ use Rattle.ps_trial.specs.Desks.{Basis, TrialValue}
 use Rattle.ps_trial.specs.SilentStarts.{Boards}
 use Rattle.ps_trial.specs.declared.told.Pending.{Pending}
 use Rattle.ps_turn.specs.States.{HaveSameSides}
-use Rattle.ps_solve.specs.Searches.{KeyParts, IsStanding, SearchValue, here_of, key_parts, start_of}
+use Rattle.ps_solve.specs.Searches.{KeyParts, IsStanding, SearchValue, here_of, key_parts, played_by, start_of}
 use Rattle.ps_solve.specs.SpotKeys.{KeyTable, KeepsKeys, IsAt, IsSpotKey, restart_grid, spot_at}
 use Rattle.ps_solve.proofs.KeptKeys.{at_kept}
 
@@ -93,18 +95,34 @@ gone_to old new words restart waits keys at =
     ∙ ap (λ (k : KeyTable). spot_at k words restart waits) keys
 
 -- a search begins where it began, where its keys keep their meanings
-pub begins_same : (old new : SearchValue) → new.start ≡ old.start → KeepsKeys old.keys new.keys →
-    IsSpotKey old.keys old.start.words old.start.restart → start_of new ≡ start_of old
-begins_same old new start keeps known =
-    ap (λ (p : KeyParts). spot_at new.keys p.words p.restart p.waits) start
+pub begins_same : (old : SearchValue) (keys : KeyTable) (start : KeyParts) → start ≡ old.start → KeepsKeys old.keys keys →
+    IsSpotKey old.keys old.start.words old.start.restart →
+    spot_at keys start.words start.restart start.waits ≡ start_of old
+begins_same old keys start same keeps known =
+    ap (λ (p : KeyParts). spot_at keys p.words p.restart p.waits) same
     ∙ (keeps old.start.words old.start.restart old.start.waits known).1
 
 -- it is where it was
-pub here_same : (old new : SearchValue) → new.at ≡ old.at → KeepsKeys old.keys new.keys →
-    IsSpotKey old.keys old.at.words old.at.restart → here_of new ≡ here_of old
-here_same old new at keeps known =
-    ap (λ (p : KeyParts). spot_at new.keys p.words p.restart p.waits) at
+pub here_same : (old : SearchValue) (keys : KeyTable) (at : KeyParts) → at ≡ old.at → KeepsKeys old.keys keys →
+    IsSpotKey old.keys old.at.words old.at.restart → spot_at keys at.words at.restart at.waits ≡ here_of old
+here_same old keys at same keeps known =
+    ap (λ (p : KeyParts). spot_at keys p.words p.restart p.waits) same
     ∙ (keeps old.at.words old.at.restart old.at.waits known).1
+
+-- a step from a spot of a script is one from where a search is
+pub step_is : {Key : Type 0} (is_key : Key → Type 0) (place : Key → Spot) (search : SearchValue) (script : Script)
+    (here : Spot) (input : Input) (step : Step Key) → played_by search ≡ script → here_of search ≡ here →
+    IsStep is_key place here (next_spot script 0 here input) step →
+    IsStep is_key place (here_of search) (next_spot (played_by search) 0 (here_of search) input) step
+step_is is_key place search script here input step plays at is =
+    subst (λ (s : Script). IsStep is_key place (here_of search) (next_spot s 0 (here_of search) input) step) (sym plays)
+    (subst (λ (h : Spot). IsStep is_key place h (next_spot script 0 h input) step) (sym at) is)
+
+-- what follows of a result
+pub if_ok : {A E : Type 0} (P Q : A → Type 0) (result : Result A E) → ((value : A) → P value → Q value) →
+    IfOk result P → IfOk result Q
+if_ok P Q (Ok value) follows holds = follows value holds
+if_ok P Q (Err error) follows holds = tt
 
 -- what holds anyway holds where there is a result
 pub on_ok : {A E P : Type 0} (result : Result A E) → P → OnOk result P
