@@ -12,13 +12,13 @@ returns g c = record {
 }
 
 pub search-found-requires-room-M-Moves-2 : goal.search-found-requires-room-M-Moves-2
-search-found-requires-room-M-Moves-2 g c = λ κs. spot_key_room _ c.self.invariant.0
+search-found-requires-room-M-Moves-2 g c = λ κs lives. spot_key_room _ c.self.invariant.0
 
 pub search-found-requires-room-M-Key-Eq : goal.search-found-requires-room-M-Key-Eq
-search-found-requires-room-M-Key-Eq g c = λ κs. spot_key_room _ c.self.invariant.0
+search-found-requires-room-M-Key-Eq g c = λ κs lives. spot_key_room _ c.self.invariant.0
 
 pub search-found-requires-room-M-Key-PartialEq : goal.search-found-requires-room-M-Key-PartialEq
-search-found-requires-room-M-Key-PartialEq g c = λ κs. spot_key_room _ c.self.invariant.0
+search-found-requires-room-M-Key-PartialEq g c = λ κs lives. spot_key_room _ c.self.invariant.0
 
 pub search-found-requires-room-M-Key-Hash : goal.search-found-requires-room-M-Key-Hash
-search-found-requires-room-M-Key-Hash g c = λ κs. spot_key_room _ c.self.invariant.0
+search-found-requires-room-M-Key-Hash g c = λ κs lives. spot_key_room _ c.self.invariant.0
