@@ -1,5 +1,7 @@
 -- Searches from sessions.
-use Rattle.std.proofs.Common.{◌≡◌, ◌∙◌, ◌==◌, ℕ, Bool, true, Option, Some, None, List, refl, sym, ap, subst, arith}
+use Rattle.std.proofs.Common.{◌≡◌, ◌∙◌, ◌==◌, ℕ, Bool, true, Option, Some, None, List, Result, Ok, Err, refl, sym, ap, subst, arith}
+use Rattle.std.specs.Prelude.{OnErr}
+use Rattle.ps_turn.specs.States.{HaveSameSides, TurnParts}
 use Rattle.std.proofs.lemmas.Bool.Decides.{nat_tests}
 use Rattle.ps_model.specs.board.Grid.{Grid}
 use Rattle.ps_model.specs.board.Turns.{Script}
@@ -87,3 +89,22 @@ plays_parts script own table_for game plain late own_plain own_late p l is plays
       late = plays.late;
       wins = plays.wins;
     })
+
+-- a basis by its parts
+pub basis_is : (basis : Basis) (table : Option (List ℕ)) (parts : TurnParts) → basis.table ≡ table →
+    basis.parts ≡ parts → basis ≡ record { table = table; parts = parts }
+basis_is basis table parts t p = rw (← t, ← p) refl
+
+-- boards that show what others of the same sides do have the same sides
+pub sides_of_alike : (board other shown also : Grid) → shown ≡ board → also ≡ other → board.width ≡ other.width →
+    board.height ≡ other.height → board.layers ≡ other.layers → HaveSameSides also shown
+sides_of_alike board other shown also e f width height layers = record {
+  width = ap (λ (g : Grid). g.width) f ∙ sym width ∙ sym (ap (λ (g : Grid). g.width) e);
+  height = ap (λ (g : Grid). g.height) f ∙ sym height ∙ sym (ap (λ (g : Grid). g.height) e);
+  layers = ap (λ (g : Grid). g.layers) f ∙ sym layers ∙ sym (ap (λ (g : Grid). g.layers) e);
+}
+
+-- what holds anyway holds where there is an error
+pub on_err : {A E P : Type 0} (result : Result A E) → P → OnErr result P
+on_err (Ok value) holds = tt
+on_err (Err error) holds = holds
