@@ -1,6 +1,7 @@
 //! The command line.
 
 use crate::files::STANDARD_INPUT;
+use crate::searches::{limit_of, solve_option, states_option, tasks, words_to_solve};
 use crate::sizes::size_of;
 use crate::stops::Stop;
 use clap::{Arg, ArgAction, ArgMatches, Command};
@@ -36,13 +37,25 @@ pub struct Show<'w> {
     pub sizes: Option<&'w str>,
 }
 
+/// Levels that are to be searched for keys that win.
+#[derive(Drop)]
+pub struct Solve<'w> {
+    /// The files with the texts of games, of which one may be `-` for standard input.
+    pub paths: Vec<&'w str>,
+    /// The number of the level, from 1, of each game; all levels, where there is none.
+    pub level: Option<usize>,
+    /// How many states are kept at most for a level.
+    pub limit: u32,
+}
+
 /// The version, which `--version` tells.
 const VERSION: &str = "0.3.0";
 
 /// What help says below the arguments.
 const AFTER_HELP: &str =
     "Keys: w, a, s, d or the arrows move, x acts, z undoes, r restarts, q quits.
-Status: 0 where the run ended or the check accepted, 1 at a fault, 2 at a bad command line.
+Status: 0 where the run ended, the check accepted or --solve won each level; 1 at a fault, or
+where a level isn't known to be won; 2 at a bad command line.
 A fault of the game is told on standard error, as `line 30: RU7 Unbound`; --check tells it
 on standard output.";
 
@@ -64,6 +77,8 @@ pub enum Asked<'w> {
     Description(&'w str),
     /// That the output of a run be shown as a view shows it.
     Show(Show<'w>),
+    /// Whether levels can be won, and in how few keys.
+    Solve(Solve<'w>),
 }
 
 /// What the words of a command line ask for, of which the first is the program's own name.
@@ -76,6 +91,8 @@ pub fn read_command<'w, S: AsStr>(alloc: Global, words: &'w [S]) -> Result<Asked
         .arg(further_argument(alloc)?)?
         .arg(check_option(alloc))?
         .arg(why_option(alloc)?)?
+        .arg(solve_option(alloc)?)?
+        .arg(states_option(alloc)?)?
         .arg(level_option(alloc)?)?
         .arg(keys_option(alloc))?
         .arg(view_option(alloc))?
@@ -84,7 +101,8 @@ pub fn read_command<'w, S: AsStr>(alloc: Global, words: &'w [S]) -> Result<Asked
         .arg(fresh_option(alloc))?
         .arg(show_option(alloc)?)?
         .arg(describe_option(alloc)?)?
-        .arg(explain_option(alloc)?)?;
+        .arg(explain_option(alloc)?)?
+        .group(tasks(alloc)?)?;
     let matches = command.try_get_matches_from(words)?;
     asked_by(alloc, &matches)
 }
@@ -110,6 +128,9 @@ fn asked_by<'w>(alloc: Global, matches: &ArgMatches<'w>) -> Result<Asked<'w>, St
     }
     if matches.get_flag("describe") {
         return Ok(Asked::Description(path));
+    }
+    if matches.get_flag("solve") {
+        return asked_solve(alloc, matches, path, level);
     }
     Ok(asked_play(matches, path, level, size))
 }
@@ -175,6 +196,24 @@ fn asked_check<'w>(
     })
 }
 
+/// What the matches of a command line ask for that searches levels of games, the first of which is in this file.
+fn asked_solve<'w>(
+    alloc: Global,
+    matches: &ArgMatches<'w>,
+    path: &'w str,
+    level: Option<usize>,
+) -> Result<Asked<'w>, Stop> {
+    let limit = limit_of(matches.get_str("states"))?;
+    let further = matches.get_strs("FURTHER").unwrap_or(&[]);
+    let words = words_to_solve(level, further);
+    let paths = all_paths(alloc, path, words.further)?;
+    Ok(Asked::Solve(Solve {
+        paths,
+        level: words.level,
+        limit,
+    }))
+}
+
 /// `GAME`.
 fn game_argument(alloc: Global) -> Result<Arg<'static>, AllocError> {
     Arg::new(alloc, "GAME")
@@ -202,10 +241,12 @@ fn all_paths<'w>(
 /// Further texts behind `GAME`, which are checked as well.
 fn further_argument(alloc: Global) -> Result<Arg<'static>, AllocError> {
     Arg::new(alloc, "FURTHER")
-        .help("With --check, further texts; each is told of in a line that begins with its name")
+        .help(
+            "With --check or --solve, further texts; each line begins with the name of its text",
+        )
         .action(ArgAction::Append)
         .num_args(1..)
-        .requires_arg("check")
+        .requires_arg("TASK")
 }
 
 /// `--check`.
@@ -230,7 +271,7 @@ fn why_option(alloc: Global) -> Result<Arg<'static>, AllocError> {
 }
 
 /// The number of a level that a word gives, from 1.
-fn level_of(word: &str) -> Option<usize> {
+pub fn level_of(word: &str) -> Option<usize> {
     match word.parse::<usize>() {
         Ok(level) if level > 0 => Some(level),
         _ => None,
@@ -321,6 +362,7 @@ fn explain_option(alloc: Global) -> Result<Arg<'static>, AllocError> {
         .help("Says in a sentence what the fault of this code is, as RU7")
         .action(ArgAction::Set)
         .conflicts_with_all(&[
-            "GAME", "FURTHER", "check", "why", "level", "keys", "view", "sizes", "show", "describe",
+            "GAME", "FURTHER", "check", "why", "solve", "states", "level", "keys", "view", "sizes", "show",
+            "describe",
         ])
 }

@@ -11,8 +11,10 @@ mod details;
 mod explanations;
 mod files;
 mod playing;
+mod searches;
 mod showing;
 mod sizes;
+mod solving;
 mod stops;
 mod viewed_games;
 

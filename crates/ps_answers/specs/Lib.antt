@@ -1,0 +1,5 @@
+pub mod Faults
+pub mod SolvedLevels
+pub mod SolvedTexts
+pub mod SolvedWords
+pub mod TellsLevels

@@ -1,0 +1,31 @@
+-- What an answer about a level claims.
+use Rattle.std.specs.Prelude.{◌≡◌, ⊤, ℕ, ◌≤◌, Bool, true, false}
+use Rattle.ps_model.specs.board.Turns.{Script}
+use Rattle.ps_model.specs.session.Sessions.{Session}
+use Rattle.ps_model.specs.session.Solving.{WinsInFewest, NeverWins, NotWithin}
+use Rattle.ps_answers.specs.declared.solved.Solved.{Solved}
+use Rattle.ps_answers.specs.declared.solved.Solved.TheVariants.{Won, Never, Unknown}
+use Rattle.ps_answers.specs.declared.solved.Unsolved.{Unsolved}
+use Rattle.ps_answers.specs.declared.solved.Unsolved.TheVariants as unsolved
+
+-- the answer is that the level can be won
+abbrev pub is_won : Solved → Bool
+is_won (Won inputs) = true
+is_won (Never states) = false
+is_won (Unknown states depth why) = false
+
+-- the limit is a reason only where as many states are kept
+abbrev pub IsUnsolved : ℕ → ℕ → Unsolved → Type 0
+IsUnsolved limit states unsolved.Limit = states ≡ limit
+IsUnsolved limit states unsolved.Memory = ⊤
+IsUnsolved limit states unsolved.Stopped = ⊤
+IsUnsolved limit states unsolved.Full = ⊤
+IsUnsolved limit states unsolved.Boards = ⊤
+
+-- an answer is true of the level of an entry, from a session on, and no more states than the limit are kept
+module _ (script : Script) (entry : ℕ) (session : Session) (limit : ℕ) where
+  abbrev pub IsSolved : Solved → Type 0
+  IsSolved (Won inputs) = WinsInFewest script entry session inputs.items
+  IsSolved (Never states) = NeverWins script entry session × (states ≤ limit)
+  IsSolved (Unknown states depth why) =
+      NotWithin script entry session depth × (states ≤ limit) × IsUnsolved limit states why

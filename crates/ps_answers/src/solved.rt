@@ -1,0 +1,49 @@
+//! Whether a level can be won.
+
+ghost use Rattle.std.specs.Prelude.{◌≡◌};
+ghost use Rattle.ps_answers.specs.SolvedLevels.{is_won};
+
+use ps_model::Input;
+
+/// Whether directions and `x` lead past a level, and by how few of them.
+#[derive(Drop)]
+pub enum Solved {
+    /// These lead past it, in this order, and no fewer do.
+    Won {
+        keys: Vec<Input>,
+    },
+    /// None do, however many. `states` were kept: all that inputs lead to, and some perhaps more than once.
+    Never {
+        states: u32,
+    },
+    /// No `depth` of them do, nor fewer. `states` were kept when the search stopped.
+    Unknown {
+        states: u32,
+        depth: u32,
+        why: Unsolved,
+    },
+}
+
+/// Why it isn't known whether a level can be won.
+#[derive(Clone, Copy, PartialEq, Eq, Debug)]
+pub enum Unsolved {
+    /// As many states were kept as the limit allows, and there was one more.
+    Limit,
+    /// Out of memory.
+    Memory,
+    /// The watcher stopped the search.
+    Stopped,
+    /// More places of an object in a cell change on the boards of the level than the widest keys have bits for.
+    Full,
+    /// A board can't be kept: it isn't known that nothing moves on it after its turns. No game is known for which this comes.
+    Boards,
+}
+
+impl Solved {
+    /// Whether the level can be won.
+    pub fn is_won(&self) -> bool
+        ensures { result ≡ is_won self.now }
+    {
+        matches!(self, Solved::Won { .. })
+    }
+}

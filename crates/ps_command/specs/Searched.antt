@@ -1,0 +1,43 @@
+-- What is told of the levels of texts.
+use Rattle.std.specs.Prelude.{◌≡◌, ◌⊎◌, ℕ, Bool, true, false, Option, List, [], ◌++◌, codes, is_some}
+use Rattle.ps_model.specs.game.Games.{game}
+use Rattle.ps_check.specs.Checks.{check_line, named_line}
+use Rattle.ps_answers.specs.TellsLevels.{AreLinesOn}
+
+-- what each line begins with: the name of the text, or nothing
+abbrev pub front_of : Bool → List ℕ → List ℕ
+front_of true name = name ++ codes ": "
+front_of false name = []
+
+-- the line of a check on a text
+abbrev pub line_of : Bool → List ℕ → List ℕ → List ℕ
+line_of true name text = named_line name text
+line_of false name text = check_line text
+
+-- what is asked of each text: about which level, or all; how many states may be kept; and whether names are told
+pub record Question : Type 0 where
+  pub level : Option ℕ
+  pub limit : ℕ
+  pub is_named : Bool
+
+-- lines on levels of some text of this name, which can all be won
+pub record AreWonLines (asked : Question) (name lines : List ℕ) : Type 0 where
+  pub text : List ℕ
+  pub are : AreLinesOn asked.level text (front_of asked.is_named name) asked.limit true lines
+
+-- lines on levels of some text
+pub record AreLinesOnText (asked : Question) (name lines : List ℕ) : Type 0 where
+  pub text : List ℕ
+  pub won : Bool
+  pub are : AreLinesOn asked.level text (front_of asked.is_named name) asked.limit won lines
+
+-- the line of a check on some text that is no game
+pub record IsLineOnRefused (asked : Question) (name line : List ℕ) : Type 0 where
+  pub text : List ℕ
+  pub refused : is_some (game text) ≡ false
+  pub is : line ≡ line_of asked.is_named name text
+
+-- one of these; or nothing, where the text can't be read or lacks the level
+abbrev pub AreLinesToldOf : Question → List ℕ → List ℕ → Type 0
+AreLinesToldOf asked name lines =
+    (lines ≡ []) ⊎ (AreLinesOnText asked name lines ⊎ IsLineOnRefused asked name lines)
