@@ -24,13 +24,13 @@ grouped number =
     elim (nat_lt number 1000) [
       | true ↦ decimal number
       | false ↦ elim (nat_lt number 1000000) [
-          | true ↦ decimal (number / 1000) ++ last_digits number
-          | false ↦ elim (nat_lt number 1000000000) [
-              | true ↦ decimal (number / 1000000) ++ (last_digits (number / 1000) ++ last_digits number)
-              | false ↦ decimal (number / 1000000000) ++ (last_digits (number / 1000000)
-                    ++ (last_digits (number / 1000) ++ last_digits number))
-            ]
+        | true ↦ decimal (number / 1000) ++ last_digits number
+        | false ↦ elim (nat_lt number 1000000000) [
+          | true ↦ decimal (number / 1000000) ++ (last_digits (number / 1000) ++ last_digits number)
+          | false ↦ decimal (number / 1000000000) ++ (last_digits (number / 1000000)
+              ++ (last_digits (number / 1000) ++ last_digits number))
         ]
+      ]
     ]
 
 -- how many of something there are, as `1 key` and `2 keys`

@@ -36,12 +36,7 @@ fn digit(number: usize) -> u8
 fn add_last_digits(line: &mut Vec<u8>, number: usize) -> Result<(), Memory>
     ensures { OnOk result (line.new.items ≡ line.old.items ++ last_digits number) }
 {
-    let digits = [
-        b',',
-        digit(number / 100),
-        digit(number / 10),
-        digit(number),
-    ];
+    let digits = [b',', digit(number / 100), digit(number / 10), digit(number)];
     line.extend_from_slice(&digits)?;
     Ok(())
 }
@@ -69,12 +64,7 @@ fn add_grouped(alloc: Global, line: &mut Vec<u8>, number: usize) -> Result<(), M
 }
 
 /// Adds how many of something there are.
-fn add_counted(
-    alloc: Global,
-    line: &mut Vec<u8>,
-    number: usize,
-    word: &str,
-) -> Result<(), Memory>
+fn add_counted(alloc: Global, line: &mut Vec<u8>, number: usize, word: &str) -> Result<(), Memory>
     ensures { OnOk result (line.new.items ≡ line.old.items ++ counted number word.now) }
 {
     add_grouped(alloc, line, number)?;

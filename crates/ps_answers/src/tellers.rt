@@ -51,6 +51,7 @@ impl From<SolveFault> for TellFault {
 }
 
 /// Asks a solver of levels whether they can be won, and tells what it answers.
+#[derive(Drop)]
 pub struct LevelTeller<'s, S: LevelSolver, T: Watcher> {
     pub alloc: Global,
     pub solver: &'s S,

@@ -13,21 +13,57 @@ fn says(rt: &(impl Abort + AllocGlobal), level: usize, solved: &Solved, wanted: 
 
 #[test]
 fn keys_that_win_are_told(rt: HostRuntime) {
-    let keys = vec![in rt.alloc(); Input::Up, Input::Left, Input::Down, Input::Right, Input::Action];
+    let keys = vec![in rt.alloc();
+        Input::Up,
+        Input::Left,
+        Input::Down,
+        Input::Right,
+        Input::Action,
+    ];
     let keys = keys.expect(&rt, "memory for keys");
     let won = Solved::Won { keys };
     says(&rt, 1, &won, "level 1: won in 5 keys: wasdx\n");
     let keys = vec![in rt.alloc(); Input::Right].expect(&rt, "memory for a key");
-    says(&rt, 12, &Solved::Won { keys }, "level 12: won in 1 key: d\n");
+    says(
+        &rt,
+        12,
+        &Solved::Won { keys },
+        "level 12: won in 1 key: d\n",
+    );
 }
 
 #[test]
 fn states_are_grouped(rt: HostRuntime) {
-    says(&rt, 2, &Solved::Never { states: 1 }, "level 2: can't be won (1 state)\n");
-    says(&rt, 2, &Solved::Never { states: 999 }, "level 2: can't be won (999 states)\n");
-    says(&rt, 2, &Solved::Never { states: 1284 }, "level 2: can't be won (1,284 states)\n");
-    says(&rt, 2, &Solved::Never { states: 1000000 }, "level 2: can't be won (1,000,000 states)\n");
-    says(&rt, 2, &Solved::Never { states: 4294967295 }, "level 2: can't be won (4,294,967,295 states)\n");
+    says(
+        &rt,
+        2,
+        &Solved::Never { states: 1 },
+        "level 2: can't be won (1 state)\n",
+    );
+    says(
+        &rt,
+        2,
+        &Solved::Never { states: 999 },
+        "level 2: can't be won (999 states)\n",
+    );
+    says(
+        &rt,
+        2,
+        &Solved::Never { states: 1284 },
+        "level 2: can't be won (1,284 states)\n",
+    );
+    says(
+        &rt,
+        2,
+        &Solved::Never { states: 1000000 },
+        "level 2: can't be won (1,000,000 states)\n",
+    );
+    says(
+        &rt,
+        2,
+        &Solved::Never { states: 4294967295 },
+        "level 2: can't be won (4,294,967,295 states)\n",
+    );
 }
 
 /// What is told of a level of which it isn't known whether it can be won.
@@ -41,7 +77,22 @@ fn unknown(why: Unsolved) -> Solved {
 
 #[test]
 fn reasons_are_told(rt: HostRuntime) {
-    says(&rt, 3, &unknown(Unsolved::Limit), "level 3: unknown: not in 31 keys (20,005 states)\n");
-    says(&rt, 3, &unknown(Unsolved::Memory), "level 3: unknown: not in 31 keys (20,005 states, out of memory)\n");
-    says(&rt, 3, &unknown(Unsolved::Stopped), "level 3: unknown: not in 31 keys (20,005 states, stopped)\n");
+    says(
+        &rt,
+        3,
+        &unknown(Unsolved::Limit),
+        "level 3: unknown: not in 31 keys (20,005 states)\n",
+    );
+    says(
+        &rt,
+        3,
+        &unknown(Unsolved::Memory),
+        "level 3: unknown: not in 31 keys (20,005 states, out of memory)\n",
+    );
+    says(
+        &rt,
+        3,
+        &unknown(Unsolved::Stopped),
+        "level 3: unknown: not in 31 keys (20,005 states, stopped)\n",
+    );
 }

@@ -54,13 +54,7 @@ fn act<
     S: LevelSolver,
     I: ByteReader,
     O: ByteWriter,
->(
-    rt: &R,
-    player: &P,
-    solver: &S,
-    keys: &mut I,
-    screen: &mut O,
-) -> Result<(), Stop>
+>(rt: &R, player: &P, solver: &S, keys: &mut I, screen: &mut O) -> Result<(), Stop>
     requires heard { (I.state keys.old).has_failed ≡ false }
     requires well { (O.state screen.old).has_failed ≡ false }
 {
@@ -265,7 +259,11 @@ pub fn check_bytes<O: ByteWriter>(
 }
 
 /// Tells on standard error that one of several files can't be read, unless it can't for want of memory.
-pub fn tell_unread<R: AllocGlobal + Eprint>(rt: &R, path: &str, error: io::Error) -> Result<(), Stop>
+pub fn tell_unread<R: AllocGlobal + Eprint>(
+    rt: &R,
+    path: &str,
+    error: io::Error,
+) -> Result<(), Stop>
     ensures fault { IfErr result (λ stop. stop ≢ Stop.NotAccepted) }
 {
     if error.kind() == io::ErrorKind::OutOfMemory {

@@ -241,9 +241,7 @@ fn all_paths<'w>(
 /// Further texts behind `GAME`, which are checked as well.
 fn further_argument(alloc: Global) -> Result<Arg<'static>, AllocError> {
     Arg::new(alloc, "FURTHER")
-        .help(
-            "With --check or --solve, further texts; each line begins with the name of its text",
-        )
+        .help("With --check or --solve, further texts; each line begins with the name of its text")
         .action(ArgAction::Append)
         .num_args(1..)
         .requires_arg("TASK")
@@ -362,7 +360,7 @@ fn explain_option(alloc: Global) -> Result<Arg<'static>, AllocError> {
         .help("Says in a sentence what the fault of this code is, as RU7")
         .action(ArgAction::Set)
         .conflicts_with_all(&[
-            "GAME", "FURTHER", "check", "why", "solve", "states", "level", "keys", "view", "sizes", "show",
-            "describe",
+            "GAME", "FURTHER", "check", "why", "solve", "states", "level", "keys", "view", "sizes",
+            "show", "describe",
         ])
 }

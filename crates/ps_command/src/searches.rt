@@ -24,7 +24,7 @@ pub fn states_option(alloc: Global) -> Result<Arg<'static>, AllocError> {
     Arg::new(alloc, "states")
         .long("states")
         .value_name("N")
-        .help("With --solve, keeps at most so many states for a level: 1000000 unless it is said")
+        .help("With --solve, keeps at most N states for a level; 1000000 where it is left out")
         .action(ArgAction::Set)
         .requires_arg("solve")
 }

@@ -46,6 +46,7 @@ pub fn solve_asked<R: Files + AllocGlobal + Eprint, S: LevelSolver, I: ByteReade
 }
 
 /// What searches texts for levels that can be won.
+#[derive(Drop)]
 struct Search<'s, R: Files + AllocGlobal + Eprint, S: LevelSolver> {
     rt: &'s R,
     solver: &'s S,
@@ -109,8 +110,7 @@ impl<'s, R: Files + AllocGlobal + Eprint, S: LevelSolver> Search<'s, R, S> {
     }
 
     /// What each line begins with on a level of the text with this name.
-    fn front_of(&self, path: &str) -> Result<String, Stop>
-    {
+    fn front_of(&self, path: &str) -> Result<String, Stop> {
         if !self.is_named {
             return Ok(String::new(self.rt.alloc()));
         }

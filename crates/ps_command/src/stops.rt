@@ -23,8 +23,7 @@ const NO_LEVEL: &str = "error: --level takes the number of a level, from 1
 For more information, try '--help'.";
 
 /// What is told where no number of states is given.
-const NO_STATES: &str =
-    "error: --states takes a number of states, from 1 to 4294967295, as 1000000
+const NO_STATES: &str = "error: --states takes a number of states, from 1 to 4294967295, as 1000000
 
 For more information, try '--help'.";
 
