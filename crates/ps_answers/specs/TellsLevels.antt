@@ -1,5 +1,5 @@
--- What is told of the levels of a text.
-use Rattle.std.specs.Prelude.{◌≡◌, ℕ, ◌+◌, Bool, Option, Some, None, List, [], ◌∷◌, ◌++◌, length, slice_get, list_all}
+-- The lines on the levels of a text.
+use Rattle.std.specs.Prelude.{◌≡◌, ⊤, ℕ, ◌+◌, Bool, Option, Some, None, List, [], ◌∷◌, ◌++◌, length, list_all}
 use Rattle.ps_devices.specs.Devices.{Grows}
 use Rattle.ps_answers.specs.SolvedLevels.{is_won}
 use Rattle.ps_answers.specs.SolvedTexts.{HasLevels, IsSolvedLevel}
@@ -18,11 +18,17 @@ abbrev pub level_lines : List ℕ → ℕ → List Solved → List ℕ
 level_lines front level [] = []
 level_lines front level (solved ∷ rest) = (front ++ level_line level solved) ++ level_lines front (level + 1) rest
 
--- the lines on the first levels, so many: each answer is right, and all are won or aren't
+-- each answer is right: the first about the level of this number, the next about the next one
+abbrev pub AreSolved : List ℕ → ℕ → ℕ → List Solved → Type 0
+AreSolved text limit level [] = ⊤
+AreSolved text limit level (solved ∷ rest) =
+    IsSolvedLevel text level limit solved × AreSolved text limit (level + 1) rest
+
+-- the lines on the first levels, of this number: each answer is right, and all are won or aren't
 pub record AreLinesOnFirst (text front : List ℕ) (limit count : ℕ) (all_won : Bool) (lines : List ℕ) : Type 0 where
   pub solved : List Solved
   pub many : length solved ≡ count
-  pub right : (k : ℕ) (one : Solved) → slice_get solved k ≡ Some one → IsSolvedLevel text (k + 1) limit one
+  pub right : AreSolved text limit 1 solved
   pub answers : all_won ≡ list_all is_won solved
   pub are : lines ≡ level_lines front 1 solved
 

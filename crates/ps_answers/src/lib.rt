@@ -1,8 +1,7 @@
 //! What can be asked of a level, and how the answer is told.
 //!
-//! A [`LevelSolver`] says whether a level can be won, and by how few keys. Code that says which level is meant and where
-//! the answer goes, as a command line, asks for no more than this, and so needs nothing of what searches. A [`Solved`] is
-//! the answer, and [`level_line`] the line that tells it.
+//! A [`LevelSolver`] says whether a level can be won, and by how few keys. A command line asks for no more than this, and so
+//! needs nothing of what searches. A [`Solved`] is the answer, and [`level_line`] the line that tells it.
 #![tactic(auto)]
 
 mod lines;

@@ -15,7 +15,7 @@ pub enum SolveFault {
     /// The text is refused, with its first fault.
     #[error("{0}")]
     Refused(Fault),
-    /// The game has no level of this number, but so many others.
+    /// The game has no level of this number; `levels` is how many it has.
     #[error("the game has no such level")]
     NoSuchLevel { levels: usize },
     /// A growth was refused before the search began.
@@ -57,16 +57,16 @@ pub trait LevelSolver {
         ensures counted { IfOk result (λ levels. HasLevels text.now levels) }
         ensures fault { IfErr result (λ fault. IsTrueTextFault text.now fault) };
 
-    /// Whether the level of that number of the game whose text is `text` can be won, from where a run begins at it, and by
-    /// how few directions and `x`. Levels alone are counted, from 1. At most `limit` states are kept.
+    /// Whether a level of the game whose text is `text` can be won, and by how few directions and `x`. It is begun as a run
+    /// begins at it. `level` is its number: levels alone are counted, from 1. At most `limit` states are kept.
     ///
     /// If the search runs out of memory or is stopped by the watcher, the answer says up to which length no list of keys
     /// wins.
     ///
     /// # Errors
     ///
-    /// `Refused` with the first fault of the text where it has one, `NoSuchLevel` where the text has none and the game no
-    /// such level, `Memory` where a growth was refused before the search began.
+    /// `Refused` with the first fault of the text where it has one. `NoSuchLevel` where the text has none, and the game no
+    /// such level. `Memory` where a growth was refused before the search began.
     fn solve_level<T: Watcher>(
         &self,
         alloc: Global,

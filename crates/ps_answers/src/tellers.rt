@@ -94,7 +94,7 @@ impl<'s, S: LevelSolver, T: Watcher> LevelTeller<'s, S, T> {
         }
     }
 
-    /// Tells of the first levels of a text, so many, in a line each, whether they can be won, and answers whether all can.
+    /// Tells in a line for each of the first levels of a text whether it can be won, and answers whether all can.
     fn tell_first<W: ByteWriter>(
         &mut self,
         named: NamedText<'_>,

@@ -66,7 +66,7 @@ fn states_are_grouped(rt: HostRuntime) {
     );
 }
 
-/// What is told of a level of which it isn't known whether it can be won.
+/// An answer that doesn't know whether the level can be won.
 fn unknown(why: Unsolved) -> Solved {
     Solved::Unknown {
         states: 20005,

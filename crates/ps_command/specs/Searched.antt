@@ -1,8 +1,10 @@
 -- What is told of the levels of texts.
-use Rattle.std.specs.Prelude.{◌≡◌, ◌⊎◌, ℕ, Bool, true, false, Option, List, [], ◌++◌, codes, is_some}
+use Rattle.std.specs.Prelude.{◌≡◌, ◌⊎◌, Bool, true, false, nat_lt, List, [], ◌++◌, codes, is_some, length}
 use Rattle.ps_model.specs.game.Games.{game}
 use Rattle.ps_check.specs.Checks.{check_line, named_line}
 use Rattle.ps_answers.specs.TellsLevels.{AreLinesOn}
+use Rattle.ps_command.specs.declared.command.Solve.{Solve}
+use Rattle.ps_command.specs.declared.solving.Question.{Question}
 
 -- what each line begins with: the name of the text, or nothing
 abbrev pub front_of : Bool → List ℕ → List ℕ
@@ -14,11 +16,9 @@ abbrev pub line_of : Bool → List ℕ → List ℕ → List ℕ
 line_of true name text = named_line name text
 line_of false name text = check_line text
 
--- what is asked of each text: about which level, or all; how many states may be kept; and whether names are told
-pub record Question : Type 0 where
-  pub level : Option ℕ
-  pub limit : ℕ
-  pub is_named : Bool
+-- what is asked where the command line says this
+abbrev pub question_of : Solve → Question
+question_of asked = record { level = asked.level; limit = asked.limit; is_named = nat_lt 1 (length asked.paths.items) }
 
 -- lines on levels of some text of this name, which can all be won
 pub record AreWonLines (asked : Question) (name lines : List ℕ) : Type 0 where

@@ -44,5 +44,4 @@ IsStatusOf stop.NoStates status = status ≡ 2
 IsStatusOf stop.Game status = status ≡ 1
 IsStatusOf (stop.NoSuchLevel _ _) status = status ≡ 1
 IsStatusOf stop.NotAccepted status = status ≡ 1
-IsStatusOf stop.NotWon status = status ≡ 1
 IsStatusOf (stop.Run _) status = status ≡ 1

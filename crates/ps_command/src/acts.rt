@@ -112,6 +112,7 @@ pub fn check_alone<O: ByteWriter>(
 ) -> Result<bool, Stop>
     requires well { (O.state screen.old).has_failed ≡ false }
     ensures is { IfOk result (λ accepted. accepted ≡ is_some (game text.now)) }
+    ensures well { OnOk result ((O.state screen.new).has_failed ≡ false) }
     ensures accepted { IfOk result (λ accepted. accepted ≡ true
         → Grows (O.state screen.old).contents (O.state screen.new).contents (check_line text.now)) }
     ensures told { let line = check_line text.now in OnOk result

@@ -1,12 +1,13 @@
 //! Levels that are searched for keys that win.
 
-ghost use Rattle.std.specs.Prelude.{◌≡◌, ◌≢◌, Err, false, true, IfErr, IfOk, None, OnOk, is_some, map, string_bytes};
+ghost use Rattle.std.specs.Prelude.{◌≡◌, ◌≢◌, Err, false, true, IfErr, IfOk, OnOk, is_some, map, string_bytes};
+ghost use Rattle.ps_answers.specs.TellsLevels.{Tells};
+ghost use Rattle.ps_answers.specs.Faults.{IsTrueTextTellFault};
+ghost use Rattle.ps_answers.specs.declared.tellers.TellFault.TheVariants as TellFault;
 ghost use Rattle.ps_model.specs.game.Games.{game};
-ghost use Rattle.ps_check.specs.Checks.{check_line, named_line};
-ghost use Rattle.ps_command.specs.Searched.{AreLinesToldOf, AreWonLines, TellsOfLines, front_of, line_of};
+ghost use Rattle.ps_command.specs.Searched.{AreLinesToldOf, AreWonLines, IsLineOnRefused, front_of, question_of};
 ghost use Rattle.ps_command.specs.Told.{TellsInOrder};
 ghost use Rattle.ps_command.specs.declared.stops.Stop.TheVariants as Stop;
-ghost use Rattle.ps_devices.specs.Devices.{Grows};
 
 use crate::acts::{check_alone, check_bytes, tell_unread};
 use crate::command::Solve;
@@ -29,20 +30,37 @@ pub fn solve_asked<R: Files + AllocGlobal + Eprint, S: LevelSolver, I: ByteReade
 ) -> Result<(), Stop>
     requires heard { (I.state input.old).has_failed ≡ false }
     requires well { (O.state screen.old).has_failed ≡ false }
+    ensures won { OnOk result (TellsInOrder (AreWonLines (question_of asked.now))
+        (map (λ path. path.now) asked.now.paths.items) (O.state screen.old).contents (O.state screen.new).contents) }
+    ensures told { result ≡ Err Stop.NotAccepted → TellsInOrder (AreLinesToldOf (question_of asked.now))
+        (map (λ path. path.now) asked.now.paths.items) (O.state screen.old).contents (O.state screen.new).contents }
 {
-    let search = Search {
-        rt,
-        solver,
+    let question = Question {
         level: asked.level,
         limit: asked.limit,
         is_named: asked.paths.len() > 1,
     };
-    let mut all_won = true;
-    for path in &asked.paths {
-        let won = search.solve_file(*path, input, screen)?;
-        all_won = all_won && won;
+    let search = Search {
+        rt,
+        solver,
+        question,
+    };
+    if search.solve_files(&asked.paths, input, screen)? {
+        Ok(())
+    } else {
+        Err(Stop::NotAccepted)
     }
-    if all_won { Ok(()) } else { Err(Stop::NotWon) }
+}
+
+/// What is asked of each text.
+#[derive(Clone, Copy)]
+pub struct Question {
+    /// The number of the level; all levels, where there is none.
+    pub level: Option<usize>,
+    /// How many states are kept at most for a level.
+    pub limit: u32,
+    /// Whether each line begins with the name of its text.
+    pub is_named: bool,
 }
 
 /// What searches texts for levels that can be won.
@@ -50,15 +68,33 @@ pub fn solve_asked<R: Files + AllocGlobal + Eprint, S: LevelSolver, I: ByteReade
 struct Search<'s, R: Files + AllocGlobal + Eprint, S: LevelSolver> {
     rt: &'s R,
     solver: &'s S,
-    /// The number of the level; all levels, where there is none.
-    level: Option<usize>,
-    /// How many states are kept at most for a level.
-    limit: u32,
-    /// Whether each line begins with the name of its text.
-    is_named: bool,
+    question: Question,
 }
 
 impl<'s, R: Files + AllocGlobal + Eprint, S: LevelSolver> Search<'s, R, S> {
+    /// Says of levels of the games in files whether they can be won, and answers whether all can.
+    fn solve_files<I: ByteReader, O: ByteWriter>(
+        &self,
+        paths: &[&str],
+        input: &mut I,
+        screen: &mut O,
+    ) -> Result<bool, Stop>
+        requires heard { (I.state input.old).has_failed ≡ false }
+        requires well { (O.state screen.old).has_failed ≡ false }
+        ensures won { IfOk result (λ won. won ≡ true → TellsInOrder (AreWonLines self.now.question)
+            (map (λ path. path.now) paths.now) (O.state screen.old).contents (O.state screen.new).contents) }
+        ensures told { OnOk result (TellsInOrder (AreLinesToldOf self.now.question)
+            (map (λ path. path.now) paths.now) (O.state screen.old).contents (O.state screen.new).contents) }
+        ensures fault { IfErr result (λ stop. stop ≢ Stop.NotAccepted) }
+    {
+        let mut all_won = true;
+        for path in paths {
+            let won = self.solve_file(*path, input, screen)?;
+            all_won = all_won && won;
+        }
+        Ok(all_won)
+    }
+
     /// Says of levels of the game in a file whether they can be won, and answers whether all can. Nothing is said on the
     /// screen of a file that can't be read.
     fn solve_file<I: ByteReader, O: ByteWriter>(
@@ -69,6 +105,13 @@ impl<'s, R: Files + AllocGlobal + Eprint, S: LevelSolver> Search<'s, R, S> {
     ) -> Result<bool, Stop>
         requires heard { (I.state input.old).has_failed ≡ false }
         requires well { (O.state screen.old).has_failed ≡ false }
+        ensures heard { OnOk result ((I.state input.new).has_failed ≡ false) }
+        ensures well { OnOk result ((O.state screen.new).has_failed ≡ false) }
+        ensures won { IfOk result (λ won. won ≡ true → Tells (AreWonLines self.now.question path.now)
+            (O.state screen.old).contents (O.state screen.new).contents) }
+        ensures told { OnOk result (Tells (AreLinesToldOf self.now.question path.now)
+            (O.state screen.old).contents (O.state screen.new).contents) }
+        ensures fault { IfErr result (λ stop. stop ≢ Stop.NotAccepted) }
     {
         if path == STANDARD_INPUT {
             let text = read_input(self.rt.alloc(), input)?;
@@ -91,27 +134,36 @@ impl<'s, R: Files + AllocGlobal + Eprint, S: LevelSolver> Search<'s, R, S> {
         screen: &mut O,
     ) -> Result<bool, Stop>
         requires well { (O.state screen.old).has_failed ≡ false }
+        ensures well { OnOk result ((O.state screen.new).has_failed ≡ false) }
+        ensures won { IfOk result (λ won. won ≡ true → Tells (AreWonLines self.now.question path.now)
+            (O.state screen.old).contents (O.state screen.new).contents) }
+        ensures told { OnOk result (Tells (AreLinesToldOf self.now.question path.now)
+            (O.state screen.old).contents (O.state screen.new).contents) }
+        ensures fault { IfErr result (λ stop. stop ≢ Stop.NotAccepted) }
     {
         let front = self.front_of(path)?;
         let mut teller = LevelTeller {
             alloc: self.rt.alloc(),
             solver: self.solver,
             watcher: &mut Unwatched,
-            limit: self.limit,
+            limit: self.question.limit,
         };
         let named = NamedText {
             text,
             front: &front,
         };
-        match teller.tell(named, self.level, screen) {
+        match teller.tell(named, self.question.level, screen) {
             Ok(all_won) => Ok(all_won),
             Err(fault) => self.tell_fault(path, text, fault, screen),
         }
     }
 
     /// What each line begins with on a level of the text with this name.
-    fn front_of(&self, path: &str) -> Result<String, Stop> {
-        if !self.is_named {
+    fn front_of(&self, path: &str) -> Result<String, Stop>
+        ensures front { IfOk result (λ front. string_bytes front ≡ front_of self.now.question.is_named path.now) }
+        ensures fault { IfErr result (λ stop. stop ≢ Stop.NotAccepted) }
+    {
+        if !self.question.is_named {
             return Ok(String::new(self.rt.alloc()));
         }
         let front = format!(in self.rt.alloc(); "{path}: ")?;
@@ -127,6 +179,12 @@ impl<'s, R: Files + AllocGlobal + Eprint, S: LevelSolver> Search<'s, R, S> {
         screen: &mut O,
     ) -> Result<bool, Stop>
         requires well { fault ≢ TellFault.Write → (O.state screen.old).has_failed ≡ false }
+        requires fault { IsTrueTextTellFault text.now fault }
+        ensures well { OnOk result ((O.state screen.new).has_failed ≡ false) }
+        ensures lost { IfOk result (λ won. won ≡ false) }
+        ensures told { OnOk result (Tells (AreLinesToldOf self.now.question path.now)
+            (O.state screen.old).contents (O.state screen.new).contents) }
+        ensures stop { IfErr result (λ stop. stop ≢ Stop.NotAccepted) }
     {
         match fault {
             TellFault::Write => Err(Stop::Run(RunFault::Write)),
@@ -143,9 +201,11 @@ impl<'s, R: Files + AllocGlobal + Eprint, S: LevelSolver> Search<'s, R, S> {
     }
 
     /// Says on standard error that the game in a file has no level of the number that is asked for, and how many it has.
-    fn tell_lacking(&self, path: &str, levels: usize) -> Result<(), Stop> {
+    fn tell_lacking(&self, path: &str, levels: usize) -> Result<(), Stop>
+        ensures { IfErr result (λ stop. stop ≢ Stop.NotAccepted) }
+    {
         let front = self.front_of(path)?;
-        if let Some(level) = self.level {
+        if let Some(level) = self.question.level {
             tell_no_such_level(self.rt, &front, level, levels);
         }
         Ok(())
@@ -159,9 +219,14 @@ impl<'s, R: Files + AllocGlobal + Eprint, S: LevelSolver> Search<'s, R, S> {
         screen: &mut O,
     ) -> Result<(), Stop>
         requires well { (O.state screen.old).has_failed ≡ false }
+        requires refused { is_some (game text.now) ≡ false }
+        ensures well { OnOk result ((O.state screen.new).has_failed ≡ false) }
+        ensures told { OnOk result (Tells (IsLineOnRefused self.now.question path.now)
+            (O.state screen.old).contents (O.state screen.new).contents) }
+        ensures fault { IfErr result (λ stop. stop ≢ Stop.NotAccepted) }
     {
         let alloc = self.rt.alloc();
-        if self.is_named {
+        if self.question.is_named {
             check_bytes(alloc, path, text, Detail::Line, screen)?;
         } else {
             check_alone(alloc, text, Detail::Line, screen)?;

@@ -46,10 +46,8 @@ pub enum Stop {
     Game,
     /// The game has no level of this number, but so many others.
     NoSuchLevel { level: usize, levels: usize },
-    /// The text that was checked is no game, which the check has said already.
+    /// The text that was checked is no game, or a level isn't known to be won, which was told already.
     NotAccepted,
-    /// A level isn't known to be won, which its line has said already.
-    NotWon,
     /// The run came to a fault, or memory ran out or the screen failed where nothing is played.
     Run(RunFault),
 }
@@ -158,7 +156,7 @@ pub fn tell<R: Print + Eprint>(rt: &R, stop: Stop) -> u8
             let _ = rt.eprintln("cannot read game");
         }
         Stop::NoSuchLevel { level, levels } => tell_no_such_level(rt, "", level, levels),
-        Stop::NotAccepted | Stop::NotWon => {}
+        Stop::NotAccepted => {}
         Stop::Run(fault) => {
             let _ = rt.eprintln(fault);
         }

@@ -7,6 +7,7 @@ use ps_command::run_command_line;
 use ps_devices::{MemoryReader, MemoryWriter};
 use ps_model::CALL_LIMIT;
 use ps_run::GamePlayer;
+use ps_solve::GameSolver;
 use std::process::Abort;
 
 /// What must come of a command line.
@@ -573,7 +574,7 @@ fn obey(rt: &(impl Abort + AllocGlobal), words: &[&str], input: &[u8]) -> Outcom
     let mut keys = Watched::new(MemoryReader::new(input, 1, None));
     let screen = MemoryWriter::new(rt.alloc(), 1000, CALL_LIMIT);
     let mut screen = screen.expect(rt, "memory for the screen");
-    let status = run_command_line(&machine, &GamePlayer, &mut keys, &mut screen);
+    let status = run_command_line(&machine, &GamePlayer, &GameSolver, &mut keys, &mut screen);
     Outcome {
         status,
         kept: machine.kept(),

@@ -1,0 +1,6 @@
+-- Lists that are joined from the left.
+use Rattle.std.proofs.Common.{◌≡◌, ◌∙◌, ℕ, List, ◌++◌, ap, append_assoc}
+
+-- one more part
+pub two : (a x y s t : List ℕ) → s ≡ a ++ x → t ≡ s ++ y → t ≡ a ++ (x ++ y)
+two a x y s t is then = then ∙ ap (λ (l : List ℕ). l ++ y) is ∙ append_assoc a x y

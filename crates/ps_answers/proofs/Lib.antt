@@ -1,0 +1,2 @@
+pub mod FirstLevels
+pub mod Joined

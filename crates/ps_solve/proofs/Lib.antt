@@ -1,0 +1,7 @@
+mod SearchedSpots
+mod KeptKeys
+mod Led
+mod Standing
+mod FromSessions
+mod PlayedKeys
+mod AlikeLevels
