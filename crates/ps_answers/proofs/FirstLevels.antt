@@ -1,9 +1,8 @@
 -- Lines on the first levels of a text, and one more.
 use Rattle.std.proofs.Common.{◌≡◌, ◌∙◌, ℕ, ◌+◌, ◌&&◌, Bool, true, false, Option, List, [], ◌∷◌, ◌++◌, length}
 use Rattle.std.proofs.Common.{refl, sym, ap, subst, arith, append_assoc}
-use Rattle.std.specs.Prelude.{list_all}
+use Rattle.std.specs.List.{list_all}
 use Rattle.std.proofs.lemmas.List.{append-nil, length-append}
-use Rattle.ps_devices.specs.Devices.{Grows}
 use Rattle.ps_devices.proofs.Pieces.{grows_twice}
 use Rattle.ps_devices.proofs.Unmoved.{nothing_taken}
 use Rattle.ps_answers.specs.SolvedLevels.{is_won}

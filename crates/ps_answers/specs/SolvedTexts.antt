@@ -1,5 +1,5 @@
 -- What an answer claims about a level of a text's game.
-use Rattle.std.specs.Prelude.{◌≡◌, ⊤, ⊥, ℕ, List, Some}
+use Rattle.std.specs.Prelude.{◌≡◌, ⊤, ℕ, List, Some}
 use Rattle.ps_model.specs.board.Turns.{Script}
 use Rattle.ps_model.specs.declared.refusal.Refusal.{Refusal}
 use Rattle.ps_model.specs.declared.refusal.Refusal.TheVariants as refusal

@@ -1,5 +1,6 @@
 -- The lines on the levels of a text.
-use Rattle.std.specs.Prelude.{◌≡◌, ⊤, ℕ, ◌+◌, Bool, Option, Some, None, List, [], ◌∷◌, ◌++◌, length, list_all}
+use Rattle.std.specs.Prelude.{◌≡◌, ⊤, ℕ, ◌+◌, Bool, Option, Some, None, List, [], ◌∷◌, ◌++◌, length}
+use Rattle.std.specs.List.{list_all}
 use Rattle.ps_devices.specs.Devices.{Grows}
 use Rattle.ps_answers.specs.SolvedLevels.{is_won}
 use Rattle.ps_answers.specs.SolvedTexts.{HasLevels, IsSolvedLevel}

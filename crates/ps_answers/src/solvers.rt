@@ -1,6 +1,6 @@
 //! What says whether levels can be won.
 
-ghost use Rattle.std.specs.Prelude.{IfErr, IfOk};
+ghost use Rattle.std.specs.Prelude.{◌≡◌, IfErr, IfOk};
 ghost use Rattle.ps_answers.specs.SolvedTexts.{HasLevels, IsSolvedLevel, IsTrueFault, IsTrueTextFault};
 
 use crate::solved::Solved;

@@ -42,7 +42,7 @@ last lists list k is =
     ∙ ap (λ (i : ℕ). get_or (list ∷ []) i []) first
 
 -- one more
-told_more : (Belongs : List ℕ → List ℕ → Type 0) (names : List (List ℕ)) (name line : List ℕ)
+pub told_more : (Belongs : List ℕ → List ℕ → Type 0) (names : List (List ℕ)) (name line : List ℕ)
     (before between after : Option (List ℕ)) → TellsInOrder Belongs names before between → Belongs name line →
     Grows between after line → TellsInOrder Belongs (names ++ name ∷ []) before after
 told_more Belongs names name line before between after was belongs wrote =

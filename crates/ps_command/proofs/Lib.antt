@@ -1,2 +1,3 @@
 pub mod DetailsBelow
 pub mod GamesTold
+pub mod LinesOnLevels

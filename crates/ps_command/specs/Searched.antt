@@ -1,6 +1,8 @@
 -- What is told of the levels of texts.
-use Rattle.std.specs.Prelude.{◌≡◌, ◌⊎◌, Bool, true, false, nat_lt, List, [], ◌++◌, codes, is_some, length}
-use Rattle.ps_model.specs.game.Games.{game}
+use Rattle.std.specs.Prelude.{◌≡◌, ◌⊎◌, Bool, true, false, nat_lt, List, [], ◌++◌, codes, length, Some}
+use Rattle.ps_model.specs.declared.faults.Fault.{Fault}
+use Rattle.ps_model.specs.game.Games.{faults}
+use Rattle.ps_model.specs.text.Faults.{first_fault}
 use Rattle.ps_check.specs.Checks.{check_line, named_line}
 use Rattle.ps_answers.specs.TellsLevels.{AreLinesOn}
 use Rattle.ps_command.specs.declared.command.Solve.{Solve}
@@ -31,10 +33,14 @@ pub record AreLinesOnText (asked : Question) (name lines : List ℕ) : Type 0 wh
   pub won : Bool
   pub are : AreLinesOn asked.level text (front_of asked.is_named name) asked.limit won lines
 
--- the line of a check on some text that is no game
+-- the text is refused: it has a fault
+abbrev pub IsRefused : List ℕ → Type 0
+IsRefused text = (fault : Fault) × (first_fault (faults text) ≡ Some fault)
+
+-- the line of a check on some text that is refused
 pub record IsLineOnRefused (asked : Question) (name line : List ℕ) : Type 0 where
   pub text : List ℕ
-  pub refused : is_some (game text) ≡ false
+  pub refused : IsRefused text
   pub is : line ≡ line_of asked.is_named name text
 
 -- one of these; or nothing, where the text can't be read or lacks the level

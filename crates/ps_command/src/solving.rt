@@ -1,11 +1,10 @@
 //! Levels that are searched for keys that win.
 
-ghost use Rattle.std.specs.Prelude.{◌≡◌, ◌≢◌, Err, false, true, IfErr, IfOk, OnOk, is_some, map, string_bytes};
+ghost use Rattle.std.specs.Prelude.{◌≡◌, ◌≢◌, Err, false, true, IfErr, IfOk, OnOk, map, string_bytes};
 ghost use Rattle.ps_answers.specs.TellsLevels.{Tells};
 ghost use Rattle.ps_answers.specs.Faults.{IsTrueTextTellFault};
 ghost use Rattle.ps_answers.specs.declared.tellers.TellFault.TheVariants as TellFault;
-ghost use Rattle.ps_model.specs.game.Games.{game};
-ghost use Rattle.ps_command.specs.Searched.{AreLinesToldOf, AreWonLines, IsLineOnRefused, front_of, question_of};
+ghost use Rattle.ps_command.specs.Searched.{AreLinesToldOf, AreWonLines, IsLineOnRefused, IsRefused, front_of, question_of};
 ghost use Rattle.ps_command.specs.Told.{TellsInOrder};
 ghost use Rattle.ps_command.specs.declared.stops.Stop.TheVariants as Stop;
 
@@ -219,7 +218,7 @@ impl<'s, R: Files + AllocGlobal + Eprint, S: LevelSolver> Search<'s, R, S> {
         screen: &mut O,
     ) -> Result<(), Stop>
         requires well { (O.state screen.old).has_failed ≡ false }
-        requires refused { is_some (game text.now) ≡ false }
+        requires refused { IsRefused text.now }
         ensures well { OnOk result ((O.state screen.new).has_failed ≡ false) }
         ensures told { OnOk result (Tells (IsLineOnRefused self.now.question path.now)
             (O.state screen.old).contents (O.state screen.new).contents) }
