@@ -1,5 +1,5 @@
 -- What is told of the levels of texts.
-use Rattle.std.specs.Prelude.{◌≡◌, ◌⊎◌, Bool, true, false, nat_lt, List, [], ◌++◌, codes, length, Some}
+use Rattle.std.specs.Prelude.{◌≡◌, ◌⊎◌, ℕ, Bool, true, false, nat_lt, List, [], ◌++◌, codes, length, Some}
 use Rattle.ps_model.specs.declared.faults.Fault.{Fault}
 use Rattle.ps_model.specs.game.Games.{faults}
 use Rattle.ps_model.specs.text.Faults.{first_fault}
