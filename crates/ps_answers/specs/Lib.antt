@@ -1,4 +1,3 @@
-pub mod Faults
 pub mod SolvedLevels
 pub mod SolvedTexts
 pub mod SolvedWords

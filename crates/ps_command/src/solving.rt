@@ -2,8 +2,6 @@
 
 ghost use Rattle.std.specs.Prelude.{◌≡◌, ◌≢◌, Err, false, true, IfErr, IfOk, OnOk, map, string_bytes};
 ghost use Rattle.ps_answers.specs.TellsLevels.{Tells};
-ghost use Rattle.ps_answers.specs.Faults.{IsTrueTextTellFault};
-ghost use Rattle.ps_answers.specs.declared.tellers.TellFault.TheVariants as TellFault;
 ghost use Rattle.ps_command.specs.Searched.{AreLinesToldOf, AreWonLines, IsLineOnRefused, IsRefused, front_of, question_of};
 ghost use Rattle.ps_command.specs.Told.{TellsInOrder};
 ghost use Rattle.ps_command.specs.declared.stops.Stop.TheVariants as Stop;
@@ -13,7 +11,7 @@ use crate::command::Solve;
 use crate::details::Detail;
 use crate::files::{STANDARD_INPUT, read_game_file, read_input};
 use crate::stops::{Stop, tell_no_such_level};
-use ps_answers::{LevelSolver, LevelTeller, NamedText, SolveFault, TellFault, Unwatched};
+use ps_answers::{LevelSolver, LevelTeller, Refusal, SolvableGame, TellFault, Unwatched};
 use ps_devices::{ByteReader, ByteWriter, RunFault};
 use std::rt::Files;
 
@@ -140,20 +138,47 @@ impl<'s, R: Files + AllocGlobal + Eprint, S: LevelSolver> Search<'s, R, S> {
             (O.state screen.old).contents (O.state screen.new).contents) }
         ensures fault { IfErr result (λ stop. stop ≢ Stop.NotAccepted) }
     {
+        match self.solver.open(self.rt.alloc(), text) {
+            Ok(game) => self.solve_game(path, &game, screen),
+            Err(Refusal::Memory) => Err(Stop::Run(RunFault::Memory)),
+            Err(Refusal::Refused(_)) => {
+                self.tell_refused(path, text, screen)?;
+                Ok(false)
+            }
+        }
+    }
+
+    /// The same of a game whose text has this name.
+    fn solve_game<O: ByteWriter>(
+        &self,
+        path: &str,
+        game: &S::Game,
+        screen: &mut O,
+    ) -> Result<bool, Stop>
+        requires well { (O.state screen.old).has_failed ≡ false }
+        ensures well { OnOk result ((O.state screen.new).has_failed ≡ false) }
+        ensures won { IfOk result (λ won. won ≡ true → Tells (AreWonLines self.now.question path.now)
+            (O.state screen.old).contents (O.state screen.new).contents) }
+        ensures told { OnOk result (Tells (AreLinesToldOf self.now.question path.now)
+            (O.state screen.old).contents (O.state screen.new).contents) }
+        ensures fault { IfErr result (λ stop. stop ≢ Stop.NotAccepted) }
+    {
         let front = self.front_of(path)?;
         let mut teller = LevelTeller {
             alloc: self.rt.alloc(),
-            solver: self.solver,
+            game,
             watcher: &mut Unwatched,
+            front: &front,
             limit: self.question.limit,
         };
-        let named = NamedText {
-            text,
-            front: &front,
-        };
-        match teller.tell(named, self.question.level, screen) {
-            Ok(all_won) => Ok(all_won),
-            Err(fault) => self.tell_fault(path, text, fault, screen),
+        match teller.tell(self.question.level, screen) {
+            Ok(Some(all_won)) => Ok(all_won),
+            Ok(None) => {
+                self.tell_lacking(path, game.level_count())?;
+                Ok(false)
+            }
+            Err(TellFault::Memory) => Err(Stop::Run(RunFault::Memory)),
+            Err(TellFault::Write) => Err(Stop::Run(RunFault::Write)),
         }
     }
 
@@ -167,36 +192,6 @@ impl<'s, R: Files + AllocGlobal + Eprint, S: LevelSolver> Search<'s, R, S> {
         }
         let front = format!(in self.rt.alloc(); "{path}: ")?;
         Ok(front)
-    }
-
-    /// Says why nothing can be said of a level, and answers that not all can be won.
-    fn tell_fault<O: ByteWriter>(
-        &self,
-        path: &str,
-        text: &[u8],
-        fault: TellFault,
-        screen: &mut O,
-    ) -> Result<bool, Stop>
-        requires well { fault ≢ TellFault.Write → (O.state screen.old).has_failed ≡ false }
-        requires fault { IsTrueTextTellFault text.now fault }
-        ensures well { OnOk result ((O.state screen.new).has_failed ≡ false) }
-        ensures lost { IfOk result (λ won. won ≡ false) }
-        ensures told { OnOk result (Tells (AreLinesToldOf self.now.question path.now)
-            (O.state screen.old).contents (O.state screen.new).contents) }
-        ensures stop { IfErr result (λ stop. stop ≢ Stop.NotAccepted) }
-    {
-        match fault {
-            TellFault::Write => Err(Stop::Run(RunFault::Write)),
-            TellFault::Solve(SolveFault::Memory) => Err(Stop::Run(RunFault::Memory)),
-            TellFault::Solve(SolveFault::NoSuchLevel { levels }) => {
-                self.tell_lacking(path, levels)?;
-                Ok(false)
-            }
-            TellFault::Solve(SolveFault::Refused(_)) => {
-                self.tell_refused(path, text, screen)?;
-                Ok(false)
-            }
-        }
     }
 
     /// Says on standard error that the game in a file has no level of the number that is asked for, and how many it has.
@@ -227,9 +222,9 @@ impl<'s, R: Files + AllocGlobal + Eprint, S: LevelSolver> Search<'s, R, S> {
         let alloc = self.rt.alloc();
         if self.question.is_named {
             check_bytes(alloc, path, text, Detail::Line, screen)?;
-        } else {
-            check_alone(alloc, text, Detail::Line, screen)?;
+            return Ok(());
         }
+        check_alone(alloc, text, Detail::Line, screen)?;
         Ok(())
     }
 }

@@ -2,12 +2,15 @@ use Rattle.std.proofs.Common.{◌≡◌, false}
 use Rattle.ps_answers.specs.TellsLevels.{AreLinesOnFirst, Tells}
 use Rattle.ps_answers.proofs.tellers.LevelTeller.tell_first.Given as goal
 
--- the levels passed by are told of
+-- the levels passed by have their lines
 abbrev pub invariant-loop-before : goal.invariant-loop-before
 invariant-loop-before g l =
     record {
+      game : l.self.game ≡ l.initial.self.game;
+      front : l.self.front ≡ l.initial.self.front;
       limit : l.self.limit ≡ l.initial.self.limit;
       well : (g.W.ByteWriter.state l.writer).has_failed ≡ false;
-      told : Tells (AreLinesOnFirst l.named.text.now l.named.front.now l.initial.self.limit l.before l.all_won)
+      told : Tells (AreLinesOnFirst (g.G.SolvableGame.text l.initial.self.game.now) l.initial.self.front.now l.initial.self.limit
+          l.before l.all_won)
           (g.W.ByteWriter.state l.initial.writer).contents (g.W.ByteWriter.state l.writer).contents;
     }
