@@ -14,7 +14,7 @@ LEAST_PART = 45_000
 MOST_COPIED_AT_PLAY = 600
 MOST_COPIED = 150
 # The crates of which no function is called for a key, or for the first frame of a level.
-NOT_AT_PLAY = re.compile(r'"(clap|ps_(causes|check|compile|describe|game|levels|names|rules|why)|ps_command::(acts|command|details))::')
+NOT_AT_PLAY = re.compile(r'"(clap|ps_(causes|check|compile|describe|game|levels|names|report|rules|why)|ps_command::(acts|command|details|report_options|reporting))::')
 ROOT = "main"
 NAME = re.compile(r'@("[^"]*"|[\w.$-]+)')
 # A function, or a value, that a module keeps to itself, and a value that changes.

@@ -15,7 +15,7 @@ _play_games() {
 _play() {
     local word=${COMP_WORDS[COMP_CWORD]} before=${COMP_WORDS[COMP_CWORD - 1]} options
     case $before in
-    --level | --view | --explain)
+    --level | --limit | --view | --explain)
         COMPREPLY=()
         return
         ;;
@@ -34,7 +34,7 @@ _play() {
         return
         ;;
     esac
-    options='--level --fresh --plain --check --why --help --version'
+    options='--level --fresh --plain --check --why --all --limit --help --version'
     case ${COMP_WORDS[0]##*/} in
     ps_play) options+=' --keys --view --sizes --show --describe --explain' ;;
     *) options+=' --page --title --engine --prove --keep --install' ;;

@@ -8,5 +8,5 @@ mod sizes;
 
 pub use checking::{check, check_named};
 pub use faults::CheckFault;
-pub use finding::first_fault;
+pub use finding::{Finding, finding_of, first_fault};
 pub use ps_devices::ByteWriter;

@@ -6,9 +6,10 @@ use Rattle.ps_model.specs.declared.faults.Fault.{Fault}
 use Rattle.ps_model.specs.game.Games.{faults, game}
 use Rattle.ps_model.specs.text.Faults.{first_fault}
 use Rattle.ps_devices.specs.Devices.{Grows}
-use Rattle.ps_command.specs.Details.{AreLinesOn, IsDetail, TellsOn}
-use Rattle.ps_command.specs.declared.details.Detail.{Detail}
-use Rattle.ps_command.specs.declared.details.Detail.TheVariants.{Line, Why}
+use Rattle.ps_command.specs.Details.{IsDetail, TellsOn}
+use Rattle.ps_report.specs.Details.{AreLinesOn}
+use Rattle.ps_report.specs.declared.details.Detail.{Detail}
+use Rattle.ps_report.specs.declared.details.Detail.TheVariants.{Line, Why}
 
 -- nothing is told of a game
 no_detail : (detail : Detail) (text : List ℕ) → is_some (game text) ≡ true → IsDetail detail text []

@@ -11,7 +11,7 @@ use Rattle.ps_devices.proofs.Pieces.{grows_twice}
 use Rattle.ps_devices.proofs.Unmoved.{nothing_taken}
 use Rattle.ps_command.specs.Details.{TellsOn}
 use Rattle.ps_command.specs.Told.{AreLinesOnFile, IsLineOfGame, TellsInOrder, TellsOf, TellsOfFiles, TellsOfGames}
-use Rattle.ps_command.specs.declared.details.Detail.{Detail}
+use Rattle.ps_report.specs.declared.details.Detail.{Detail}
 
 -- none so far
 pub told_none : (Belongs : List ℕ → List ℕ → Type 0) (before : Option (List ℕ)) → TellsInOrder Belongs [] before before
@@ -42,7 +42,7 @@ last lists list k is =
     ∙ ap (λ (i : ℕ). get_or (list ∷ []) i []) first
 
 -- one more
-told_more : (Belongs : List ℕ → List ℕ → Type 0) (names : List (List ℕ)) (name line : List ℕ)
+pub told_more : (Belongs : List ℕ → List ℕ → Type 0) (names : List (List ℕ)) (name line : List ℕ)
     (before between after : Option (List ℕ)) → TellsInOrder Belongs names before between → Belongs name line →
     Grows between after line → TellsInOrder Belongs (names ++ name ∷ []) before after
 told_more Belongs names name line before between after was belongs wrote =

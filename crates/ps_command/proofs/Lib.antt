@@ -1,2 +1,0 @@
-pub mod DetailsBelow
-pub mod GamesTold

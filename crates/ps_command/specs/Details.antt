@@ -1,22 +1,12 @@
 -- What is told of a fault below the line of a check.
-use Rattle.std.specs.Prelude.{◌≡◌, ◌≢◌, Bool, true, false, Option, Some, List, ℕ, [], ◌∷◌, ◌++◌, is_some}
+use Rattle.std.specs.Prelude.{◌≡◌, Bool, true, false, Option, Some, List, ℕ, [], ◌++◌, is_some}
 use Rattle.ps_model.specs.declared.faults.Fault.{Fault}
 use Rattle.ps_model.specs.game.Games.{faults, game}
 use Rattle.ps_model.specs.text.Faults.{first_fault}
 use Rattle.ps_devices.specs.Devices.{Grows}
-use Rattle.ps_why.specs.Told.{TellsTruth}
-use Rattle.ps_command.specs.declared.details.Detail.{Detail}
-use Rattle.ps_command.specs.declared.details.Detail.TheVariants.{Line, Why}
-
--- lines on a fault: the text's own line of it, and a sentence; that on a cause which is true of the text, where one is
--- told
-pub record AreLinesOn (text : List ℕ) (fault : Fault) (lines : List ℕ) : Type 0 where
-  pub shown : List ℕ
-  pub words : List ℕ
-  pub sentence : List ℕ
-  pub truth : TellsTruth text fault.line shown words
-  pub own : words ≢ [] → sentence ≡ words
-  pub are : lines ≡ shown ++ (sentence ++ 10 ∷ [])
+use Rattle.ps_report.specs.Details.{AreLinesOn}
+use Rattle.ps_report.specs.declared.details.Detail.{Detail}
+use Rattle.ps_report.specs.declared.details.Detail.TheVariants.{Line, Why}
 
 -- of a text that is a game nothing is told; of another one lines on its first fault
 abbrev pub IsTold : Bool → List ℕ → List ℕ → Type 0

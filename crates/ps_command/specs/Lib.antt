@@ -1,4 +1,0 @@
-pub mod Details
-pub mod Statuses
-pub mod Told
-pub mod ViewedGames

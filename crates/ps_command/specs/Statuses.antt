@@ -40,6 +40,7 @@ IsStatusOf stop.NotText status = status ≡ 2
 IsStatusOf stop.NoSuchCode status = status ≡ 2
 IsStatusOf stop.NoSize status = status ≡ 2
 IsStatusOf stop.NoLevel status = status ≡ 2
+IsStatusOf stop.NoLimit status = status ≡ 2
 IsStatusOf stop.Game status = status ≡ 1
 IsStatusOf (stop.NoSuchLevel _ _) status = status ≡ 1
 IsStatusOf stop.NotAccepted status = status ≡ 1

@@ -15,7 +15,7 @@ use Rattle.ps_devices.specs.declared.players.LevelFault.{LevelFault}
 use Rattle.ps_devices.specs.declared.players.RunFault.{RunFault}
 use Rattle.ps_command.specs.Details.{IsDetail, TellsOn}
 use Rattle.ps_command.specs.Statuses.{stop_of_level}
-use Rattle.ps_command.specs.declared.details.Detail.{Detail}
+use Rattle.ps_report.specs.declared.details.Detail.{Detail}
 use Rattle.ps_command.specs.declared.stops.Stop.{Stop}
 use Rattle.ps_command.specs.declared.stops.Stop.TheVariants.{Run}
 

@@ -12,14 +12,15 @@ ghost use Rattle.ps_devices.specs.Devices.{Grows};
 
 use crate::command::{Asked, read_command};
 use crate::descriptions::describe_game;
-use crate::details::{Detail, show_detail};
-use crate::explanations::explanation;
+use crate::details::show_detail;
 use crate::files::{STANDARD_INPUT, read_game_file, read_input, read_text};
 use crate::playing::play_asked;
+use crate::reporting::{report_alone, report_texts};
 use crate::showing::show_asked;
 use crate::stops::{Stop, stop_for, tell};
 use ps_check::{check, check_named};
 use ps_devices::{ByteReader, ByteWriter, Player, RunFault};
+use ps_report::{Detail, explanation};
 use std::alloc::Global;
 use std::rt::{Env, Files};
 use std::{env, io};
@@ -64,6 +65,8 @@ fn act<R: Env + Files + AllocGlobal + Print + Eprint, P: Player, I: ByteReader, 
         Asked::CheckWhy(path) => check_text(rt, path, Detail::Why, keys, screen),
         Asked::CheckAll(paths) => check_texts(rt, &paths, Detail::Line, keys, screen),
         Asked::CheckAllWhy(paths) => check_texts(rt, &paths, Detail::Why, keys, screen),
+        Asked::Report(path, how) => report_alone(rt, path, how, keys, screen),
+        Asked::Reports(paths, how) => report_texts(rt, &paths, how, keys, screen),
         Asked::Description(path) => describe_game(rt, path, keys, screen),
         Asked::Show(asked) => show_asked(rt, asked, keys, screen),
         Asked::Play(asked) => play_asked(rt, player, asked, keys, screen),
@@ -123,10 +126,10 @@ pub fn check_alone<O: ByteWriter>(
 /// Of how many files it was said on the screen that their text is a game, of how many which fault it has, and of how
 /// many, on standard error, that they can't be read.
 #[derive(Clone, Copy)]
-struct Said {
-    games: usize,
-    faulty: usize,
-    unread: usize,
+pub struct Said {
+    pub games: usize,
+    pub faulty: usize,
+    pub unread: usize,
 }
 
 /// Says of each of several files on the screen whether its text is a game. It is well where all are: then the line of
@@ -254,7 +257,11 @@ fn check_bytes<O: ByteWriter>(
 }
 
 /// Tells on standard error that one of several files can't be read, unless it can't for want of memory.
-fn tell_unread<R: AllocGlobal + Eprint>(rt: &R, path: &str, error: io::Error) -> Result<(), Stop>
+pub fn tell_unread<R: AllocGlobal + Eprint>(
+    rt: &R,
+    path: &str,
+    error: io::Error,
+) -> Result<(), Stop>
     ensures fault { IfErr result (λ stop. stop ≢ Stop.NotAccepted) }
 {
     if error.kind() == io::ErrorKind::OutOfMemory {

@@ -1,9 +1,11 @@
 //! The command line.
 
 use crate::files::STANDARD_INPUT;
+use crate::report_options::{all_option, asked_report, limit_option};
 use crate::sizes::size_of;
 use crate::stops::Stop;
 use clap::{Arg, ArgAction, ArgMatches, Command};
+use ps_report::How;
 use ps_view::Size;
 use std::alloc::{AllocError, Global};
 use std::convert::AsStr;
@@ -58,6 +60,10 @@ pub enum Asked<'w> {
     /// The same, and below a fault what is to be mended.
     CheckWhy(&'w str),
     CheckAllWhy(Vec<&'w str>),
+    /// What a check tells in that way of the text in this file.
+    Report(&'w str, How),
+    /// What it tells of the text in each of these files.
+    Reports(Vec<&'w str>, How),
     /// What the fault of this code is.
     Explanation(&'w str),
     /// What a front end needs to know of the game in this file.
@@ -76,6 +82,8 @@ pub fn read_command<'w, S: AsStr>(alloc: Global, words: &'w [S]) -> Result<Asked
         .arg(further_argument(alloc)?)?
         .arg(check_option(alloc))?
         .arg(why_option(alloc)?)?
+        .arg(all_option(alloc)?)?
+        .arg(limit_option(alloc)?)?
         .arg(level_option(alloc)?)?
         .arg(keys_option(alloc))?
         .arg(view_option(alloc))?
@@ -105,6 +113,9 @@ fn asked_by<'w>(alloc: Global, matches: &ArgMatches<'w>) -> Result<Asked<'w>, St
         None => None,
         Some(word) => Some(level_of(word).ok_or(Stop::NoLevel)?),
     };
+    if matches.get_flag("all") {
+        return asked_report(alloc, matches, path);
+    }
     if matches.get_flag("check") {
         return asked_check(alloc, matches, path);
     }
@@ -186,7 +197,7 @@ fn game_argument(alloc: Global) -> Result<Arg<'static>, AllocError> {
 }
 
 /// A first path and all further ones.
-fn all_paths<'w>(
+pub fn all_paths<'w>(
     alloc: Global,
     first: &'w str,
     further: &[&'w str],
@@ -321,6 +332,7 @@ fn explain_option(alloc: Global) -> Result<Arg<'static>, AllocError> {
         .help("Says in a sentence what the fault of this code is, as RU7")
         .action(ArgAction::Set)
         .conflicts_with_all(&[
-            "GAME", "FURTHER", "check", "why", "level", "keys", "view", "sizes", "show", "describe",
+            "GAME", "FURTHER", "check", "why", "all", "limit", "level", "keys", "view", "sizes",
+            "show", "describe",
         ])
 }

@@ -4,11 +4,11 @@ ghost use Rattle.std.specs.Prelude.{◌≡◌, false, OnOk};
 ghost use Rattle.ps_command.specs.Told.{TellsOfDescribed};
 
 use crate::acts::check_alone;
-use crate::details::Detail;
 use crate::files::read_text;
 use crate::stops::Stop;
 use ps_describe::{Refusal, describe};
 use ps_devices::{ByteReader, ByteWriter, RunFault, write_whole};
+use ps_report::Detail;
 use std::alloc::Global;
 use std::rt::Files;
 

@@ -22,6 +22,11 @@ const NO_LEVEL: &str = "error: --level takes the number of a level, from 1
 
 For more information, try '--help'.";
 
+/// What is told where no number of faults is given.
+const NO_LIMIT: &str = "error: --limit takes how many faults are told at most, from 1
+
+For more information, try '--help'.";
+
 /// Why the program ends in place of a run's end.
 #[derive(Drop)]
 pub enum Stop {
@@ -35,6 +40,8 @@ pub enum Stop {
     NoSize,
     /// The command line gives no number of a level where it is to.
     NoLevel,
+    /// The command line gives no number of faults where it is to.
+    NoLimit,
     /// The game can't be read.
     Game,
     /// The game has no level of this number, but so many others.
@@ -139,6 +146,10 @@ pub fn tell<R: Print + Eprint>(rt: &R, stop: Stop) -> u8
         }
         Stop::NoLevel => {
             let _ = rt.eprintln(NO_LEVEL);
+            return 2;
+        }
+        Stop::NoLimit => {
+            let _ = rt.eprintln(NO_LIMIT);
             return 2;
         }
         Stop::Game => {

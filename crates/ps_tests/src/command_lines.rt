@@ -61,7 +61,7 @@ const UNBOUND: &str =
     "Nothing on the left decides which is meant by a property, or by a word of several moves, on the right.\n";
 
 /// The words of command lines that aren't right.
-const BAD_LINES: [&[&str]; 32] = [
+const BAD_LINES: [&[&str]; 36] = [
     &["ps_play", "a.game", "--show", "-"],
     &["ps_play", "--view", "24x80", "--show", "-"],
     &["ps_play", "--describe"],
@@ -96,6 +96,10 @@ const BAD_LINES: [&[&str]; 32] = [
     &["ps_play", "a.game", "--level", "1", "--level", "1"],
     &["ps_play", "a.game", "--level", "1", "--check"],
     &["ps_play", "--explain", "RU7", "--level", "1"],
+    &["ps_play", "--all", "a.game"],
+    &["ps_play", "--check", "a.game", "--limit", "2"],
+    &["ps_play", "--check", "--all", "a.game", "--limit", "0"],
+    &["ps_play", "--explain", "RU7", "--all"],
 ];
 
 /// Command lines that ask for a game to be played, and what must come of each.
@@ -309,7 +313,7 @@ const PLAYS: [(Told, &[Line]); 11] = [
 ];
 
 /// Command lines that ask for a check, and what must come of each.
-const CHECKS: [(Told, &[Line]); 8] = [
+const CHECKS: [(Told, &[Line]); 10] = [
     // A game is checked, and no key is asked for.
     (
         Told {
@@ -400,6 +404,44 @@ const CHECKS: [(Told, &[Line]); 8] = [
         &[(
             &["ps_play", "--check", "lost.game", "a.game"],
             "lost.game\na.game\n",
+        )],
+    ),
+    // All faults of a text are told, with their number.
+    (
+        Told {
+            input: b"d",
+            reads: 0,
+            status: 1,
+            shown: "line 11: GM2 NoSection\n1 fault\n",
+            printed: "",
+            complained: "",
+        },
+        &[(&["ps_play", "--check", "--all", "cut.game"], "cut.game\n")],
+    ),
+    // So they are of several files, and of a game its line.
+    (
+        Told {
+            input: b"d",
+            reads: 0,
+            status: 1,
+            shown: "a.game: ok: objects 9, layers 4, rules 1, levels 1\n\
+            cut.game: line 11: GM2 NoSection\n\
+            cut.game: 1 fault\n",
+            printed: "",
+            complained: "lost.game: cannot read game\n",
+        },
+        &[(
+            &[
+                "ps_play",
+                "--check",
+                "--all",
+                "--limit",
+                "3",
+                "a.game",
+                "lost.game",
+                "cut.game",
+            ],
+            "a.game\nlost.game\ncut.game\n",
         )],
     ),
     // A game on standard input is checked.

@@ -3,7 +3,7 @@ use Rattle.std.proofs.Common.{Ok, length, map, take, get_or, refl}
 use Rattle.std.proofs.Common.{ap, subst, arith}
 use Rattle.std.specs.Prelude.{IfSome}
 use Rattle.ps_command.specs.Told.{AreLinesOnFile, IsLineOfGame, TellsOf}
-use Rattle.ps_command.specs.declared.details.Detail.{Detail}
+use Rattle.ps_report.specs.declared.details.Detail.{Detail}
 use Rattle.ps_command.proofs.GamesTold.{files_more, files_unread, games_more, names_more, told_none}
 use Rattle.ps_command.proofs.acts.check_each.Goals.{in-Some-true, in-Some-false, in-None}
 use Rattle.ps_command.proofs.acts.check_each.Goals as goal

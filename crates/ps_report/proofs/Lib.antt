@@ -1,0 +1,2 @@
+pub mod PagesTold
+pub mod ReportsMade

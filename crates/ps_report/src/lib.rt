@@ -1,0 +1,14 @@
+//! What a check tells of a text: that it is a game, or its faults, with what is to be mended.
+//!
+//! [`report`] makes the whole of it; who asks for a check writes it where he likes. Nothing here knows of command lines,
+//! files or screens.
+#![tactic(auto)]
+
+mod details;
+mod explanations;
+mod pages;
+mod reports;
+
+pub use details::{Detail, How, detail_lines};
+pub use explanations::explanation;
+pub use reports::{Report, report};
