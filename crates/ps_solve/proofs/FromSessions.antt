@@ -17,7 +17,8 @@ use Rattle.ps_trial.specs.Desks.{Basis}
 use Rattle.ps_trial.specs.Scripts.{PlaysAs}
 use Rattle.ps_trial.specs.SilentStarts.{Boards, spot_with}
 use Rattle.ps_solve.specs.Searches.{script_of}
-use Rattle.ps_solve.specs.SolvedLevels.{IsIn, entry_in}
+use Rattle.ps_solve.specs.declared.solved.Solved.{Solved}
+use Rattle.ps_solve.specs.SolvedLevels.{IsIn, IsSolved, IsSolvedHere, IsSolvedIn, entry_in}
 
 -- sessions ------------------------------------------------------------------------------------------------------------
 
@@ -108,3 +109,10 @@ sides_of_alike board other shown also e f width height layers = record {
 pub on_err : {A E P : Type 0} (result : Result A E) → P → OnErr result P
 on_err (Ok value) holds = tt
 on_err (Err error) holds = holds
+
+-- the entry that is told is that of the session
+pub here_in : (script : Script) (session : Session) (limit entry : ℕ) (solved : Solved) → entry ≡ entry_in session →
+    IsSolvedIn script session limit (Some solved) →
+    IsSolvedHere script session limit (Some (record { entry = entry; solved = solved }))
+here_in script session limit entry solved e is =
+    subst (λ (own : ℕ). IsIn own session × IsSolved script own session limit solved) (sym e) is

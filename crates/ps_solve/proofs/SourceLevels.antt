@@ -26,13 +26,6 @@ use Rattle.ps_solve.specs.SolvedLevels.{IsSolvedAfter, IsSolvedAt, IsSolvedHere,
 use Rattle.ps_solve.proofs.AlikeLevels.{here_alike, in_one_level}
 use Rattle.ps_solve.proofs.PlayedKeys.{played, same_inputs}
 
--- the entry that is told is that of the session
-pub here_in : (script : Script) (session : Session) (limit entry : ℕ) (solved : Solved) → entry ≡ entry_in session →
-    IsSolvedIn script session limit (Some solved) →
-    IsSolvedHere script session limit (Some (record { entry = entry; solved = solved }))
-here_in script session limit entry solved e is =
-    subst (λ (own : ℕ). IsIn own session × IsSolved script own session limit solved) (sym e) is
-
 -- a game that is played by its compiled programs has the runs of the game as it is written
 pub runs_as_written : (text : List ℕ) (read : Game) (entry : ℕ) (plain late : List CompiledSection) (script : Script) →
     game text ≡ Some read → AreCompiled read.names read.rules (sections_shown plain) (sections_shown late) →

@@ -1,5 +1,4 @@
 use Rattle.std.proofs.Common.{◌≡◌, ◌∙◌, ℕ, sym}
-use Rattle.ps_solve.specs.SolvedLevels.{entry_in}
 use Rattle.ps_solve.proofs.FromSessions.{entry_is, here_in}
 use Rattle.ps_solve.proofs.widths.solve_session.Goals as goal
 
