@@ -73,6 +73,10 @@ spot_is session waits play here is at =
 
 -- scripts -------------------------------------------------------------------------------------------------------------
 
+-- boards of rows keep the layers of their game
+abbrev pub own_layers : List ℕ → Option (List ℕ)
+own_layers layers = Some layers
+
 -- a script that is played as a game is by sections is played as the turns of a search are
 pub plays_parts : (script own : Script) (table_for : List ℕ → Option (List ℕ)) (game : SessionParts)
     (plain late own_plain own_late : List CompiledSection) → own_plain ≡ plain → own_late ≡ late →
