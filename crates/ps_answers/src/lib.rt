@@ -1,8 +1,8 @@
 //! What can be asked of a level, and how the answer is told.
 //!
-//! A [`SolvableGame`] says whether its levels can be won, and by how few keys; a [`LevelSolver`] reads it from a text. A
-//! command line asks for no more than this, and so needs nothing of what searches. A [`Solved`] is the answer, and a
-//! [`LevelTeller`] writes the lines that tell it.
+//! A [`SolvableGame`] says whether its levels can be won, and by how few keys; a [`LevelSolver`] reads it from a
+//! text. A command line asks for no more than this, and so needs nothing of what searches. A [`Solved`] is the
+//! answer, and a [`LevelTeller`] writes the lines that tell it.
 #![tactic(auto)]
 
 mod lines;

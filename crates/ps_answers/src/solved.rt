@@ -35,7 +35,8 @@ pub enum Unsolved {
     Stopped,
     /// More places of an object in a cell change on the boards of the level than the widest keys have bits for.
     Full,
-    /// A board can't be kept: it isn't known that nothing moves on it after its turns. No game is known for which this comes.
+    /// A board can't be kept: it isn't known that nothing moves on it after its turns. No game is known for which
+    /// this comes.
     Boards,
 }
 

@@ -24,8 +24,8 @@ pub trait SolvableGame: Drop {
     /// Whether a level can be won, and by how few directions and `x`. It is begun as a run begins at it. `level` is its
     /// number: levels alone are counted, from 1. At most `limit` states are kept.
     ///
-    /// If the search runs out of memory or is stopped by the watcher, the answer says up to which length no list of keys
-    /// wins.
+    /// If the search runs out of memory or is stopped by the watcher, the answer says up to which length no list of
+    /// keys wins.
     ///
     /// # Errors
     ///

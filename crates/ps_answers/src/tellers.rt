@@ -107,8 +107,9 @@ impl<'s, G: SolvableGame, T: Watcher> LevelTeller<'s, G, T> {
         self.tell_first(levels, writer)
     }
 
-    /// Tells in a line whether the level of a number can be won, and answers that. Where there is no number each level is
-    /// told, and whether all can be won is answered. Of a level that the game lacks nothing is told or answered.
+    /// Tells in a line whether the level of a number can be won, and answers that. Where there is no number each
+    /// level is told, and whether all can be won is answered. Of a level that the game lacks nothing is told or
+    /// answered.
     ///
     /// # Errors
     ///

@@ -194,7 +194,7 @@ fn check_each<R: Files + AllocGlobal + Eprint, I: ByteReader, O: ByteWriter>(
 }
 
 /// Says of one of several files on the screen whether its text is a game, and answers that. Nothing is answered of a
-/// file that can't be read, which is told of on standard error; standard input that can't be read ends the check.
+/// file that can't be read: standard error names it. Standard input that can't be read ends the check.
 fn check_one<R: Files + AllocGlobal + Eprint, I: ByteReader, O: ByteWriter>(
     rt: &R,
     path: &str,

@@ -69,7 +69,7 @@ pub fn report_alone<R: Files + AllocGlobal, I: ByteReader, O: ByteWriter>(
 }
 
 /// Tells of the text of one of several files on the screen, and answers whether it is a game. Nothing is answered of a
-/// file that can't be read, which is told of on standard error; standard input that can't be read ends the check.
+/// file that can't be read: standard error names it. Standard input that can't be read ends the check.
 #[tactic(auto, using(crate::proofs::ReportsTold::report_told))]
 fn report_one<R: Files + AllocGlobal + Eprint, I: ByteReader, O: ByteWriter>(
     rt: &R,

@@ -42,7 +42,8 @@ pub struct How {
     pub counts: bool,
 }
 
-/// What a check tells of a fault: its line of the text, its column, and what is to be mended, or else what the fault is.
+/// What a check tells of a fault: its line of the text, its column, and what is to be mended, or else what the fault
+/// is.
 pub fn told_of(alloc: Global, text: &[u8], fault: Fault) -> Result<Details, Memory>
     ensures { IfOk result (λ told.
         IsToldOn text.now fault told.column (string_bytes told.line) (string_bytes told.sentence)) }

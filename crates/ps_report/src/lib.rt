@@ -1,7 +1,7 @@
 //! What a check tells of a text: that it is a game, or its faults, with what is to be mended.
 //!
-//! [`report`] makes the whole of it; who asks for a check writes it where he likes. Nothing here knows of command lines,
-//! files or screens.
+//! [`report`] makes the whole of it; who asks for a check writes it where he likes. Nothing here knows of command
+//! lines, files or screens.
 #![tactic(auto)]
 
 mod codes;

@@ -28,8 +28,8 @@ fn characters_in(bytes: &[u8]) -> usize
     count
 }
 
-/// The column in which the marks begin that stand below a line, counted in characters from 1; the first, where there are
-/// none.
+/// The column in which the marks begin that stand below a line, counted in characters from 1; the first, where there
+/// are none.
 pub fn column_of(text: &[u8], line: u32, marks: Option<Marks>) -> usize
     ensures { result ≡ column_of text.now line marks }
 {

@@ -21,7 +21,8 @@ pub struct Details {
     /// The line that has the fault, after its number, and below it a mark under the words that it is about, if there
     /// are such. Each line ends with a line feed. Of a text that is too long, nothing.
     pub line: String,
-    /// The column of the line in which the mark begins, counted in characters from 1; the first where nothing is marked.
+    /// The column of the line in which the mark begins, counted in characters from 1; the first where nothing is
+    /// marked.
     pub column: usize,
     /// A sentence or two, without a line feed. Empty where no more is told than the fault.
     pub sentence: String,
