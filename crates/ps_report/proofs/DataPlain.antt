@@ -16,6 +16,7 @@ use Rattle.ps_report.specs.Objects.{IsFaultTold, counts_of, game_data, levels_da
 use Rattle.ps_report.specs.Pages.{StandFor}
 use Rattle.ps_report.specs.Preludes.{Said, nothing_said, said_by, said_by_lines, said_in, said_unless}
 use Rattle.ps_report.specs.declared.details.How.{How}
+use Rattle.ps_report.proofs.WordsSaid.{said_if}
 
 -- levels
 levels_plain : (entries : List Entry) → items_have_float (items_of (levels_data entries)) ≡ false
@@ -38,9 +39,6 @@ pub record IsPlain (said : Said) : Type 0 where
 unless_plain : (faults : List Fault) (prelude : List Line) → IsPlain (said_unless faults prelude)
 unless_plain [] prelude = record { author = refl; homepage = refl; title = refl }
 unless_plain (fault ∷ faults) prelude = record { author = refl; homepage = refl; title = refl }
-
-abbrev said_if : List ℕ → Option Fault → Said
-said_if text fault = elim fault [ Some only ↦ nothing_said | None ↦ said_by_lines (lines_of text) ]
 
 if_plain : (text : List ℕ) (fault : Option Fault) → IsPlain (said_if text fault)
 if_plain text None = unless_plain (heading_faults (lines_of text)) (section_lines (lines_of text) Prelude)

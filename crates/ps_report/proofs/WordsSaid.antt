@@ -24,7 +24,7 @@ pub lines_faulty : (lines : List Line) (fault : Fault) (said : Said) →
 lines_faulty lines fault said first e = e ∙ faulty (heading_faults lines) fault (section_lines lines Prelude) first
 
 -- the same of a text by its fault as bytes, if it has one
-abbrev said_if : List ℕ → Option Fault → Said
+abbrev pub said_if : List ℕ → Option Fault → Said
 said_if text fault = elim fault [ Some only ↦ nothing_said | None ↦ said_by_lines (lines_of text) ]
 
 pub text_fine : (text : List ℕ) (said : Said) → text_fault text ≡ None → said ≡ said_by_lines (lines_of text) →

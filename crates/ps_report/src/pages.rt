@@ -87,7 +87,8 @@ fn count_words(alloc: Global, count: usize) -> Result<String, Memory>
 /// How many faults are told, of which there may be more than `most`.
 #[tactic(auto, using(crate::proofs::PagesTold::more_counted, crate::proofs::PagesTold::all_counted))]
 pub fn told_words(alloc: Global, most: usize, count: usize) -> Result<String, Memory>
-    ensures { (told : List TheFault) → length told ≡ count → IfOk result (λ words. string_bytes words ≡ told_words most told) }
+    ensures { (told : List TheFault) → length told ≡ count
+        → IfOk result (λ words. string_bytes words ≡ told_words most told) }
 {
     if most < count {
         let counted = count_words(alloc, most)?;
