@@ -130,6 +130,22 @@ impl<'g> GamePlay<'g> {
         Ok(())
     }
 
+    /// How it is played where it is now.
+    pub fn sized(&self) -> &SizedPlay<'g>
+        ensures script { script_in (play_in result.now) ≡ script_in self.now }
+        ensures session { (play_in result.now).session ≡ self.now.session }
+    {
+        &self.play
+    }
+
+    /// The sections of its rules: those of a turn, and those of its late part.
+    pub fn sections(&self) -> (&'g [CompiledSection<'g>], &'g [CompiledSection<'g>])
+        ensures plain { result.0.now ≡ self.now.plain }
+        ensures late { result.1.now ≡ self.now.late }
+    {
+        (self.plain, self.late)
+    }
+
     /// Ends it.
     pub fn end(self) {
         let GamePlay {

@@ -13,8 +13,12 @@ mod sized_play;
 mod text_run;
 mod writing;
 
+pub use game_play::GamePlay;
 pub use laws::answers_carry_over;
 pub use player::GamePlayer;
 pub use ps_devices::{ByteReader, ByteWriter, LevelFault, Player, RunFault};
 pub use ps_model::{Ending, Fault, FaultKind};
+pub use read_run::parts_of_game;
+pub use row_play::RowPlay;
+pub use sized_play::SizedPlay;
 pub use text_run::{run, run_from_level};

@@ -19,7 +19,7 @@ use ps_stage::SessionGame;
 use std::alloc::Global;
 
 /// What a session plays of a game that is begun at an entry.
-fn parts_of_game(game: &Game, entry: usize) -> SessionGame<'_>
+pub fn parts_of_game(game: &Game, entry: usize) -> SessionGame<'_>
     requires playable { ArePlayable game.now.names game.now.entries }
     requires rooms { HasRoomSize game.now.options }
     ensures parts { result ≡ parts_at game.entry.now entry }

@@ -85,6 +85,14 @@ impl<'g, V: ColumnWords> RowPlay<'g, V> {
         Ok(())
     }
 
+    /// Its session.
+    pub fn session(&self) -> &Session<'g, RowBoard<V>, RowHistory<V>>
+        ensures game { result.now.game ≡ self.now.game }
+        ensures session { result.now.session ≡ self.now.session }
+    {
+        &self.session
+    }
+
     /// Ends it: what a session and its rules own is dropped.
     pub fn end(self) {}
 

@@ -21,6 +21,6 @@ pub use phase::Phase;
 pub use ps_board::{Board, History};
 pub use ps_model::{Ending, Key, Memory};
 pub use ps_screen::OutputText;
-pub use ps_stage::{BoardSides, SessionGame, Stop};
+pub use ps_stage::{BoardSides, Pending, PlayedLevel, SessionGame, Stop};
 pub use ps_turn::{Rules, TurnRules};
 pub use session::Session;

@@ -1,11 +1,14 @@
 //! A session.
 
-ghost use Rattle.std.specs.Prelude.{◌≡◌, ◌++◌, ◌≤◌, true, IfErr, IfOk, IsOk, OnErr, OnOk};
+ghost use Rattle.std.specs.Prelude.{◌≡◌, ◌++◌, ◌≤◌, ℕ, true, IfErr, IfOk, IfSome, IsOk, List, None, OnErr, OnOk};
 ghost use Rattle.ps_model.specs.game.Outputs.{ending_of};
 ghost use Rattle.ps_model.specs.session.KeySteps.{key_step};
+ghost use Rattle.ps_model.specs.session.Solving.{spot};
 ghost use Rattle.ps_model.specs.session.StartSteps.{enter};
+ghost use Rattle.ps_model.specs.board.Grid.{Grid};
 ghost use Rattle.ps_stage.specs.Sides.{side_at};
-ghost use Rattle.ps_stage.specs.Standings.{script_for};
+ghost use Rattle.ps_stage.specs.Standings.{basis_of, play_of, script_for};
+ghost use Rattle.ps_stage.specs.StepsShown.{stands};
 ghost use Rattle.ps_session.specs.IgnoredKeys.{is_ignored};
 ghost use Rattle.ps_session.specs.Left.{IsLeft};
 ghost use Rattle.ps_session.specs.Phases.{phase_of};
@@ -17,7 +20,7 @@ use crate::ready::{begin, prepare, tell_stop};
 use ps_board::{Board, Columns, History};
 use ps_model::{Ending, Key, Memory};
 use ps_screen::OutputText;
-use ps_stage::{BoardSides, Location, PlayedLevel, SessionGame, Stage, Stop};
+use ps_stage::{BoardSides, Location, Pending, PlayedLevel, SessionGame, Stage, Stop};
 use ps_turn::{Rules, TurnRules};
 use std::alloc::Global;
 use std::marker::Model;
@@ -166,6 +169,29 @@ impl<'g, B: Board, H: History<B>> Session<'g, B, H> {
             next,
         );
         Ok(self.phase())
+    }
+
+    /// The game.
+    pub fn game(&self) -> &SessionGame<'g>
+        ensures { result.now ≡ self.now.game }
+    {
+        self.stage.game()
+    }
+
+    /// The level in which the player is, with what its message goes on with, if one waits. At a message entry and at the
+    /// end there is no level.
+    pub fn level(&self) -> Option<(&PlayedLevel<B>, Option<Pending>)>
+        ensures level { IfSome result (λ here. (history : List Grid)
+            × (self.now.session ≡ stands here.1 (play_of history here.0.now))) }
+        ensures table { IfSome result (λ here. here.0.now.basis ≡ basis_of B.table_for self.now.game.names) }
+        ensures nowhere { result ≡ None → (entry : ℕ) → spot entry self.now.session ≡ None }
+    {
+        match &self.location {
+            Location::Playing(level) => Some((level, None)),
+            Location::Waiting(level, pending) => Some((level, Some(*pending))),
+            Location::AtMessage(_) => None,
+            Location::Ended(_) => None,
+        }
     }
 
     /// What a player may do next.

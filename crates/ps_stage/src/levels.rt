@@ -426,6 +426,14 @@ impl<B: Board> PlayedLevel<B> {
         &*self.parts.board
     }
 
+    /// The board that a restart goes back to.
+    pub fn restart_board(&self) -> &B
+        ensures grid { B.grid result.now ≡ self.now.restart_board }
+        ensures table { B.table result.now ≡ self.now.basis.table }
+    {
+        &**self.parts.restart_board
+    }
+
     /// The room that the last frame showed.
     pub fn room(&self) -> Room
         ensures { result ≡ self.now.room }

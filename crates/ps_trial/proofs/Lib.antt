@@ -1,5 +1,5 @@
 mod SilentSpots
-mod SameTurns
+pub mod SameTurns
 mod Unchanged
 mod BoardsTaken
 mod Leading

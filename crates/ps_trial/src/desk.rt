@@ -359,6 +359,7 @@ impl<'g, B: Board> Desk<'g, B> {
     pub(crate) fn restart_board(&self) -> &B
         ensures grid { B.grid result.now ≡ self.now.boards.restart_board }
         ensures table { B.table result.now ≡ self.now.basis.table }
+        ensures sides { HaveSameSides (B.grid result.now) self.now.boards.board }
     {
         &*self.restart_board
     }

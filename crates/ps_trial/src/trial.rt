@@ -143,6 +143,15 @@ impl<'g, B: Board> Trial<'g, B> {
         &*self.here
     }
 
+    /// The board that a restart goes back to at the spot.
+    pub fn restart_here(&self) -> &B
+        ensures grid { B.grid result.now ≡ self.now.here.restart_board }
+        ensures table { B.table result.now ≡ self.now.basis.table }
+        ensures sides { HaveSameSides (B.grid result.now) self.now.here.board }
+    {
+        &*self.restart_here
+    }
+
     /// The board to which the last input has led.
     pub fn there(&self) -> &B
         ensures grid { B.grid result.now ≡ self.now.there.board }
@@ -164,6 +173,7 @@ impl<'g, B: Board> Trial<'g, B> {
     pub fn checkpoint(&self) -> Option<&B>
         ensures set { IfSome result (λ board. B.grid board.now ≡ self.now.there.restart_board) }
         ensures table { IfSome result (λ board. B.table board.now ≡ self.now.basis.table) }
+        ensures sides { IfSome result (λ board. HaveSameSides (B.grid board.now) self.now.here.board) }
         ensures unset { result ≡ None → self.now.there.restart_board ≡ self.now.here.restart_board }
     {
         if self.desk.is_set() {

@@ -1,0 +1,9 @@
+mod SearchedSpots
+mod KeptKeys
+mod Led
+mod KeyRooms
+mod Standing
+mod FromSessions
+mod PlayedKeys
+mod AlikeLevels
+mod SourceLevels

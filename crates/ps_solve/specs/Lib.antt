@@ -1,0 +1,3 @@
+pub mod SpotKeys
+pub mod Searches
+pub mod SolvedLevels
