@@ -6,15 +6,19 @@
 #![tactic(auto)]
 
 mod lines;
+mod progress;
 mod solved;
 mod solvers;
 mod tellers;
+mod watching;
 #[cfg(test)]
 mod tests;
 
 pub use lines::level_line;
+pub use progress::SearchProgress;
 pub use ps_model::{Input, Memory, Refusal};
 pub use ps_search::{Unwatched, Watcher};
 pub use solved::{Solved, Unsolved};
 pub use solvers::{LevelSolver, SolvableGame};
 pub use tellers::{LevelTeller, TellFault};
+pub use watching::LevelWatcher;

@@ -7,9 +7,9 @@ ghost use Rattle.ps_answers.specs.declared.tellers.TellFault.TheVariants as Tell
 
 use crate::lines::level_line;
 use crate::solvers::SolvableGame;
+use crate::watching::LevelWatcher;
 use ps_devices::{ByteWriter, write_whole};
 use ps_model::Memory;
-use ps_search::Watcher;
 use std::alloc::Global;
 use thiserror::Error;
 
@@ -36,7 +36,7 @@ impl From<Memory> for TellFault {
 
 /// Asks of the levels of a game whether they can be won, and tells the answers.
 #[derive(Drop)]
-pub struct LevelTeller<'s, G: SolvableGame, T: Watcher> {
+pub struct LevelTeller<'s, G: SolvableGame, T: LevelWatcher> {
     pub alloc: Global,
     pub game: &'s G,
     pub watcher: &'s mut T,
@@ -46,7 +46,7 @@ pub struct LevelTeller<'s, G: SolvableGame, T: Watcher> {
     pub limit: u32,
 }
 
-impl<'s, G: SolvableGame, T: Watcher> LevelTeller<'s, G, T> {
+impl<'s, G: SolvableGame, T: LevelWatcher> LevelTeller<'s, G, T> {
     /// Tells in a line whether the level of that number can be won, and answers that.
     ///
     /// # Errors
@@ -64,9 +64,12 @@ impl<'s, G: SolvableGame, T: Watcher> LevelTeller<'s, G, T> {
             (W.state writer.old).contents (W.state writer.new).contents) }
         ensures well { result ≢ Err TellFault.Write → (W.state writer.new).has_failed ≡ false }
     {
-        let solved = self
+        self.watcher.begins(level);
+        let found = self
             .game
-            .solve_level(self.alloc, level, self.limit, &mut *self.watcher)?;
+            .solve_level(self.alloc, level, self.limit, &mut *self.watcher);
+        self.watcher.ends();
+        let solved = found?;
         let line = level_line(self.alloc, self.front, level, &solved)?;
         match write_whole(&line, writer) {
             Ok(()) => Ok(solved.is_won()),
