@@ -8,8 +8,8 @@ use std::path::Path;
 use std::rt::Files;
 use std::time::{Clock, Duration};
 
-/// How long a search goes on until it is told how far it is, and from then to the next time.
-const PAUSE: Duration = Duration::from_millis(100);
+/// How many milliseconds a search goes on until it is told how far it is, and from then to the next time.
+const PAUSE: u64 = 100;
 
 /// How many places are looked at between two looks at the clock, which takes longer than most places do.
 const PLACES: u32 = 64;
@@ -147,7 +147,7 @@ impl<'r, R: Clock + Eprint + Files> Watcher for SearchProgress<'r, R> {
         let Ok(now) = self.rt.monotonic() else {
             return true;
         };
-        if now.saturating_sub(self.told) < PAUSE {
+        if now.saturating_sub(self.told) < Duration::from_millis(PAUSE) {
             return true;
         }
         self.told = now;
