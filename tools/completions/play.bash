@@ -15,7 +15,7 @@ _play_games() {
 _play() {
     local word=${COMP_WORDS[COMP_CWORD]} before=${COMP_WORDS[COMP_CWORD - 1]} options
     case $before in
-    --level | --limit | --view | --explain)
+    --level | --limit | --states | --view | --explain)
         COMPREPLY=()
         return
         ;;
@@ -38,7 +38,7 @@ _play() {
         return
         ;;
     esac
-    options='--level --fresh --plain --check --why --all --limit --format --help --version'
+    options='--level --fresh --plain --check --why --all --limit --format --solve --states --help --version'
     case ${COMP_WORDS[0]##*/} in
     ps_play) options+=' --keys --view --sizes --show --describe --explain' ;;
     *) options+=' --page --title --engine --prove --keep --install' ;;

@@ -1,3 +1,4 @@
 pub mod DetailsBelow
 pub mod GamesTold
+pub mod LinesOnLevels
 pub mod ReportsTold

@@ -1,5 +1,6 @@
 pub mod Details
 pub mod Reported
+pub mod Searched
 pub mod Statuses
 pub mod Told
 pub mod ViewedGames

@@ -42,6 +42,7 @@ IsStatusOf stop.NoSize status = status ≡ 2
 IsStatusOf stop.NoLevel status = status ≡ 2
 IsStatusOf stop.NoLimit status = status ≡ 2
 IsStatusOf stop.NoFormat status = status ≡ 2
+IsStatusOf stop.NoStates status = status ≡ 2
 IsStatusOf stop.Game status = status ≡ 1
 IsStatusOf (stop.NoSuchLevel _ _) status = status ≡ 1
 IsStatusOf stop.NotAccepted status = status ≡ 1

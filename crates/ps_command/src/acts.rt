@@ -17,7 +17,9 @@ use crate::files::{STANDARD_INPUT, read_game_file, read_input, read_text};
 use crate::playing::play_asked;
 use crate::reporting::{report_alone, report_texts};
 use crate::showing::show_asked;
+use crate::solving::solve_asked;
 use crate::stops::{Stop, stop_for, tell};
+use ps_answers::LevelSolver;
 use ps_check::{check, check_named};
 use ps_devices::{ByteReader, ByteWriter, Player, RunFault};
 use ps_report::{Detail, explanation};
@@ -26,32 +28,34 @@ use std::rt::{Env, Files};
 use std::{env, io};
 
 /// Does what the command line asks for, with keys from `keys`, unless it names a file of keys, and frames to `screen`.
-/// Games are played by `player`. Gives the status to end with: 0 where a run ended, a text was accepted or what was
-/// asked for was told, 1 at a fault, and 2 at a bad command line. A fault and a bad command line are told on standard
-/// error.
+/// Games are played by `player`, and levels searched by `solver`. Gives the status to end with: 0 where a run ended, a
+/// text was accepted, each level can be won or what was asked for was told, 1 at a fault or where a level isn't known to
+/// be won, and 2 at a bad command line. A fault and a bad command line are told on standard error.
 pub fn run_command_line<
     R: Env + Files + AllocGlobal + Print + Eprint,
     P: Player,
+    S: LevelSolver,
     I: ByteReader,
     O: ByteWriter,
->(rt: &R, player: &P, keys: &mut I, screen: &mut O) -> u8
+>(rt: &R, player: &P, solver: &S, keys: &mut I, screen: &mut O) -> u8
     requires heard { (I.state keys.old).has_failed ≡ false }
     requires well { (O.state screen.old).has_failed ≡ false }
     ensures { result ≤ 2 }
 {
-    match act(rt, player, keys, screen) {
+    match act(rt, player, solver, keys, screen) {
         Ok(()) => 0,
         Err(stop) => tell(rt, stop),
     }
 }
 
-/// Does what the command line asks for: plays a game, checks one, or says what a fault is.
-fn act<R: Env + Files + AllocGlobal + Print + Eprint, P: Player, I: ByteReader, O: ByteWriter>(
-    rt: &R,
-    player: &P,
-    keys: &mut I,
-    screen: &mut O,
-) -> Result<(), Stop>
+/// Does what the command line asks for: plays a game, checks one, searches its levels, or says what a fault is.
+fn act<
+    R: Env + Files + AllocGlobal + Print + Eprint,
+    P: Player,
+    S: LevelSolver,
+    I: ByteReader,
+    O: ByteWriter,
+>(rt: &R, player: &P, solver: &S, keys: &mut I, screen: &mut O) -> Result<(), Stop>
     requires heard { (I.state keys.old).has_failed ≡ false }
     requires well { (O.state screen.old).has_failed ≡ false }
 {
@@ -69,6 +73,7 @@ fn act<R: Env + Files + AllocGlobal + Print + Eprint, P: Player, I: ByteReader, 
         Asked::Reports(paths, how) => report_texts(rt, &paths, how, keys, screen),
         Asked::Description(path) => describe_game(rt, path, keys, screen),
         Asked::Show(asked) => show_asked(rt, asked, keys, screen),
+        Asked::Solve(asked) => solve_asked(rt, solver, &asked, keys, screen),
         Asked::Play(asked) => play_asked(rt, player, asked, keys, screen),
     }
 }
@@ -110,6 +115,7 @@ pub fn check_alone<O: ByteWriter>(
 ) -> Result<bool, Stop>
     requires well { (O.state screen.old).has_failed ≡ false }
     ensures is { IfOk result (λ accepted. accepted ≡ is_some (game text.now)) }
+    ensures well { OnOk result ((O.state screen.new).has_failed ≡ false) }
     ensures accepted { IfOk result (λ accepted. accepted ≡ true
         → Grows (O.state screen.old).contents (O.state screen.new).contents (check_line text.now)) }
     ensures told { let line = check_line text.now in OnOk result
@@ -232,7 +238,7 @@ fn check_one<R: Files + AllocGlobal + Eprint, I: ByteReader, O: ByteWriter>(
 }
 
 /// Says of the text of one of several files whether it is a game, and answers that.
-fn check_bytes<O: ByteWriter>(
+pub fn check_bytes<O: ByteWriter>(
     alloc: Global,
     path: &str,
     text: &[u8],

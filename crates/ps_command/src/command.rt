@@ -2,6 +2,7 @@
 
 use crate::files::STANDARD_INPUT;
 use crate::report_options::{all_option, asked_report, format_option, limit_option, wants_report};
+use crate::searches::{solve_option, states_asked, states_option, tasks, words_to_solve};
 use crate::sizes::size_of;
 use crate::stops::Stop;
 use clap::{Arg, ArgAction, ArgMatches, Command};
@@ -38,13 +39,25 @@ pub struct Show<'w> {
     pub sizes: Option<&'w str>,
 }
 
+/// Levels that are to be searched for keys that win.
+#[derive(Drop)]
+pub struct Solve<'w> {
+    /// The files with the texts of games, of which one may be `-` for standard input.
+    pub paths: Vec<&'w str>,
+    /// The number of the level, from 1, of each game; all levels, where there is none.
+    pub level: Option<usize>,
+    /// How many states are kept at most for a level.
+    pub limit: u32,
+}
+
 /// The version, which `--version` tells.
 const VERSION: &str = "0.3.0";
 
 /// What help says below the arguments.
 const AFTER_HELP: &str =
     "Keys: w, a, s, d or the arrows move, x acts, z undoes, r restarts, q quits.
-Status: 0 where the run ended or the check accepted, 1 at a fault, 2 at a bad command line.
+Status: 0 where the run ended, the check accepted or --solve won each level; 1 at a fault, or
+where a level isn't known to be won; 2 at a bad command line.
 A fault of the game is told on standard error, as `line 30: RU7 Unbound`; --check tells it
 on standard output.";
 
@@ -70,6 +83,8 @@ pub enum Asked<'w> {
     Description(&'w str),
     /// That the output of a run be shown as a view shows it.
     Show(Show<'w>),
+    /// Whether levels can be won, and in how few keys.
+    Solve(Solve<'w>),
 }
 
 /// What the words of a command line ask for, of which the first is the program's own name.
@@ -85,6 +100,8 @@ pub fn read_command<'w, S: AsStr>(alloc: Global, words: &'w [S]) -> Result<Asked
         .arg(all_option(alloc)?)?
         .arg(limit_option(alloc)?)?
         .arg(format_option(alloc)?)?
+        .arg(solve_option(alloc)?)?
+        .arg(states_option(alloc)?)?
         .arg(level_option(alloc)?)?
         .arg(keys_option(alloc))?
         .arg(view_option(alloc))?
@@ -93,7 +110,8 @@ pub fn read_command<'w, S: AsStr>(alloc: Global, words: &'w [S]) -> Result<Asked
         .arg(fresh_option(alloc))?
         .arg(show_option(alloc)?)?
         .arg(describe_option(alloc)?)?
-        .arg(explain_option(alloc)?)?;
+        .arg(explain_option(alloc)?)?
+        .group(tasks(alloc)?)?;
     let matches = command.try_get_matches_from(words)?;
     asked_by(alloc, &matches)
 }
@@ -114,6 +132,9 @@ fn asked_by<'w>(alloc: Global, matches: &ArgMatches<'w>) -> Result<Asked<'w>, St
         None => None,
         Some(word) => Some(level_of(word).ok_or(Stop::NoLevel)?),
     };
+    if matches.get_flag("solve") {
+        return asked_solve(alloc, matches, path, level);
+    }
     if wants_report(matches)? {
         return asked_report(alloc, matches, path);
     }
@@ -187,6 +208,24 @@ fn asked_check<'w>(
     })
 }
 
+/// What the matches of a command line ask for that searches levels of games, the first of which is in this file.
+fn asked_solve<'w>(
+    alloc: Global,
+    matches: &ArgMatches<'w>,
+    path: &'w str,
+    level: Option<usize>,
+) -> Result<Asked<'w>, Stop> {
+    let states = states_asked(matches)?;
+    let further = matches.get_strs("FURTHER").unwrap_or(&[]);
+    let words = words_to_solve(level, further)?;
+    let paths = all_paths(alloc, path, words.further)?;
+    Ok(Asked::Solve(Solve {
+        paths,
+        level: words.level,
+        limit: states,
+    }))
+}
+
 /// `GAME`.
 fn game_argument(alloc: Global) -> Result<Arg<'static>, AllocError> {
     Arg::new(alloc, "GAME")
@@ -214,10 +253,10 @@ pub fn all_paths<'w>(
 /// Further texts behind `GAME`, which are checked as well.
 fn further_argument(alloc: Global) -> Result<Arg<'static>, AllocError> {
     Arg::new(alloc, "FURTHER")
-        .help("With --check, further texts; each is told of in a line that begins with its name")
+        .help("With --check or --solve, further texts; each line begins with the name of its text")
         .action(ArgAction::Append)
         .num_args(1..)
-        .requires_arg("check")
+        .requires_arg("TASK")
 }
 
 /// `--check`.
@@ -242,7 +281,7 @@ fn why_option(alloc: Global) -> Result<Arg<'static>, AllocError> {
 }
 
 /// The number of a level that a word gives, from 1.
-fn level_of(word: &str) -> Option<usize> {
+pub fn level_of(word: &str) -> Option<usize> {
     match word.parse::<usize>() {
         Ok(level) if level > 0 => Some(level),
         _ => None,
@@ -254,7 +293,9 @@ fn level_option(alloc: Global) -> Result<Arg<'static>, AllocError> {
     Arg::new(alloc, "level")
         .long("level")
         .value_name("N")
-        .help("Begins at the level of this number, from 1, without what comes before it")
+        .help(
+            "Begins at the level of this number, from 1, without what comes before it; --solve asks of it alone",
+        )
         .action(ArgAction::Set)
         .conflicts_with_all(&["check"])
 }
@@ -333,7 +374,7 @@ fn explain_option(alloc: Global) -> Result<Arg<'static>, AllocError> {
         .help("Says in a sentence what the fault of this code is, as RU7")
         .action(ArgAction::Set)
         .conflicts_with_all(&[
-            "GAME", "FURTHER", "check", "why", "all", "limit", "format", "level", "keys", "view",
-            "sizes", "show", "describe",
+            "GAME", "FURTHER", "check", "why", "all", "limit", "format", "solve", "states",
+            "level", "keys", "view", "sizes", "show", "describe",
         ])
 }

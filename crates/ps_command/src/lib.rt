@@ -12,8 +12,10 @@ mod files;
 mod playing;
 mod report_options;
 mod reporting;
+mod searches;
 mod showing;
 mod sizes;
+mod solving;
 mod stops;
 mod viewed_games;
 

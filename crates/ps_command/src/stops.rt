@@ -32,6 +32,12 @@ const NO_FORMAT: &str = "error: --format takes text, gnu or json
 
 For more information, try '--help'.";
 
+/// What is told where no number of states is given.
+const NO_STATES: &str =
+    "error: --states takes how many states are kept at most, from 1 to 4294967295
+
+For more information, try '--help'.";
+
 /// Why the program ends in place of a run's end.
 #[derive(Drop)]
 pub enum Stop {
@@ -49,11 +55,13 @@ pub enum Stop {
     NoLimit,
     /// The command line gives no form of a check where it is to.
     NoFormat,
+    /// The command line gives no number of states where it is to.
+    NoStates,
     /// The game can't be read.
     Game,
     /// The game has no level of this number, but so many others.
     NoSuchLevel { level: usize, levels: usize },
-    /// The text that was checked is no game, which the check has said already.
+    /// The text that was checked is no game, or a level isn't known to be won, which was told already.
     NotAccepted,
     /// The run came to a fault, or memory ran out or the screen failed where nothing is played.
     Run(RunFault),
@@ -163,10 +171,14 @@ pub fn tell<R: Print + Eprint>(rt: &R, stop: Stop) -> u8
             let _ = rt.eprintln(NO_FORMAT);
             return 2;
         }
+        Stop::NoStates => {
+            let _ = rt.eprintln(NO_STATES);
+            return 2;
+        }
         Stop::Game => {
             let _ = rt.eprintln("cannot read game");
         }
-        Stop::NoSuchLevel { level, levels } => tell_no_such_level(rt, level, levels),
+        Stop::NoSuchLevel { level, levels } => tell_no_such_level(rt, "", level, levels),
         Stop::NotAccepted => {}
         Stop::Run(fault) => {
             let _ = rt.eprintln(fault);
@@ -175,10 +187,10 @@ pub fn tell<R: Print + Eprint>(rt: &R, stop: Stop) -> u8
     1
 }
 
-/// Says that the game has no level of this number, and how many it has.
-fn tell_no_such_level<R: Eprint>(rt: &R, level: usize, levels: usize) {
+/// Says after a front that the game has no level of this number, and how many it has.
+pub fn tell_no_such_level<R: Eprint>(rt: &R, front: &str, level: usize, levels: usize) {
     let word = if levels == 1 { "level" } else { "levels" };
-    let _ = eprintln!(rt; "the game has {levels} {word}: there is no level {level}");
+    let _ = eprintln!(rt; "{front}the game has {levels} {word}: there is no level {level}");
 }
 
 /// Says what is wrong with a command line, or the help or the version that it asks for, and gives the status.

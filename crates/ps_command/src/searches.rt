@@ -1,0 +1,78 @@
+//! The words of a command line that ask whether levels can be won.
+
+use crate::stops::Stop;
+use clap::{Arg, ArgAction, ArgGroup, ArgMatches};
+use std::alloc::{AllocError, Global};
+
+/// How many states are kept for a level at most, where no other number is given.
+const MOST_STATES: u32 = 1_000_000;
+
+/// `--solve`.
+pub fn solve_option(alloc: Global) -> Result<Arg<'static>, AllocError> {
+    Arg::new(alloc, "solve")
+        .long("solve")
+        .help(
+            "Says of each level, or of the one whose number follows GAME, whether it can be won, and in how few keys; plays nothing",
+        )
+        .action(ArgAction::SetTrue)
+        .conflicts_with_all(&[
+            "check", "why", "all", "limit", "format", "keys", "view", "sizes", "show", "describe",
+        ])
+}
+
+/// `--states N`.
+pub fn states_option(alloc: Global) -> Result<Arg<'static>, AllocError> {
+    Arg::new(alloc, "states")
+        .long("states")
+        .value_name("N")
+        .help("With --solve, keeps at most N states for a level, in place of 1000000")
+        .action(ArgAction::Set)
+        .requires_arg("solve")
+}
+
+/// What several texts can be given for: one of these.
+pub fn tasks(alloc: Global) -> Result<ArgGroup<'static>, AllocError> {
+    ArgGroup::new(alloc, "TASK").args(&["check", "solve"])
+}
+
+/// How many states a word lets be kept, from 1.
+fn states_of(word: &str) -> Option<u32> {
+    match word.parse::<u32>() {
+        Ok(most) if most > 0 => Some(most),
+        _ => None,
+    }
+}
+
+/// How many states the matches of a command line let be kept for a level.
+pub fn states_asked(matches: &ArgMatches<'_>) -> Result<u32, Stop> {
+    match matches.get_str("states") {
+        None => Ok(MOST_STATES),
+        Some(word) => states_of(word).ok_or(Stop::NoStates),
+    }
+}
+
+/// The words after the first text, and the number of the level.
+#[derive(Clone, Copy)]
+pub struct WordsToSolve<'w, 'm> {
+    pub further: &'m [&'w str],
+    pub level: Option<usize>,
+}
+
+/// What is meant by the words after the first text. They are further texts; but a number alone is that of the level,
+/// unless an option has given it.
+pub fn words_to_solve<'w, 'm>(
+    level: Option<usize>,
+    further: &'m [&'w str],
+) -> Result<WordsToSolve<'w, 'm>, Stop> {
+    if level.is_some() || further.len() != 1 {
+        return Ok(WordsToSolve { further, level });
+    }
+    match further[0].parse::<usize>() {
+        Ok(0) => Err(Stop::NoLevel),
+        Ok(number) => Ok(WordsToSolve {
+            further: &[],
+            level: Some(number),
+        }),
+        Err(_) => Ok(WordsToSolve { further, level }),
+    }
+}

@@ -1,0 +1,231 @@
+//! Levels that are searched for keys that win.
+
+ghost use Rattle.std.specs.Prelude.{◌≡◌, ◌≢◌, Err, false, true, IfErr, IfOk, OnOk, map, string_bytes};
+ghost use Rattle.ps_answers.specs.TellsLevels.{Tells};
+ghost use Rattle.ps_command.specs.Searched.{AreLinesToldOf, AreWonLines, IsLineOnRefused, IsRefused};
+ghost use Rattle.ps_command.specs.Searched.{front_of, question_of};
+ghost use Rattle.ps_command.specs.Told.{TellsInOrder};
+ghost use Rattle.ps_command.specs.declared.stops.Stop.TheVariants as Stop;
+
+use crate::acts::{check_alone, check_bytes, tell_unread};
+use crate::command::Solve;
+use crate::files::{STANDARD_INPUT, read_game_file, read_input};
+use crate::stops::{Stop, tell_no_such_level};
+use ps_answers::{LevelSolver, LevelTeller, Refusal, SolvableGame, TellFault, Unwatched};
+use ps_devices::{ByteReader, ByteWriter, RunFault};
+use ps_report::Detail;
+use std::rt::Files;
+
+/// Says of levels of games on the screen whether they can be won, and in how few keys: a line for each. Of several texts
+/// each line begins with the name of its text. A text that is no game is told of as a check does it, and one that can't be
+/// read on standard error; neither ends the search of the others.
+pub fn solve_asked<R: Files + AllocGlobal + Eprint, S: LevelSolver, I: ByteReader, O: ByteWriter>(
+    rt: &R,
+    solver: &S,
+    asked: &Solve<'_>,
+    input: &mut I,
+    screen: &mut O,
+) -> Result<(), Stop>
+    requires heard { (I.state input.old).has_failed ≡ false }
+    requires well { (O.state screen.old).has_failed ≡ false }
+    ensures won { OnOk result (TellsInOrder (AreWonLines (question_of asked.now))
+        (map (λ path. path.now) asked.now.paths.items) (O.state screen.old).contents (O.state screen.new).contents) }
+    ensures told { result ≡ Err Stop.NotAccepted → TellsInOrder (AreLinesToldOf (question_of asked.now))
+        (map (λ path. path.now) asked.now.paths.items) (O.state screen.old).contents (O.state screen.new).contents }
+{
+    let question = Question {
+        level: asked.level,
+        limit: asked.limit,
+        is_named: asked.paths.len() > 1,
+    };
+    let search = Search {
+        rt,
+        solver,
+        question,
+    };
+    if search.solve_files(&asked.paths, input, screen)? {
+        Ok(())
+    } else {
+        Err(Stop::NotAccepted)
+    }
+}
+
+/// What is asked of each text.
+#[derive(Clone, Copy)]
+pub struct Question {
+    /// The number of the level; all levels, where there is none.
+    pub level: Option<usize>,
+    /// How many states are kept at most for a level.
+    pub limit: u32,
+    /// Whether each line begins with the name of its text.
+    pub is_named: bool,
+}
+
+/// What searches texts for levels that can be won.
+#[derive(Drop)]
+struct Search<'s, R: Files + AllocGlobal + Eprint, S: LevelSolver> {
+    rt: &'s R,
+    solver: &'s S,
+    question: Question,
+}
+
+impl<'s, R: Files + AllocGlobal + Eprint, S: LevelSolver> Search<'s, R, S> {
+    /// Says of levels of the games in files whether they can be won, and answers whether all can.
+    fn solve_files<I: ByteReader, O: ByteWriter>(
+        &self,
+        paths: &[&str],
+        input: &mut I,
+        screen: &mut O,
+    ) -> Result<bool, Stop>
+        requires heard { (I.state input.old).has_failed ≡ false }
+        requires well { (O.state screen.old).has_failed ≡ false }
+        ensures won { IfOk result (λ won. won ≡ true → TellsInOrder (AreWonLines self.now.question)
+            (map (λ path. path.now) paths.now) (O.state screen.old).contents (O.state screen.new).contents) }
+        ensures told { OnOk result (TellsInOrder (AreLinesToldOf self.now.question)
+            (map (λ path. path.now) paths.now) (O.state screen.old).contents (O.state screen.new).contents) }
+        ensures fault { IfErr result (λ stop. stop ≢ Stop.NotAccepted) }
+    {
+        let mut all_won = true;
+        for path in paths {
+            let won = self.solve_file(*path, input, screen)?;
+            all_won = all_won && won;
+        }
+        Ok(all_won)
+    }
+
+    /// Says of levels of the game in a file whether they can be won, and answers whether all can. Nothing is said on the
+    /// screen of a file that can't be read.
+    fn solve_file<I: ByteReader, O: ByteWriter>(
+        &self,
+        path: &str,
+        input: &mut I,
+        screen: &mut O,
+    ) -> Result<bool, Stop>
+        requires heard { (I.state input.old).has_failed ≡ false }
+        requires well { (O.state screen.old).has_failed ≡ false }
+        ensures heard { OnOk result ((I.state input.new).has_failed ≡ false) }
+        ensures well { OnOk result ((O.state screen.new).has_failed ≡ false) }
+        ensures won { IfOk result (λ won. won ≡ true → Tells (AreWonLines self.now.question path.now)
+            (O.state screen.old).contents (O.state screen.new).contents) }
+        ensures told { OnOk result (Tells (AreLinesToldOf self.now.question path.now)
+            (O.state screen.old).contents (O.state screen.new).contents) }
+        ensures fault { IfErr result (λ stop. stop ≢ Stop.NotAccepted) }
+    {
+        if path == STANDARD_INPUT {
+            let text = read_input(self.rt.alloc(), input)?;
+            return self.solve_text(path, &text, screen);
+        }
+        match read_game_file(self.rt, path) {
+            Ok(text) => self.solve_text(path, &text, screen),
+            Err(error) => {
+                tell_unread(self.rt, path, error)?;
+                Ok(false)
+            }
+        }
+    }
+
+    /// Says of levels of the game of a text whether they can be won, and answers whether all can.
+    fn solve_text<O: ByteWriter>(
+        &self,
+        path: &str,
+        text: &[u8],
+        screen: &mut O,
+    ) -> Result<bool, Stop>
+        requires well { (O.state screen.old).has_failed ≡ false }
+        ensures well { OnOk result ((O.state screen.new).has_failed ≡ false) }
+        ensures won { IfOk result (λ won. won ≡ true → Tells (AreWonLines self.now.question path.now)
+            (O.state screen.old).contents (O.state screen.new).contents) }
+        ensures told { OnOk result (Tells (AreLinesToldOf self.now.question path.now)
+            (O.state screen.old).contents (O.state screen.new).contents) }
+        ensures fault { IfErr result (λ stop. stop ≢ Stop.NotAccepted) }
+    {
+        match self.solver.open(self.rt.alloc(), text) {
+            Ok(game) => self.solve_game(path, &game, screen),
+            Err(Refusal::Memory) => Err(Stop::Run(RunFault::Memory)),
+            Err(Refusal::Refused(_)) => {
+                self.tell_refused(path, text, screen)?;
+                Ok(false)
+            }
+        }
+    }
+
+    /// The same of a game whose text has this name.
+    fn solve_game<O: ByteWriter>(
+        &self,
+        path: &str,
+        game: &S::Game,
+        screen: &mut O,
+    ) -> Result<bool, Stop>
+        requires well { (O.state screen.old).has_failed ≡ false }
+        ensures well { OnOk result ((O.state screen.new).has_failed ≡ false) }
+        ensures won { IfOk result (λ won. won ≡ true → Tells (AreWonLines self.now.question path.now)
+            (O.state screen.old).contents (O.state screen.new).contents) }
+        ensures told { OnOk result (Tells (AreLinesToldOf self.now.question path.now)
+            (O.state screen.old).contents (O.state screen.new).contents) }
+        ensures fault { IfErr result (λ stop. stop ≢ Stop.NotAccepted) }
+    {
+        let front = self.front_of(path)?;
+        let mut teller = LevelTeller {
+            alloc: self.rt.alloc(),
+            game,
+            watcher: &mut Unwatched,
+            front: &front,
+            limit: self.question.limit,
+        };
+        match teller.tell(self.question.level, screen) {
+            Ok(Some(all_won)) => Ok(all_won),
+            Ok(None) => {
+                self.tell_lacking(path, game.level_count())?;
+                Ok(false)
+            }
+            Err(TellFault::Memory) => Err(Stop::Run(RunFault::Memory)),
+            Err(TellFault::Write) => Err(Stop::Run(RunFault::Write)),
+        }
+    }
+
+    /// What each line begins with on a level of the text with this name.
+    fn front_of(&self, path: &str) -> Result<String, Stop>
+        ensures front { IfOk result (λ front. string_bytes front ≡ front_of self.now.question.is_named path.now) }
+        ensures fault { IfErr result (λ stop. stop ≢ Stop.NotAccepted) }
+    {
+        if !self.question.is_named {
+            return Ok(String::new(self.rt.alloc()));
+        }
+        let front = format!(in self.rt.alloc(); "{path}: ")?;
+        Ok(front)
+    }
+
+    /// Says on standard error that the game in a file has no level of the number that is asked for, and how many it has.
+    fn tell_lacking(&self, path: &str, levels: usize) -> Result<(), Stop>
+        ensures { IfErr result (λ stop. stop ≢ Stop.NotAccepted) }
+    {
+        let front = self.front_of(path)?;
+        if let Some(level) = self.question.level {
+            tell_no_such_level(self.rt, &front, level, levels);
+        }
+        Ok(())
+    }
+
+    /// Says of a text that is no game which fault it has first.
+    fn tell_refused<O: ByteWriter>(
+        &self,
+        path: &str,
+        text: &[u8],
+        screen: &mut O,
+    ) -> Result<(), Stop>
+        requires well { (O.state screen.old).has_failed ≡ false }
+        requires refused { IsRefused text.now }
+        ensures well { OnOk result ((O.state screen.new).has_failed ≡ false) }
+        ensures told { OnOk result (Tells (IsLineOnRefused self.now.question path.now)
+            (O.state screen.old).contents (O.state screen.new).contents) }
+        ensures fault { IfErr result (λ stop. stop ≢ Stop.NotAccepted) }
+    {
+        let alloc = self.rt.alloc();
+        if self.question.is_named {
+            check_bytes(alloc, path, text, Detail::Line, screen)?;
+            return Ok(());
+        }
+        check_alone(alloc, text, Detail::Line, screen)?;
+        Ok(())
+    }
+}
