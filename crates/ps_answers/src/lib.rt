@@ -2,17 +2,21 @@
 //!
 //! A [`SolvableGame`] says whether its levels can be won, and by how few keys; a [`LevelSolver`] reads it from a
 //! text. A command line asks for no more than this, and so needs nothing of what searches. A [`Solved`] is the
-//! answer, and a [`LevelTeller`] writes the lines that tell it.
+//! answer, and a [`LevelTeller`] writes the lines that tell it, for people or in JSON.
 #![tactic(auto)]
 
+mod forms;
 mod lines;
+mod objects;
 mod solved;
 mod solvers;
 mod tellers;
 #[cfg(test)]
 mod tests;
 
+pub use forms::{Form, told_in};
 pub use lines::level_line;
+pub use objects::object_line;
 pub use ps_model::{Input, Memory, Refusal};
 pub use ps_search::{Unwatched, Watcher};
 pub use solved::{Solved, Unsolved};
