@@ -107,7 +107,7 @@ fn check_text<R: Files + AllocGlobal, I: ByteReader, O: ByteWriter>(
 }
 
 /// Says of a text on the screen whether it is a game, and answers that.
-pub fn check_alone<O: ByteWriter>(
+fn check_alone<O: ByteWriter>(
     alloc: Global,
     text: &[u8],
     detail: Detail,
@@ -238,7 +238,7 @@ fn check_one<R: Files + AllocGlobal + Eprint, I: ByteReader, O: ByteWriter>(
 }
 
 /// Says of the text of one of several files whether it is a game, and answers that.
-pub fn check_bytes<O: ByteWriter>(
+fn check_bytes<O: ByteWriter>(
     alloc: Global,
     path: &str,
     text: &[u8],
