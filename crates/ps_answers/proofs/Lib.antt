@@ -1,2 +1,3 @@
 pub mod FirstLevels
 pub mod Joined
+pub mod ObjectsPlain

@@ -2,10 +2,12 @@
 //!
 //! A [`SolvableGame`] says whether its levels can be won, and by how few keys; a [`LevelSolver`] reads it from a
 //! text. A command line asks for no more than this, and so needs nothing of what searches. A [`Solved`] is the
-//! answer, and a [`LevelTeller`] writes the lines that tell it.
+//! answer, and a [`LevelTeller`] writes the lines that tell it, for people or in JSON.
 #![tactic(auto)]
 
+mod forms;
 mod lines;
+mod objects;
 mod progress;
 mod solved;
 mod solvers;
@@ -14,7 +16,9 @@ mod watching;
 #[cfg(test)]
 mod tests;
 
+pub use forms::{Form, told_in};
 pub use lines::level_line;
+pub use objects::object_line;
 pub use progress::SearchProgress;
 pub use ps_model::{Input, Memory, Refusal};
 pub use ps_search::{Unwatched, Watcher};

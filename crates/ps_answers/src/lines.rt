@@ -1,7 +1,7 @@
 //! The line that tells an answer about a level.
 
 ghost use Rattle.std.specs.Fmt.{decimal};
-ghost use Rattle.std.specs.Prelude.{◌≡◌, ◌++◌, IfOk, OnOk, map};
+ghost use Rattle.std.specs.Prelude.{◌≡◌, ◌++◌, ◌∷◌, [], IfOk, OnOk, map};
 ghost use Rattle.ps_answers.specs.SolvedWords.{counted, digit, grouped, last_digits, letter, level_line};
 ghost use Rattle.ps_answers.specs.SolvedWords.{never_words, reason_words, solved_words, unknown_words, won_words};
 
@@ -10,7 +10,7 @@ use ps_model::{Input, Memory};
 use std::alloc::Global;
 
 /// Adds a text to a line.
-fn add(line: &mut Vec<u8>, text: &str) -> Result<(), Memory>
+pub fn add(line: &mut Vec<u8>, text: &str) -> Result<(), Memory>
     ensures { OnOk result (line.new.items ≡ line.old.items ++ text.now) }
 {
     line.extend_from_slice(text.as_bytes())?;
@@ -76,16 +76,16 @@ fn add_counted(alloc: Global, line: &mut Vec<u8>, number: usize, word: &str) -> 
     add(line, "s")
 }
 
-/// The key of an input.
-fn letter(input: Input) -> u8
-    ensures { result ≡ letter input }
+/// The key of an input, as a text.
+pub fn letter(input: Input) -> &'static str
+    ensures { result.now ≡ letter input ∷ [] }
 {
     match input {
-        Input::Up => b'w',
-        Input::Left => b'a',
-        Input::Down => b's',
-        Input::Right => b'd',
-        Input::Action => b'x',
+        Input::Up => "w",
+        Input::Left => "a",
+        Input::Down => "s",
+        Input::Right => "d",
+        Input::Action => "x",
     }
 }
 
@@ -94,7 +94,7 @@ fn add_letters(line: &mut Vec<u8>, inputs: &[Input]) -> Result<(), Memory>
     ensures { OnOk result (line.new.items ≡ line.old.items ++ map letter inputs.now) }
 {
     for input in inputs {
-        line.push(letter(*input))?;
+        add(line, letter(*input))?;
     }
     Ok(())
 }

@@ -159,6 +159,9 @@ impl<'r, R: Clock + Eprint + Files> Watcher for SearchProgress<'r, R> {
 
 impl<'r, R: Clock + Eprint + Files> LevelWatcher for SearchProgress<'r, R> {
     fn begins(&mut self, level: usize) {
+        if !self.is_stopped {
+            self.is_stopped = self.is_stop_asked();
+        }
         self.level = level;
         self.places = 0;
         if let Ok(now) = self.rt.monotonic() {

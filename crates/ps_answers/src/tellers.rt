@@ -1,11 +1,12 @@
 //! Who tells what can be said of levels.
 
 ghost use Rattle.std.specs.Prelude.{◌≡◌, ◌≢◌, ◌≤◌, Err, false, IfErr, IfOk, IfSome, None, Ok};
+ghost use Rattle.ps_answers.specs.Forms.{told_in};
 ghost use Rattle.ps_answers.specs.SolvedTexts.{HasLevelOf, HasLevels};
 ghost use Rattle.ps_answers.specs.TellsLevels.{AreLinesOn, AreLinesOnFirst, AreLinesOnLevels, IsLineOnLevel, Tells};
 ghost use Rattle.ps_answers.specs.declared.tellers.TellFault.TheVariants as TellFault;
 
-use crate::lines::level_line;
+use crate::forms::{Form, told_in};
 use crate::solvers::SolvableGame;
 use crate::watching::LevelWatcher;
 use ps_devices::{ByteWriter, write_whole};
@@ -40,8 +41,9 @@ pub struct LevelTeller<'s, G: SolvableGame, T: LevelWatcher> {
     pub alloc: Global,
     pub game: &'s G,
     pub watcher: &'s mut T,
-    /// What each line begins with: nothing, or the name of the game's text and `: `.
-    pub front: &'s str,
+    pub form: Form,
+    /// The name of the game's text.
+    pub name: &'s str,
     /// How many states may be kept for a level.
     pub limit: u32,
 }
@@ -57,10 +59,11 @@ impl<'s, G: SolvableGame, T: LevelWatcher> LevelTeller<'s, G, T> {
         requires well { (W.state writer.old).has_failed ≡ false }
         requires level { HasLevelOf (G.text self.old.game.now) level }
         ensures game { self.new.game ≡ self.old.game }
-        ensures front { self.new.front ≡ self.old.front }
+        ensures form { self.new.form ≡ self.old.form }
+        ensures name { self.new.name ≡ self.old.name }
         ensures limit { self.new.limit ≡ self.old.limit }
         ensures told { IfOk result (λ won. Tells
-            (IsLineOnLevel (G.text self.old.game.now) self.old.front.now self.old.limit level won)
+            (IsLineOnLevel (G.text self.old.game.now) (told_in self.old.form self.old.name.now) self.old.limit level won)
             (W.state writer.old).contents (W.state writer.new).contents) }
         ensures well { result ≢ Err TellFault.Write → (W.state writer.new).has_failed ≡ false }
     {
@@ -70,7 +73,7 @@ impl<'s, G: SolvableGame, T: LevelWatcher> LevelTeller<'s, G, T> {
             .solve_level(self.alloc, level, self.limit, &mut *self.watcher);
         self.watcher.ends();
         let solved = found?;
-        let line = level_line(self.alloc, self.front, level, &solved)?;
+        let line = told_in(self.alloc, self.form, self.name, level, &solved)?;
         match write_whole(&line, writer) {
             Ok(()) => Ok(solved.is_won()),
             Err(_) => Err(TellFault::Write),
@@ -86,7 +89,7 @@ impl<'s, G: SolvableGame, T: LevelWatcher> LevelTeller<'s, G, T> {
         requires well { (W.state writer.old).has_failed ≡ false }
         requires levels { HasLevels (G.text self.old.game.now) levels }
         ensures told { IfOk result (λ won. Tells
-            (AreLinesOnFirst (G.text self.old.game.now) self.old.front.now self.old.limit levels won)
+            (AreLinesOnFirst (G.text self.old.game.now) (told_in self.old.form self.old.name.now) self.old.limit levels won)
             (W.state writer.old).contents (W.state writer.new).contents) }
         ensures well { result ≢ Err TellFault.Write → (W.state writer.new).has_failed ≡ false }
     {
@@ -102,7 +105,7 @@ impl<'s, G: SolvableGame, T: LevelWatcher> LevelTeller<'s, G, T> {
     fn tell_levels<W: ByteWriter>(&mut self, writer: &mut W) -> Result<bool, TellFault>
         requires well { (W.state writer.old).has_failed ≡ false }
         ensures told { IfOk result (λ won. Tells
-            (AreLinesOnLevels (G.text self.old.game.now) self.old.front.now self.old.limit won)
+            (AreLinesOnLevels (G.text self.old.game.now) (told_in self.old.form self.old.name.now) self.old.limit won)
             (W.state writer.old).contents (W.state writer.new).contents) }
         ensures well { result ≢ Err TellFault.Write → (W.state writer.new).has_failed ≡ false }
     {
@@ -125,7 +128,7 @@ impl<'s, G: SolvableGame, T: LevelWatcher> LevelTeller<'s, G, T> {
     ) -> Result<Option<bool>, TellFault>
         requires well { (W.state writer.old).has_failed ≡ false }
         ensures told { IfOk result (λ told. IfSome told (λ won. Tells
-            (AreLinesOn level (G.text self.old.game.now) self.old.front.now self.old.limit won)
+            (AreLinesOn level (G.text self.old.game.now) (told_in self.old.form self.old.name.now) self.old.limit won)
             (W.state writer.old).contents (W.state writer.new).contents)) }
         ensures lacking { result ≡ Ok None → writer.new ≡ writer.old }
         ensures well { result ≢ Err TellFault.Write → (W.state writer.new).has_failed ≡ false }

@@ -13,6 +13,7 @@ ghost use Rattle.ps_devices.specs.Devices.{Grows};
 use crate::command::{Asked, read_command};
 use crate::descriptions::describe_game;
 use crate::details::show_detail;
+use crate::engine::Engine;
 use crate::files::{STANDARD_INPUT, read_game_file, read_input, read_text};
 use crate::playing::play_asked;
 use crate::reporting::{report_alone, report_texts};
@@ -25,24 +26,25 @@ use ps_devices::{ByteReader, ByteWriter, Player, RunFault};
 use ps_report::{Detail, explanation};
 use std::alloc::Global;
 use std::rt::{Env, Files};
+use std::time::Clock;
 use std::{env, io};
 
 /// Does what the command line asks for, with keys from `keys`, unless it names a file of keys, and frames to `screen`.
-/// Games are played by `player`, and levels searched by `solver`. Gives the status to end with: 0 where a run ended, a
-/// text was accepted, each level can be won or what was asked for was told, 1 at a fault or where a level isn't known to
-/// be won, and 2 at a bad command line. A fault and a bad command line are told on standard error.
+/// Games are played and levels searched by `engine`. Gives the status to end with: 0 where a run ended, a text was
+/// accepted, each level can be won or what was asked for was told, 1 at a fault or where a level isn't known to be won,
+/// and 2 at a bad command line. A fault and a bad command line are told on standard error.
 pub fn run_command_line<
-    R: Env + Files + AllocGlobal + Print + Eprint,
+    R: Env + Files + AllocGlobal + Clock + Print + Eprint,
     P: Player,
     S: LevelSolver,
     I: ByteReader,
     O: ByteWriter,
->(rt: &R, player: &P, solver: &S, keys: &mut I, screen: &mut O) -> u8
+>(rt: &R, engine: &Engine<'_, P, S>, keys: &mut I, screen: &mut O) -> u8
     requires heard { (I.state keys.old).has_failed ≡ false }
     requires well { (O.state screen.old).has_failed ≡ false }
     ensures { result ≤ 2 }
 {
-    match act(rt, player, solver, keys, screen) {
+    match act(rt, engine, keys, screen) {
         Ok(()) => 0,
         Err(stop) => tell(rt, stop),
     }
@@ -50,12 +52,12 @@ pub fn run_command_line<
 
 /// Does what the command line asks for: plays a game, checks one, searches its levels, or says what a fault is.
 fn act<
-    R: Env + Files + AllocGlobal + Print + Eprint,
+    R: Env + Files + AllocGlobal + Clock + Print + Eprint,
     P: Player,
     S: LevelSolver,
     I: ByteReader,
     O: ByteWriter,
->(rt: &R, player: &P, solver: &S, keys: &mut I, screen: &mut O) -> Result<(), Stop>
+>(rt: &R, engine: &Engine<'_, P, S>, keys: &mut I, screen: &mut O) -> Result<(), Stop>
     requires heard { (I.state keys.old).has_failed ≡ false }
     requires well { (O.state screen.old).has_failed ≡ false }
 {
@@ -73,8 +75,8 @@ fn act<
         Asked::Reports(paths, how) => report_texts(rt, &paths, how, keys, screen),
         Asked::Description(path) => describe_game(rt, path, keys, screen),
         Asked::Show(asked) => show_asked(rt, asked, keys, screen),
-        Asked::Solve(asked) => solve_asked(rt, solver, &asked, keys, screen),
-        Asked::Play(asked) => play_asked(rt, player, asked, keys, screen),
+        Asked::Solve(asked) => solve_asked(rt, engine, &asked, keys, screen),
+        Asked::Play(asked) => play_asked(rt, engine.player, asked, keys, screen),
     }
 }
 
@@ -107,7 +109,7 @@ fn check_text<R: Files + AllocGlobal, I: ByteReader, O: ByteWriter>(
 }
 
 /// Says of a text on the screen whether it is a game, and answers that.
-pub fn check_alone<O: ByteWriter>(
+fn check_alone<O: ByteWriter>(
     alloc: Global,
     text: &[u8],
     detail: Detail,
@@ -238,7 +240,7 @@ fn check_one<R: Files + AllocGlobal + Eprint, I: ByteReader, O: ByteWriter>(
 }
 
 /// Says of the text of one of several files whether it is a game, and answers that.
-pub fn check_bytes<O: ByteWriter>(
+fn check_bytes<O: ByteWriter>(
     alloc: Global,
     path: &str,
     text: &[u8],

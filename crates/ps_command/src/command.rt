@@ -2,7 +2,9 @@
 
 use crate::files::STANDARD_INPUT;
 use crate::report_options::{all_option, asked_report, format_option, limit_option, wants_report};
-use crate::searches::{solve_option, states_asked, states_option, tasks, words_to_solve};
+use crate::searches::{
+    solve_option, states_asked, states_option, stop_option, tasks, wants_data, words_to_solve,
+};
 use crate::sizes::size_of;
 use crate::stops::Stop;
 use clap::{Arg, ArgAction, ArgMatches, Command};
@@ -48,6 +50,10 @@ pub struct Solve<'w> {
     pub level: Option<usize>,
     /// How many states are kept at most for a level.
     pub limit: u32,
+    /// Whether objects of JSON are told, and no lines for people.
+    pub is_data: bool,
+    /// The file that ends the search once it is there, if one is named.
+    pub stop_file: Option<&'w str>,
 }
 
 /// The version, which `--version` tells.
@@ -102,6 +108,7 @@ pub fn read_command<'w, S: AsStr>(alloc: Global, words: &'w [S]) -> Result<Asked
         .arg(format_option(alloc)?)?
         .arg(solve_option(alloc)?)?
         .arg(states_option(alloc)?)?
+        .arg(stop_option(alloc)?)?
         .arg(level_option(alloc)?)?
         .arg(keys_option(alloc))?
         .arg(view_option(alloc))?
@@ -216,6 +223,7 @@ fn asked_solve<'w>(
     level: Option<usize>,
 ) -> Result<Asked<'w>, Stop> {
     let states = states_asked(matches)?;
+    let is_data = wants_data(matches)?;
     let further = matches.get_strs("FURTHER").unwrap_or(&[]);
     let words = words_to_solve(level, further)?;
     let paths = all_paths(alloc, path, words.further)?;
@@ -223,6 +231,8 @@ fn asked_solve<'w>(
         paths,
         level: words.level,
         limit: states,
+        is_data,
+        stop_file: matches.get_str("stop-file"),
     }))
 }
 

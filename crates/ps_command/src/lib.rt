@@ -8,6 +8,7 @@ mod acts;
 mod command;
 mod descriptions;
 mod details;
+mod engine;
 mod files;
 mod playing;
 mod report_options;
@@ -20,3 +21,4 @@ mod stops;
 mod viewed_games;
 
 pub use acts::run_command_line;
+pub use engine::Engine;

@@ -36,10 +36,10 @@ pub fn format_option(alloc: Global) -> Result<Arg<'static>, AllocError> {
         .long("format")
         .value_name("FORMAT")
         .help(
-            "With --check, tells of texts as text for people, gnu for editors, or json: an object for each text",
+            "Tells what --check or --solve says as text for people or as json for programs; --check also as gnu for editors",
         )
         .action(ArgAction::Set)
-        .requires_arg("check")
+        .requires_arg("TASK")
 }
 
 /// The form that a word asks for.
@@ -52,8 +52,8 @@ fn format_of(word: &str) -> Option<Format> {
     }
 }
 
-/// The form in which the matches of a command line ask for a check.
-fn format_asked(matches: &ArgMatches<'_>) -> Result<Format, Stop> {
+/// The form in which the matches of a command line ask for what is told.
+pub fn format_asked(matches: &ArgMatches<'_>) -> Result<Format, Stop> {
     match matches.get_str("format") {
         None => Ok(Format::Text),
         Some(word) => format_of(word).ok_or(Stop::NoFormat),

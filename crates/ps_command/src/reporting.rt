@@ -17,7 +17,7 @@ use std::alloc::Global;
 use std::rt::Files;
 
 /// Tells of the text of that name on the screen, and answers whether it is a game.
-fn report_bytes<O: ByteWriter>(
+pub fn report_bytes<O: ByteWriter>(
     alloc: Global,
     name: &str,
     text: &[u8],

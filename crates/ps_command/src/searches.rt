@@ -1,7 +1,9 @@
 //! The words of a command line that ask whether levels can be won.
 
+use crate::report_options::format_asked;
 use crate::stops::Stop;
 use clap::{Arg, ArgAction, ArgGroup, ArgMatches};
+use ps_report::Format;
 use std::alloc::{AllocError, Global};
 
 /// How many states are kept for a level at most, where no other number is given.
@@ -16,7 +18,7 @@ pub fn solve_option(alloc: Global) -> Result<Arg<'static>, AllocError> {
         )
         .action(ArgAction::SetTrue)
         .conflicts_with_all(&[
-            "check", "why", "all", "limit", "format", "keys", "view", "sizes", "show", "describe",
+            "check", "why", "all", "limit", "keys", "view", "sizes", "show", "describe",
         ])
 }
 
@@ -26,6 +28,16 @@ pub fn states_option(alloc: Global) -> Result<Arg<'static>, AllocError> {
         .long("states")
         .value_name("N")
         .help("With --solve, keeps at most N states for a level, in place of 1000000")
+        .action(ArgAction::Set)
+        .requires_arg("solve")
+}
+
+/// `--stop-file FILE`.
+pub fn stop_option(alloc: Global) -> Result<Arg<'static>, AllocError> {
+    Arg::new(alloc, "stop-file")
+        .long("stop-file")
+        .value_name("FILE")
+        .help("With --solve, ends the search once FILE is there, and says what is known then")
         .action(ArgAction::Set)
         .requires_arg("solve")
 }
@@ -48,6 +60,15 @@ pub fn states_asked(matches: &ArgMatches<'_>) -> Result<u32, Stop> {
     match matches.get_str("states") {
         None => Ok(MOST_STATES),
         Some(word) => states_of(word).ok_or(Stop::NoStates),
+    }
+}
+
+/// Whether the matches of a command line ask for objects of JSON. There is no form for editors.
+pub fn wants_data(matches: &ArgMatches<'_>) -> Result<bool, Stop> {
+    match format_asked(matches)? {
+        Format::Text => Ok(false),
+        Format::Json => Ok(true),
+        Format::Gnu => Err(Stop::NoFormat),
     }
 }
 

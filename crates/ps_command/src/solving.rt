@@ -1,27 +1,36 @@
 //! Levels that are searched for keys that win.
 
-ghost use Rattle.std.specs.Prelude.{◌≡◌, ◌≢◌, Err, false, true, IfErr, IfOk, OnOk, map, string_bytes};
+ghost use Rattle.std.specs.Prelude.{◌≡◌, ◌≢◌, Err, false, true, IfErr, IfOk, OnOk, map};
 ghost use Rattle.ps_answers.specs.TellsLevels.{Tells};
 ghost use Rattle.ps_command.specs.Searched.{AreLinesToldOf, AreWonLines, IsLineOnRefused, IsRefused};
-ghost use Rattle.ps_command.specs.Searched.{front_of, question_of};
+ghost use Rattle.ps_command.specs.Searched.{form_of, how_refused, question_of};
 ghost use Rattle.ps_command.specs.Told.{TellsInOrder};
 ghost use Rattle.ps_command.specs.declared.stops.Stop.TheVariants as Stop;
 
-use crate::acts::{check_alone, check_bytes, tell_unread};
+use crate::acts::tell_unread;
 use crate::command::Solve;
+use crate::engine::Engine;
 use crate::files::{STANDARD_INPUT, read_game_file, read_input};
+use crate::reporting::report_bytes;
 use crate::stops::{Stop, tell_no_such_level};
-use ps_answers::{LevelSolver, LevelTeller, Refusal, SolvableGame, TellFault, Unwatched};
-use ps_devices::{ByteReader, ByteWriter, RunFault};
-use ps_report::Detail;
+use ps_answers::{Form, LevelSolver, LevelTeller, Refusal, SearchProgress, SolvableGame, TellFault};
+use ps_devices::{ByteReader, ByteWriter, Player, RunFault};
+use ps_report::{Detail, Format, How};
 use std::rt::Files;
+use std::time::Clock;
 
-/// Says of levels of games on the screen whether they can be won, and in how few keys: a line for each. Of several texts
-/// each line begins with the name of its text. A text that is no game is told of as a check does it, and one that can't be
-/// read on standard error; neither ends the search of the others.
-pub fn solve_asked<R: Files + AllocGlobal + Eprint, S: LevelSolver, I: ByteReader, O: ByteWriter>(
+/// Says of levels of games on the screen whether they can be won, and in how few keys: a line for each, or an object of
+/// JSON. Of several texts each line begins with the name of its text. A text that is no game is told as a check tells it,
+/// and one that can't be read on standard error; neither ends the search of the others.
+pub fn solve_asked<
+    R: Files + AllocGlobal + Clock + Eprint,
+    P: Player,
+    S: LevelSolver,
+    I: ByteReader,
+    O: ByteWriter,
+>(
     rt: &R,
-    solver: &S,
+    engine: &Engine<'_, P, S>,
     asked: &Solve<'_>,
     input: &mut I,
     screen: &mut O,
@@ -37,11 +46,14 @@ pub fn solve_asked<R: Files + AllocGlobal + Eprint, S: LevelSolver, I: ByteReade
         level: asked.level,
         limit: asked.limit,
         is_named: asked.paths.len() > 1,
+        is_data: asked.is_data,
     };
     let search = Search {
         rt,
-        solver,
+        solver: engine.solver,
         question,
+        is_watched: engine.is_watched,
+        stop_file: asked.stop_file,
     };
     if search.solve_files(&asked.paths, input, screen)? {
         Ok(())
@@ -57,19 +69,59 @@ pub struct Question {
     pub level: Option<usize>,
     /// How many states are kept at most for a level.
     pub limit: u32,
-    /// Whether each line begins with the name of its text.
+    /// Whether each line for people begins with the name of its text.
     pub is_named: bool,
+    /// Whether objects of JSON are told, and no lines for people.
+    pub is_data: bool,
+}
+
+impl Question {
+    /// In which form answers are told.
+    fn form(&self) -> Form
+        ensures { result ≡ form_of self.now }
+    {
+        if self.is_data {
+            return Form::Object;
+        }
+        if self.is_named {
+            Form::NamedLine
+        } else {
+            Form::Line
+        }
+    }
+
+    /// How a text is told that is no game: as a check tells its first fault.
+    fn how_refused(&self) -> How
+        ensures { result ≡ how_refused self.now }
+    {
+        let format = if self.is_data {
+            Format::Json
+        } else {
+            Format::Text
+        };
+        How {
+            format,
+            is_named: self.is_named,
+            detail: Detail::Line,
+            most: 1,
+            counts: false,
+        }
+    }
 }
 
 /// What searches texts for levels that can be won.
 #[derive(Drop)]
-struct Search<'s, R: Files + AllocGlobal + Eprint, S: LevelSolver> {
+struct Search<'s, R: Files + AllocGlobal + Clock + Eprint, S: LevelSolver> {
     rt: &'s R,
     solver: &'s S,
     question: Question,
+    /// Whether it is said on standard error how far the search is.
+    is_watched: bool,
+    /// The file that ends the search once it is there, if one is named.
+    stop_file: Option<&'s str>,
 }
 
-impl<'s, R: Files + AllocGlobal + Eprint, S: LevelSolver> Search<'s, R, S> {
+impl<'s, R: Files + AllocGlobal + Clock + Eprint, S: LevelSolver> Search<'s, R, S> {
     /// Says of levels of the games in files whether they can be won, and answers whether all can.
     fn solve_files<I: ByteReader, O: ByteWriter>(
         &self,
@@ -164,12 +216,13 @@ impl<'s, R: Files + AllocGlobal + Eprint, S: LevelSolver> Search<'s, R, S> {
             (O.state screen.old).contents (O.state screen.new).contents) }
         ensures fault { IfErr result (λ stop. stop ≢ Stop.NotAccepted) }
     {
-        let front = self.front_of(path)?;
+        let mut progress = SearchProgress::new(self.rt, self.is_watched, self.stop_file);
         let mut teller = LevelTeller {
             alloc: self.rt.alloc(),
             game,
-            watcher: &mut Unwatched,
-            front: &front,
+            watcher: &mut progress,
+            form: self.question.form(),
+            name: path,
             limit: self.question.limit,
         };
         match teller.tell(self.question.level, screen) {
@@ -183,10 +236,9 @@ impl<'s, R: Files + AllocGlobal + Eprint, S: LevelSolver> Search<'s, R, S> {
         }
     }
 
-    /// What each line begins with on a level of the text with this name.
+    /// What a line on standard error begins with, on the text with this name.
     fn front_of(&self, path: &str) -> Result<String, Stop>
-        ensures front { IfOk result (λ front. string_bytes front ≡ front_of self.now.question.is_named path.now) }
-        ensures fault { IfErr result (λ stop. stop ≢ Stop.NotAccepted) }
+        ensures { IfErr result (λ stop. stop ≢ Stop.NotAccepted) }
     {
         if !self.question.is_named {
             return Ok(String::new(self.rt.alloc()));
@@ -220,12 +272,8 @@ impl<'s, R: Files + AllocGlobal + Eprint, S: LevelSolver> Search<'s, R, S> {
             (O.state screen.old).contents (O.state screen.new).contents) }
         ensures fault { IfErr result (λ stop. stop ≢ Stop.NotAccepted) }
     {
-        let alloc = self.rt.alloc();
-        if self.question.is_named {
-            check_bytes(alloc, path, text, Detail::Line, screen)?;
-            return Ok(());
-        }
-        check_alone(alloc, text, Detail::Line, screen)?;
+        let how = self.question.how_refused();
+        let _ = report_bytes(self.rt.alloc(), path, text, how, screen)?;
         Ok(())
     }
 }

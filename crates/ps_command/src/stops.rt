@@ -28,7 +28,7 @@ const NO_LIMIT: &str = "error: --limit takes how many faults are told at most, f
 For more information, try '--help'.";
 
 /// What is told where no form is given in which texts can be told.
-const NO_FORMAT: &str = "error: --format takes text, gnu or json
+const NO_FORMAT: &str = "error: --format takes text or json, or gnu with --check
 
 For more information, try '--help'.";
 
@@ -53,7 +53,7 @@ pub enum Stop {
     NoLevel,
     /// The command line gives no number of faults where it is to.
     NoLimit,
-    /// The command line gives no form of a check where it is to.
+    /// The command line gives no form where it is to, or one that isn't of its task.
     NoFormat,
     /// The command line gives no number of states where it is to.
     NoStates,
