@@ -385,6 +385,6 @@ fn explain_option(alloc: Global) -> Result<Arg<'static>, AllocError> {
         .action(ArgAction::Set)
         .conflicts_with_all(&[
             "GAME", "FURTHER", "check", "why", "all", "limit", "format", "solve", "states",
-            "level", "keys", "view", "sizes", "show", "describe",
+            "stop-file", "level", "keys", "view", "sizes", "show", "describe",
         ])
 }
