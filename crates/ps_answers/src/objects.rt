@@ -153,5 +153,6 @@ pub fn object_line(
     ensures { IfOk result (λ line. line.items ≡ object_line name.now level solved.now) }
 {
     let told = level_object(alloc, name, level, solved)?;
-    line_of(alloc, &told)
+    let line = line_of(alloc, &told)?;
+    Ok(line)
 }

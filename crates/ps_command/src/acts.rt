@@ -109,7 +109,7 @@ fn check_text<R: Files + AllocGlobal, I: ByteReader, O: ByteWriter>(
 }
 
 /// Says of a text on the screen whether it is a game, and answers that.
-fn check_alone<O: ByteWriter>(
+pub fn check_alone<O: ByteWriter>(
     alloc: Global,
     text: &[u8],
     detail: Detail,
