@@ -3,13 +3,20 @@
 //! --check` says whether a text is a game, `ps_play --explain CODE` what a fault is.
 #![tactic(auto)]
 
-use ps_command::run_command_line;
+use ps_command::{Engine, run_command_line};
 use ps_devices::FromStd;
 use ps_run::GamePlayer;
+use ps_solve::GameSolver;
+use std::io::IsTerminal;
 use std::process::ExitCode;
 
 fn main(rt: HostRuntime) -> ExitCode {
     let mut keys = FromStd::new(rt.stdin());
     let mut screen = FromStd::new(rt.stdout());
-    ExitCode::from(run_command_line(&rt, &GamePlayer, &mut keys, &mut screen))
+    let engine = Engine {
+        player: &GamePlayer,
+        solver: &GameSolver,
+        is_watched: rt.stderr().is_terminal(),
+    };
+    ExitCode::from(run_command_line(&rt, &engine, &mut keys, &mut screen))
 }

@@ -2,7 +2,7 @@
 
 ghost use Rattle.std.specs.Prelude.{IsErr};
 
-use crate::games::{CUT_SHORT, PUSHING, TWO_LEVELS};
+use crate::games::{CUT_SHORT, PUSHING, THREE_LEVELS, TWO_LEVELS};
 use ps_model::TEXT_LIMIT;
 use std::alloc::{Allocator, Global};
 use std::cell::RefCell;
@@ -12,6 +12,7 @@ use std::fs::{Metadata, OpenFile, OpenOptions};
 use std::io;
 use std::io::{ErrorKind, Read, Seek, SeekFrom, Write};
 use std::rt::{Env, Files};
+use std::time::{Clock, Duration};
 
 /// The keys of each file of keys.
 const KEYS: &[u8] = b"q";
@@ -20,9 +21,10 @@ const KEYS: &[u8] = b"q";
 const SIZE: &[u8] = b"10x20\n";
 
 /// A machine with the words of a command line. Each file whose name ends with `.keys` has the same keys, and one with
-/// `.size` the same size; `cut.game` has a text that ends before its levels, `two.game` the game [`TWO_LEVELS`], and
-/// each other one the game [`PUSHING`]. In `long.game` and `too-long.game` line feeds stand before it. With them it has
-/// as many bytes as a text may have, and one more. There is neither a `lost.game` nor a `lost.size`.
+/// `.size` the same size; `cut.game` has a text that ends before its levels, `two.game` the game [`TWO_LEVELS`],
+/// `three.game` the game [`THREE_LEVELS`], and each other one the game [`PUSHING`]. In `long.game` and `too-long.game`
+/// line feeds stand before it. With them it has as many bytes as a text may have, and one more. There is neither a
+/// `lost.game` nor a `lost.size`, nor a clock.
 #[derive(Drop)]
 pub struct Machine<'w> {
     alloc: Global,
@@ -126,6 +128,16 @@ impl Eprint for Machine<'_> {
     }
 }
 
+impl Clock for Machine<'_> {
+    fn monotonic(&self) -> io::Result<Duration> {
+        unsupported()
+    }
+
+    fn since_1970(&self) -> io::Result<Duration> {
+        unsupported()
+    }
+}
+
 impl Env for Machine<'_> {
     fn arg(&self, i: usize, buf: &mut [u8]) -> Result<usize, FillError> {
         let Some(word) = self.words.get(i) else {
@@ -182,6 +194,7 @@ fn file_of(name: &str) -> OpenedFile {
     let (feeds, rest) = match name {
         "cut.game" => (0, CUT_SHORT),
         "two.game" => (0, TWO_LEVELS),
+        "three.game" => (0, THREE_LEVELS),
         "long.game" => (room, PUSHING),
         "too-long.game" => (room.saturating_add(1), PUSHING),
         _ if name.ends_with(".keys") => (0, KEYS),
