@@ -4,6 +4,7 @@ use Rattle.ps_model.specs.declared.play.Input.{Input}
 use Rattle.ps_model.specs.declared.play.Key.{Key}
 use Rattle.ps_model.specs.board.Turns.{Script, script_at}
 use Rattle.ps_model.specs.game.Games.{Game, game}
+use Rattle.ps_model.specs.meaning.Compiled as model
 use Rattle.ps_model.specs.names.Names.{Names}
 use Rattle.ps_model.specs.game.Outputs.{opening_step}
 use Rattle.ps_model.specs.session.Sessions.{Session}
@@ -43,6 +44,26 @@ found_after script source session keys limit found runs came is =
     here_alike script source session (played source keys)
     (λ inputs. ap (λ (s : Session). session_after_inputs script s inputs) came
     ∙ same_inputs script source runs keys inputs) limit found is
+
+-- the same of a game in play by programs that the game's rules compile to
+pub played_as_written :
+    (text : List ℕ) (read : Game) (entry : ℕ) (keys : List Key) (limit : ℕ) (parts : SessionParts)
+    (plain late : List CompiledSection) (plain_made late_made : List model.CompiledSection) (play : GameInPlay)
+    (found : Option SolvedHere) → game text ≡ Some read → AreCompiled read.names read.rules plain_made late_made →
+    sections_shown plain ≡ plain_made → sections_shown late ≡ late_made → parts ≡ parts_at read entry →
+    script_in play ≡ script_on parts plain late → play.session ≡ played (script_in play) keys →
+    IsSolvedHere (script_in play) play.session limit found →
+    IsSolvedHere (script_at read entry) (played (script_at read entry) keys) limit found
+played_as_written text read entry keys limit parts plain late plain_made late_made play found is made p l own plays came solved =
+    let plain_is : AreCompiled read.names read.rules (sections_shown plain) late_made =
+    subst (λ (s : List model.CompiledSection). AreCompiled read.names read.rules s late_made) (sym p) made in
+    let both : AreCompiled read.names read.rules (sections_shown plain) (sections_shown late) =
+    subst (λ (s : List model.CompiledSection). AreCompiled read.names read.rules (sections_shown plain) s) (sym l)
+    plain_is in
+    let script : script_in play ≡ script_on (parts_at read entry) plain late =
+    plays ∙ ap (λ (s : SessionParts). script_on s plain late) own in
+    found_after (script_in play) (script_at read entry) play.session keys limit found
+    (runs_as_written text read entry plain late (script_in play) is both script) came solved
 
 -- the level of an entry is another one than that of the session
 pub other_level : (script : Script) (session : Session) (limit entry other : ℕ) → entry ≢ other → IsIn other session →

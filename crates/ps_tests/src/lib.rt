@@ -46,7 +46,11 @@ mod row_scan;
 #[cfg(test)]
 mod rows;
 #[cfg(test)]
+mod solved_puzzles;
+#[cfg(test)]
 mod solving;
+#[cfg(test)]
+mod told_levels;
 #[cfg(test)]
 mod watched;
 #[cfg(test)]
