@@ -1,5 +1,5 @@
 -- The levels of a text whose game was read: each number that the game has is that of a level, in which a run begins.
-use Rattle.std.proofs.Common.{◌≡◌, ◌≢◌, ◌∙◌, ◌⊎◌, inl, inr, ℕ, ◌<◌, ◌≤◌, Bool, true, false, List, Some, None, Ok, refl}
+use Rattle.std.proofs.Common.{◌≡◌, ◌≢◌, ◌∙◌, ◌⊎◌, inl, inr, ℕ, ◌<◌, ◌≤◌, Bool, true, false, List, Some, None, Ok, Err, Result, refl}
 use Rattle.std.proofs.Common.{sym, ap, arith}
 use Rattle.std.specs.Prelude.{slice_get}
 use Rattle.std.proofs.lemmas.Bool.{true≢false}
@@ -14,6 +14,8 @@ use Rattle.ps_run.proofs.Rightly.{script_found}
 use Rattle.ps_answers.specs.SolvedTexts.{HasLevels, HasLevelOf, IsSolvedLevel}
 use Rattle.ps_answers.specs.declared.solved.Solved.{Solved}
 use Rattle.ps_solve.specs.SolvedLevels.{IsSolvedAt}
+use Rattle.ps_solve.specs.declared.solved.NotSearched.{NotSearched}
+use Rattle.ps_solve.specs.declared.solved.NotSearched.TheVariants as not_searched
 use Rattle.ps_solve.proofs.BegunLevels.{runs_begin_in_levels}
 
 -- numbers -------------------------------------------------------------------------------------------------------------
@@ -54,6 +56,15 @@ by_test read entry true is none =
 pub no_level_there : (read : Game) (entry : ℕ) → spot entry (opening_step (script_at read entry)).session ≡ None →
     is_level_found (slice_get read.entries entry) ≡ false
 no_level_there read entry none = by_test read entry (is_level_found (slice_get read.entries entry)) refl none
+
+-- so an answer that there is no level comes only where the entry isn't one
+pub no_level_told :
+    (read : Game) (entry limit : ℕ) (result : Result Solved NotSearched) →
+    IsSolvedAt (script_at read entry) entry (opening_step (script_at read entry)).session limit result →
+    result ≡ Err not_searched.NoLevel → is_level_found (slice_get read.entries entry) ≡ false
+no_level_told read entry limit (Ok solved) at same = absurd (cc same)
+no_level_told read entry limit (Err not_searched.NoLevel) at same = no_level_there read entry at
+no_level_told read entry limit (Err not_searched.Memory) at same = absurd (cc same)
 
 -- what is told of the entry that is found for a number is true of the level of that number
 pub solved_level :

@@ -21,6 +21,7 @@ use Rattle.ps_trial.specs.Scripts.{PlaysAs}
 use Rattle.ps_run.proofs.Scripts.{own_table, script_is}
 use Rattle.ps_solve.specs.declared.solved.NotSearched.{NotSearched}
 use Rattle.ps_solve.specs.declared.solved.NotSearched.TheVariants.{NoLevel}
+use Rattle.ps_solve.specs.declared.solved.NotSearched.TheVariants as not_searched
 use Rattle.ps_answers.specs.SolvedLevels.{IsSolved}
 use Rattle.ps_answers.specs.declared.solved.Solved.{Solved}
 use Rattle.ps_solve.specs.declared.solved.SolvedHere.{SolvedHere}
@@ -64,6 +65,12 @@ played_as_written text read entry keys limit parts plain late plain_made late_ma
     plays ∙ ap (λ (s : SessionParts). script_on s plain late) own in
     found_after (script_in play) (script_at read entry) play.session keys limit found
     (runs_as_written text read entry plain late (script_in play) is both script) came solved
+
+-- where nothing is told of any level, nothing is told of that of an entry
+pub nothing_at : (script : Script) (session : Session) (limit entry : ℕ) (fault : NotSearched) →
+    IsSolvedAfter script session limit (Err fault) → IsSolvedAt script entry session limit (Err fault)
+nothing_at script session limit entry NoLevel nowhere = nowhere entry
+nothing_at script session limit entry not_searched.Memory told = tt
 
 -- the level of an entry is another one than that of the session
 pub other_level : (script : Script) (session : Session) (limit entry other : ℕ) → entry ≢ other → IsIn other session →

@@ -176,6 +176,7 @@ const LAST: &str = "..........................P.*..O";
 
 /// The last cells of its last two rows, where no key wins.
 const SHUT: &str = "............................####";
+
 const SHUT_IN: &str = "...........................#OP*";
 
 #[test]
@@ -185,12 +186,18 @@ fn levels_as_wide_as_can_be_are_solved(rt: HostRuntime) {
     let front = front.expect(&rt, "memory for a row");
     let above = format!(in alloc; "{front}{FLOOR}\n{front}{FLOOR}\n{front}");
     let above = above.expect(&rt, "memory for rows");
-    let open = format!(in alloc; "{above}{FLOOR}\n{front}{LAST}\n").expect(&rt, "memory for a level");
+    let open = format!(in alloc; "{above}{FLOOR}\n{front}{LAST}\n").expect(
+        &rt,
+        "memory for a level",
+    );
     match solved(&rt, PUSHING, &open, 1000, &mut Unwatched) {
         Solved::Won { keys } => assert!(rt; keys.as_slice() == [Input::Right; 4].as_slice()),
         _ => assert!(rt; false),
     }
-    let shut = format!(in alloc; "{above}{SHUT}\n{front}.{SHUT_IN}\n").expect(&rt, "memory for a level");
+    let shut = format!(in alloc; "{above}{SHUT}\n{front}.{SHUT_IN}\n").expect(
+        &rt,
+        "memory for a level",
+    );
     let never = solved(&rt, PUSHING, &shut, 1000, &mut Unwatched);
     assert_eq!(rt; shown(&never), ("never", 2, 0));
 }

@@ -46,7 +46,11 @@ fn messages_are_no_levels(rt: HostRuntime) {
 fn each_level_has_its_line(rt: HostRuntime) -> Result<(), Fail> {
     says(&rt, Some(1), "level 1: won in 1 key: d\n")?;
     says(&rt, Some(2), "level 2: won in 1 key: a\n")?;
-    says(&rt, None, "level 1: won in 1 key: d\nlevel 2: won in 1 key: a\n")
+    says(
+        &rt,
+        None,
+        "level 1: won in 1 key: d\nlevel 2: won in 1 key: a\n",
+    )
 }
 
 #[test]
