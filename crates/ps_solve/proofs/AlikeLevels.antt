@@ -1,6 +1,6 @@
 -- What an answer says of a level is true of another script too, where inputs lead to the same sessions.
-use Rattle.std.proofs.Common.{◌≡◌, ◌∙◌, ◌≢◌, ◌==◌, ◌≤◌, ℕ, Bool, true, false, List, [], ◌∷◌, Option, Some, None, Ok, Err}
-use Rattle.std.proofs.Common.{Result, length, refl, sym, ap, subst, arith}
+use Rattle.std.proofs.Common.{◌≡◌, ◌∙◌, ◌≢◌, ◌==◌, ◌≤◌, ℕ, Bool, true, false, List, [], ◌∷◌, Option, Some, None}
+use Rattle.std.proofs.Common.{Result, Ok, Err, length, refl, sym, ap, subst, arith}
 use Rattle.std.specs.Prelude.{nat_eq}
 use Rattle.std.proofs.lemmas.Bool.Decides.{nat_tests}
 use Rattle.ps_model.specs.declared.play.Input.{Input}
@@ -23,8 +23,8 @@ not_past_yet script entry session at [] short = levels_are_not_past entry sessio
 not_past_yet script entry session at (input ∷ inputs) short = absurd (omega (arith, short))
 
 -- nothing is nowhere else
-nowhere_else : (same : Bool) (play : Play) (pending : Option Pending) (here : Spot) → spot_of same play pending ≡ Some here →
-    same ≡ true
+nowhere_else : (same : Bool) (play : Play) (pending : Option Pending) (here : Spot) →
+    spot_of same play pending ≡ Some here → same ≡ true
 nowhere_else true play pending here e = refl
 nowhere_else false play pending here e = absurd (cc e)
 

@@ -1,5 +1,6 @@
 -- Searches from sessions.
-use Rattle.std.proofs.Common.{◌≡◌, ◌∙◌, ◌==◌, ℕ, Bool, true, Option, Some, None, List, Result, Ok, Err, refl, sym, ap, subst, arith}
+use Rattle.std.proofs.Common.{◌≡◌, ◌∙◌, ◌==◌, ℕ, Bool, true, Option, Some, None, List, Result, Ok, Err}
+use Rattle.std.proofs.Common.{refl, sym, ap, subst, arith}
 use Rattle.std.specs.Prelude.{OnErr}
 use Rattle.ps_turn.specs.States.{HaveSameSides, TurnParts}
 use Rattle.std.proofs.lemmas.Bool.Decides.{nat_tests}

@@ -95,8 +95,8 @@ gone_to old new words restart waits keys at =
     ∙ ap (λ (k : KeyTable). spot_at k words restart waits) keys
 
 -- a search begins where it began, where its keys keep their meanings
-pub begins_same : (old : SearchValue) (keys : KeyTable) (start : KeyParts) → start ≡ old.start → KeepsKeys old.keys keys →
-    IsSpotKey old.keys old.start.words old.start.restart →
+pub begins_same : (old : SearchValue) (keys : KeyTable) (start : KeyParts) → start ≡ old.start →
+    KeepsKeys old.keys keys → IsSpotKey old.keys old.start.words old.start.restart →
     spot_at keys start.words start.restart start.waits ≡ start_of old
 begins_same old keys start same keeps known =
     ap (λ (p : KeyParts). spot_at keys p.words p.restart p.waits) same

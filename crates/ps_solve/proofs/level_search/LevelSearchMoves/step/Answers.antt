@@ -12,7 +12,8 @@ use Rattle.ps_solve.specs.Searches.{IsStanding, SearchValue, here_of, key_parts,
 use Rattle.ps_solve.specs.SpotKeys.{IsAt, IsSpotKey, KeepsKeys, KeyTable, spot_at}
 use Rattle.ps_solve.specs.declared.spot_keys.SpotKey.{SpotKey}
 use Rattle.ps_solve.proofs.KeyRooms.{spot_key_room}
-use Rattle.ps_solve.proofs.Standing.{at_same, begins_same, here_same, if_ok, on_ok, same_steps, stands_on, stands_still, step_is}
+use Rattle.ps_solve.proofs.Standing.{at_same, begins_same, here_same, same_steps, stands_on, stands_still, step_is}
+use Rattle.ps_solve.proofs.Standing.{if_ok, on_ok}
 use Rattle.ps_solve.proofs.level_search.LevelSearchMoves.step.Goals as goal
 
 pub invariant_of-self : goal.invariant_of-self
