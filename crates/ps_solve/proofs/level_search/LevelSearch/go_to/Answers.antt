@@ -35,7 +35,7 @@ unpack-requires g c =
 pub go_to-requires-clause-sides : goal.go_to-requires-clause-sides
 go_to-requires-clause-sides g c =
     same_sides c.self.inside.keys.packed c.args.key.now.board.words c.self.inside.at.value.board.words _
-    c.self.inside.trial.here.board (c.board.ensures.grid ∙ c.unpack.ensures.grid) c.self.invariant.1.at.board
+    c.self.inside.trial.value.here.board (c.board.ensures.grid ∙ c.unpack.ensures.grid) c.self.invariant.1.at.board
 
 pub invariant_of-self : goal.invariant_of-self
 invariant_of-self g c =
@@ -45,7 +45,7 @@ invariant_of-self g c =
     let same : c.self.inside.at.value.restart ≡ c.args.key.now.restart =
     ap (λ (s : SearchValue). s.at.restart) c.self.view_is ∙ c.requires.restart in (
       c.self.invariant.0,
-      stands_at c.self.inside.keys c.self.inside.board _ _ c.self.inside.trial c.go_to.new.self c.unpack.new.board
+      stands_at c.self.inside.keys c.self.inside.board _ _ c.self.inside.trial.value c.go_to.new.self c.unpack.new.board
           c.args.key.now.board.words c.args.key.now.restart c.args.key.now.waits c.self.invariant.1 known
           c.go_to.ensures.basis (c.go_to.ensures.board ∙ c.board.ensures.grid)
           (c.go_to.ensures.restart_board ∙ c.self.invariant.1.at.restart_board
@@ -55,5 +55,5 @@ invariant_of-self g c =
 
 pub returns-clause-script : goal.returns-clause-script
 returns-clause-script g c =
-    ap (λ (b : Basis). script_of b c.self.inside.rules.plain c.self.inside.rules.late) c.go_to.ensures.basis
+    ap (λ (b : Basis). script_of b c.self.inside.rules.value.plain c.self.inside.rules.value.late) c.go_to.ensures.basis
     ∙ ap played_by c.self.view_is

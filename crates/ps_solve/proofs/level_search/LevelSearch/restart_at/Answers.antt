@@ -31,7 +31,7 @@ unpack-requires g c =
 pub go_to-requires-clause-sides : goal.go_to-requires-clause-sides
 go_to-requires-clause-sides g c =
     same_sides c.self.inside.keys.packed c.restart_key-board.result.words c.self.inside.at.value.board.words _
-    c.self.inside.trial.here.board (c.board.ensures.grid ∙ c.unpack.ensures.grid) c.self.invariant.1.at.board
+    c.self.inside.trial.value.here.board (c.board.ensures.grid ∙ c.unpack.ensures.grid) c.self.invariant.1.at.board
 
 pub restart_at-requires-clause-table : goal.restart_at-requires-clause-table
 restart_at-requires-clause-table g c =
@@ -43,7 +43,7 @@ invariant_of-self g c =
     let below : c.args.number < length c.self.inside.keys.restarts =
     subst (λ (s : SearchValue). c.args.number < length s.keys.restarts) (sym c.self.view_is) c.requires in (
       c.self.invariant.0,
-      stands_at c.self.inside.keys c.self.inside.board _ _ c.self.inside.trial c.restart_at.new.self
+      stands_at c.self.inside.keys c.self.inside.board _ _ c.self.inside.trial.value c.restart_at.new.self
           c.unpack.new.board c.restart_key-board.result.words c.args.number None c.self.invariant.1
           (c.restart_key-board.ensures.known, below) (c.restart_at.ensures.basis ∙ c.go_to.ensures.basis)
           (c.restart_at.ensures.board ∙ c.go_to.ensures.board ∙ c.board.ensures.grid)
@@ -54,6 +54,6 @@ invariant_of-self g c =
 
 pub returns-clause-script : goal.returns-clause-script
 returns-clause-script g c =
-    ap (λ (b : Basis). script_of b c.self.inside.rules.plain c.self.inside.rules.late)
+    ap (λ (b : Basis). script_of b c.self.inside.rules.value.plain c.self.inside.rules.value.late)
     (c.restart_at.ensures.basis ∙ c.go_to.ensures.basis)
     ∙ ap played_by c.self.view_is

@@ -19,7 +19,7 @@ use Rattle.ps_solve.proofs.level_search.LevelSearchMoves.step.Goals as goal
 pub invariant_of-self : goal.invariant_of-self
 invariant_of-self g c = (
   c.self.invariant.0,
-  stands_still c.self.inside.keys c.self.inside.board _ _ c.self.inside.trial c.press.new.self c.press.ensures.basis
+  stands_still c.self.inside.keys c.self.inside.board _ _ c.self.inside.trial.value c.press.new.self c.press.ensures.basis
       c.press.ensures.here c.self.invariant.1,
 )
 
@@ -41,7 +41,7 @@ step_to-requires g c = (
       c.self.invariant.0,
       subst (λ (key : SpotKey g.row.N). IsAt c.self.inside.keys c.press.new.self key.board.words key.restart)
           (sym c.deref-2.ensures)
-          (at_same c.self.inside.keys c.self.inside.trial c.press.new.self _ _ c.press.ensures.basis
+          (at_same c.self.inside.keys c.self.inside.trial.value c.press.new.self _ _ c.press.ensures.basis
           c.press.ensures.here c.self.invariant.1.at),
     ),
   ),
@@ -52,16 +52,16 @@ invariant_of-self-2 g c = (
   c.self.invariant.0,
   stands_on c.self.inside.keys c.self.inside.board _ _ c.step_to.new.keys c.press.new.self c.step_to.ensures.kept
       c.step_to.ensures.own
-      (stands_still c.self.inside.keys c.self.inside.board _ _ c.self.inside.trial c.press.new.self
+      (stands_still c.self.inside.keys c.self.inside.board _ _ c.self.inside.trial.value c.press.new.self
       c.press.ensures.basis c.press.ensures.here c.self.invariant.1),
 )
 
 pub returns-clause-led : goal.returns-clause-led
 returns-clause-led g c =
-    let trial = c.self.inside.trial in
+    let trial = c.self.inside.trial.value in
     let there : Boards = c.press.new.self.there in
     let pressed : Pressed = c.in-Ok.pressed in
-    let script : Script = script_of trial.basis c.self.inside.rules.plain c.self.inside.rules.late in
+    let script : Script = script_of trial.basis c.self.inside.rules.value.plain c.self.inside.rules.value.late in
     let keys : KeyTable = c.step_to.new.keys in
     let at : SpotKey g.row.N = c.self.inside.at.value in
     let here : Spot = spot_with trial.here (waits_shown at.waits) in
