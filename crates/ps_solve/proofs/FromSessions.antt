@@ -16,7 +16,6 @@ use Rattle.ps_stage.specs.StepsShown.{pending_shown, stands}
 use Rattle.ps_stage.specs.declared.locations.Pending as staged
 use Rattle.ps_trial.specs.Desks.{Basis}
 use Rattle.ps_trial.specs.Scripts.{PlaysAs}
-use Rattle.ps_trial.specs.SilentStarts.{Boards, spot_with}
 use Rattle.ps_solve.specs.Searches.{script_of}
 use Rattle.ps_answers.specs.SolvedLevels.{IsSolved}
 use Rattle.ps_answers.specs.declared.solved.Solved.{Solved}

@@ -11,7 +11,7 @@ use Rattle.ps_rows.specs.Packings.{IsKey, Packed, packed_grid}
 use Rattle.ps_trial.specs.Desks.{TrialValue}
 use Rattle.ps_trial.specs.SilentStarts.{Boards, spot_with}
 use Rattle.ps_trial.specs.Told.{waits_shown}
-use Rattle.ps_solve.specs.SpotKeys.{KeyTable, restart_grid, spot_at, IsSpotKey, AreKeys, IsRestart, IsAt}
+use Rattle.ps_solve.specs.SpotKeys.{KeyTable, AreKeys, IsRestart, IsAt}
 use Rattle.ps_solve.specs.SpotKeys.{KeepsBoards, KeepsKeys}
 
 abbrev pub table_of : Packed → List (List ℕ) → KeyTable
