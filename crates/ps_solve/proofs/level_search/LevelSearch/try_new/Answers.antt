@@ -31,15 +31,14 @@ invariant_of-result g c =
       own_grid = c.in-Ok-copy_of.ensures.grid ∙ c.here-2.ensures.grid ∙ at.board;
       own_table = c.in-Ok-copy_of.ensures.table ∙ c.here-2.ensures.table ∙ at.own;
     } in
-    let stands =
-    subst (λ (trial : TrialValue). IsStanding keys trial board (parts key) (parts key)) (sym c.in-Ok-new-2.ensures.ok)
+    let trial : TrialValue = c.in-Ok-new-2.trial.value in
+    let stands : IsStanding keys trial board (parts key) (parts key) =
+    subst (λ (own : TrialValue). IsStanding keys own board (parts key) (parts key)) (sym c.in-Ok-new-2.ensures.ok)
     begun in (
       c.requires.narrow,
-      subst
-          (λ (one : SpotKey g.row.N). IsStanding keys c.in-Ok-new-2.trial.value board (parts one)
-          (parts c.in-Ok-new.at.value))
+      subst (λ (one : SpotKey g.row.N). IsStanding keys trial board (parts one) (parts c.in-Ok-new.at.value))
           (sym c.in-Ok.ensures.ok)
-          (subst (λ (other : SpotKey g.row.N). IsStanding keys c.in-Ok-new-2.trial.value board (parts key) (parts other))
+          (subst (λ (other : SpotKey g.row.N). IsStanding keys trial board (parts key) (parts other))
           (sym c.in-Ok-new.ensures.ok) stands),
     )
 

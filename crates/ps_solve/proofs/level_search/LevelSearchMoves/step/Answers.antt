@@ -41,8 +41,10 @@ returns-in-Err-clause-kept g c = λ key known.
 
 pub step_to-requires : goal.step_to-requires
 step_to-requires g c =
-    let at : IsAt c.self.inside.keys c.press.new.self c.self.inside.at.value.board.words c.self.inside.at.value.restart =
-    at_same c.self.inside.keys c.self.inside.trial.value c.press.new.self _ _
+    let keys : KeyTable = c.self.inside.keys in
+    let key : SpotKey g.row.N = c.self.inside.at.value in
+    let at : IsAt keys c.press.new.self key.board.words key.restart =
+    at_same keys c.self.inside.trial.value c.press.new.self key.board.words key.restart
     (c.press.ensures.basis ∙ ap (λ (t : TrialValue). t.basis) c.deref_mut.ensures.value)
     (c.press.ensures.here ∙ ap (λ (t : TrialValue). t.here) c.deref_mut.ensures.value) c.self.invariant.1.at in (
       omega arith,
@@ -50,9 +52,9 @@ step_to-requires g c =
         spot_key_room _ c.self.invariant.0,
         (
           c.self.invariant.0,
-          subst (λ (t : TrialValue). IsAt c.self.inside.keys t c.deref-2.result.now.board.words c.deref-2.result.now.restart)
+          subst (λ (t : TrialValue). IsAt keys t c.deref-2.result.now.board.words c.deref-2.result.now.restart)
               (sym c.deref-3.ensures)
-              (subst (λ (key : SpotKey g.row.N). IsAt c.self.inside.keys c.press.new.self key.board.words key.restart)
+              (subst (λ (own : SpotKey g.row.N). IsAt keys c.press.new.self own.board.words own.restart)
               (sym c.deref-2.ensures) at),
         ),
       ),
