@@ -1,9 +1,9 @@
 //! Whether a level can be won, and by how few keys.
 //!
-//! [`solve_level`] and [`solve_after`] search a level of a game for the shortest list of directions and `x` that leads past
-//! it. What they tell is a theorem about the game as its text means it: these inputs win, and no fewer do; or none do,
-//! however many; or none do up to some length, and why no more is known. A search goes from spot to spot of a level, as
-//! inputs lead, and keeps each spot as a key.
+//! [`solve_level`] and [`solve_after`] search a level of a game for the shortest list of directions and `x` that leads
+//! past it. What they tell is a theorem about the game as its text means it: these inputs win, and no fewer do; or none
+//! do, however many; or none do up to some length, and why no more is known. A search goes from spot to spot of a
+//! level, as inputs lead, and keeps each spot as a key.
 #![tactic(auto)]
 
 mod level_search;
