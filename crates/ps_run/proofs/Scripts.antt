@@ -1,9 +1,12 @@
 -- Scripts of games that are played by sections of their rules.
 use Rattle.std.proofs.Common.{◌≡◌, ◌∙◌, ℕ, List, Option, Some, refl, sym}
+use Rattle.ps_model.specs.meaning.Compiled as model
+use Rattle.ps_model.specs.names.Names.{Names}
+use Rattle.ps_model.specs.rules.SourceRules.{RuleLine}
 use Rattle.ps_program.specs.declared.program.CompiledSection.{CompiledSection}
 use Rattle.ps_stage.specs.Standings.{SessionParts, script_for}
 use Rattle.ps_stage.proofs.Scripts.{same_script}
-use Rattle.ps_rulebook.specs.PlayedGames.{meant_of}
+use Rattle.ps_rulebook.specs.PlayedGames.{AreCompiled, meant_of}
 use Rattle.ps_run.specs.GamesInPlay.{script_on}
 
 -- boards of rows keep the table of their game
@@ -23,3 +26,9 @@ script_same game game' plain late plain' late' g p l =
     script_is game' plain' late'
     ∙ same_script own_table game game' (meant_of plain) (meant_of late) (meant_of plain') (meant_of late') g p l
     ∙ sym (script_is game plain late)
+
+-- programs that are compiled of some names and rules are compiled of the same ones
+pub made_of :
+    (names names' : Names) (rules rules' : List RuleLine) (plain late : List model.CompiledSection) → names ≡ names' →
+    rules ≡ rules' → AreCompiled names rules plain late → AreCompiled names' rules' plain late
+made_of names names' rules rules' plain late n r made = rw (← n, ← r) made

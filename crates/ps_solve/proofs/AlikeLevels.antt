@@ -1,20 +1,17 @@
 -- What an answer says of a level is true of another script too, where inputs lead to the same sessions.
-use Rattle.std.proofs.Common.{◌≡◌, ◌∙◌, ◌≢◌, ◌==◌, ◌≤◌, ℕ, Bool, true, false, List, [], ◌∷◌, Option, Some, None, Ok, Err}
-use Rattle.std.proofs.Common.{Result, length, refl, sym, ap, subst, arith}
-use Rattle.std.specs.Prelude.{nat_eq}
+use Rattle.std.proofs.Common.{◌≡◌, ◌∙◌, ◌≢◌, ◌==◌, ℕ, Bool, true, false, List, [], ◌∷◌, Option, Some, None}
+use Rattle.std.proofs.Common.{refl, sym, ap, arith}
 use Rattle.std.proofs.lemmas.Bool.Decides.{nat_tests}
 use Rattle.ps_model.specs.declared.play.Input.{Input}
 use Rattle.ps_model.specs.board.Turns.{Script}
 use Rattle.ps_model.specs.session.Sessions.{Pending, Play, Session, Playing, Waiting, AtMessage, Ended}
 use Rattle.ps_model.specs.session.Solving.{NotWithin, Spot, is_past, session_after_inputs, spot, spot_of}
 use Rattle.ps_laws.proofs.sessions.SolvingSpots.{levels_are_not_past}
-use Rattle.ps_solve.specs.declared.solved.NotSearched.{NotSearched}
-use Rattle.ps_solve.specs.declared.solved.NotSearched.TheVariants as not_searched
 use Rattle.ps_answers.specs.SolvedLevels.{IsSolved}
 use Rattle.ps_answers.specs.declared.solved.Solved.{Solved}
 use Rattle.ps_answers.specs.declared.solved.Solved.TheVariants.{Won, Never, Unknown}
 use Rattle.ps_solve.specs.declared.solved.SolvedHere.{SolvedHere}
-use Rattle.ps_solve.specs.SolvedLevels.{IsIn, IsNowhere, IsSolvedAfter, IsSolvedHere, IsSolvedIn, entry_in}
+use Rattle.ps_solve.specs.SolvedLevels.{IsIn, IsNowhere, IsSolvedHere}
 
 -- a session in a level isn't past it without an input
 pub not_past_yet : (script : Script) (entry : ℕ) (session : Session) → IsIn entry session →
@@ -23,8 +20,8 @@ not_past_yet script entry session at [] short = levels_are_not_past entry sessio
 not_past_yet script entry session at (input ∷ inputs) short = absurd (omega (arith, short))
 
 -- nothing is nowhere else
-nowhere_else : (same : Bool) (play : Play) (pending : Option Pending) (here : Spot) → spot_of same play pending ≡ Some here →
-    same ≡ true
+nowhere_else : (same : Bool) (play : Play) (pending : Option Pending) (here : Spot) →
+    spot_of same play pending ≡ Some here → same ≡ true
 nowhere_else true play pending here e = refl
 nowhere_else false play pending here e = absurd (cc e)
 

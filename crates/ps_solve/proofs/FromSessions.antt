@@ -1,5 +1,6 @@
 -- Searches from sessions.
-use Rattle.std.proofs.Common.{◌≡◌, ◌∙◌, ◌==◌, ℕ, Bool, true, Option, Some, None, List, Result, Ok, Err, refl, sym, ap, subst, arith}
+use Rattle.std.proofs.Common.{◌≡◌, ◌∙◌, ◌==◌, ℕ, Bool, true, Option, Some, None, List, Result, Ok, Err}
+use Rattle.std.proofs.Common.{refl, sym, ap, subst, arith}
 use Rattle.std.specs.Prelude.{OnErr}
 use Rattle.ps_turn.specs.States.{HaveSameSides, TurnParts}
 use Rattle.std.proofs.lemmas.Bool.Decides.{nat_tests}
@@ -15,7 +16,6 @@ use Rattle.ps_stage.specs.StepsShown.{pending_shown, stands}
 use Rattle.ps_stage.specs.declared.locations.Pending as staged
 use Rattle.ps_trial.specs.Desks.{Basis}
 use Rattle.ps_trial.specs.Scripts.{PlaysAs}
-use Rattle.ps_trial.specs.SilentStarts.{Boards, spot_with}
 use Rattle.ps_solve.specs.Searches.{script_of}
 use Rattle.ps_answers.specs.SolvedLevels.{IsSolved}
 use Rattle.ps_answers.specs.declared.solved.Solved.{Solved}

@@ -11,7 +11,8 @@ use Rattle.ps_rows.specs.Packings.{IsKey, Packed, packed_grid}
 use Rattle.ps_trial.specs.Desks.{TrialValue}
 use Rattle.ps_trial.specs.SilentStarts.{Boards, spot_with}
 use Rattle.ps_trial.specs.Told.{waits_shown}
-use Rattle.ps_solve.specs.SpotKeys.{KeyTable, restart_grid, spot_at, IsSpotKey, AreKeys, KeepsBoards, KeepsKeys, IsRestart, IsAt}
+use Rattle.ps_solve.specs.SpotKeys.{KeyTable, AreKeys, IsRestart, IsAt}
+use Rattle.ps_solve.specs.SpotKeys.{KeepsBoards, KeepsKeys}
 
 abbrev pub table_of : Packed → List (List ℕ) → KeyTable
 table_of packed restarts = record { packed = packed; restarts = restarts }
@@ -51,7 +52,8 @@ more_restarts packed restarts more longer same words restart waits known =
     let within : restart < length more = omega arith in (
       (known.0, within),
       same_spot (packed_grid packed words) (packed_grid packed words)
-          (packed_grid packed (slice_index_or more restart [])) (packed_grid packed (slice_index_or restarts restart []))
+          (packed_grid packed (slice_index_or more restart []))
+          (packed_grid packed (slice_index_or restarts restart []))
           (waits_shown waits) refl (ap (λ (own : List ℕ). packed_grid packed own) (same restart below)),
     )
 
@@ -63,11 +65,11 @@ module _ {Key : Type 0} (words : Key → List ℕ) (packed : Packed) where
   pub noted_kept : (keys more : List Key) (key : Key) → (more ≡ keys) ⊎ (more ≡ keys ++ key ∷ []) →
       KeepsKeys (table_of packed (map words keys)) (table_of packed (map words more))
   noted_kept keys more key (inl same) =
-      subst (λ (own : List Key). KeepsKeys (table_of packed (map words keys)) (table_of packed (map words own))) (sym same)
-      (λ own restart waits known. (known, refl))
+      subst (λ (own : List Key). KeepsKeys (table_of packed (map words keys)) (table_of packed (map words own)))
+      (sym same) (λ own restart waits known. (known, refl))
   noted_kept keys more key (inr longer) =
-      subst (λ (own : List Key). KeepsKeys (table_of packed (map words keys)) (table_of packed (map words own))) (sym longer)
-      (subst (λ (own : List (List ℕ)). KeepsKeys (table_of packed (map words keys)) (table_of packed own))
+      subst (λ (own : List Key). KeepsKeys (table_of packed (map words keys)) (table_of packed (map words own)))
+      (sym longer) (subst (λ (own : List (List ℕ)). KeepsKeys (table_of packed (map words keys)) (table_of packed own))
       (sym (map-append words keys (key ∷ [])))
       (more_restarts packed (map words keys) (map words keys ++ words key ∷ []) (grown keys key)
       (λ number below. get_or_append_left (map words keys) (words key ∷ []) [] number below)))
@@ -120,8 +122,8 @@ module _ (old new : KeyTable) (keeps : KeepsKeys old new) where
       }
 
   -- the number of a board goes on to be one, where some board has a key
-  pub restart_kept : (words : List ℕ) (board : Grid) (restart : ℕ) → IsKey old.packed words → IsRestart old board restart →
-      IsRestart new board restart
+  pub restart_kept : (words : List ℕ) (board : Grid) (restart : ℕ) → IsKey old.packed words →
+      IsRestart old board restart → IsRestart new board restart
   restart_kept words board restart known is =
       let kept = keeps words restart None (known, is.0) in
       (kept.0.1, ap (λ (s : Spot). s.restart_board) kept.1 ∙ is.1)

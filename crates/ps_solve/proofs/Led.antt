@@ -1,5 +1,5 @@
 -- Where inputs lead from the spot where a search is.
-use Rattle.std.proofs.Common.{◌≡◌, ◌∙◌, ℕ, List, Option, Some, None, refl, sym, ap, subst}
+use Rattle.std.proofs.Common.{◌≡◌, ℕ, List, Option, Some, refl, sym, subst}
 use Rattle.ps_model.specs.declared.play.Input.{Input}
 use Rattle.ps_model.specs.board.Turns.{Script}
 use Rattle.ps_model.specs.session.Solving.{Spot, next_spot}
@@ -33,7 +33,8 @@ module _ (keys : KeyTable) (trial : TrialValue) (words : List ℕ) (restart : �
 
   -- to the same spot, if it leads to the trial's
   pub led_nowhere : (script : Script) (input : Input) →
-      next_spot script 0 (spot_with trial.here (waits_shown waits)) input ≡ Some (spot_with trial.here (waits_shown waits)) →
+      next_spot script 0 (spot_with trial.here (waits_shown waits)) input
+      ≡ Some (spot_with trial.here (waits_shown waits)) →
       next_spot script 0 (spot_at keys words restart waits) input ≡ Some (spot_at keys words restart waits)
   led_nowhere script input led =
       subst (λ (here : Spot). next_spot script 0 here input ≡ Some here) (sym here_is) led

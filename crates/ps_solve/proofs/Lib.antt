@@ -7,3 +7,5 @@ mod FromSessions
 mod PlayedKeys
 mod AlikeLevels
 mod SourceLevels
+mod BegunLevels
+mod ReadLevels

@@ -1,7 +1,8 @@
 -- Scripts with the same runs come to the same sessions by keys.
 use Rattle.std.proofs.Common.{◌≡◌, ◌∙◌, ℕ, zero, ◌==◌, ◌&&◌, Bool, false, List, [], ◌∷◌, ◌++◌, Option, None, Some, map}
-use Rattle.std.proofs.Common.{if◌then◌else◌, refl, sym, ap}
+use Rattle.std.proofs.Common.{if◌then◌else◌, refl, sym, ap, ◌+◌, ◌<◌, drop, get_or, length}
 use Rattle.std.specs.Prelude.{option_to_list}
+use Rattle.std.proofs.lemmas.List.{at_drop_more}
 use Rattle.ps_model.specs.declared.play.Input.{Input}
 use Rattle.ps_model.specs.declared.play.Input.TheVariants.{Up, Down, Left, Right, Action}
 use Rattle.ps_model.specs.declared.play.Key.{Key}
@@ -70,6 +71,17 @@ keys_are (key ∷ keys) =
     key_first (byte_of key) (map byte_of keys) (no_arrow (byte_of key) (map byte_of keys) (no_escape key))
     ∙ ap (λ (found : Option Key). option_to_list found ++ keys_behind 0 (map byte_of keys)) (key_is key)
     ∙ ap (λ (others : List Key). key ∷ others) (keys_are keys)
+
+-- one key more is played of those that are left
+pub one_more_key :
+    (script own : Script) (session next target : Session) (keys : List Key) (at : ℕ) (d : Key) → at < length keys →
+    own ≡ script → next ≡ (key_step own session (get_or keys at d)).session →
+    session_after script session (drop at keys) ≡ target → session_after script next (drop (at + 1) keys) ≡ target
+one_more_key script own session next target keys at d within same stepped before =
+    ap (λ (s : Session). session_after script s (drop (at + 1) keys))
+    (stepped ∙ ap (λ (s : Script). (key_step s session (get_or keys at d)).session) same)
+    ∙ sym (at_drop_more (session_after script session) keys at d within)
+    ∙ before
 
 -- inputs are keys
 inputs_are : (script : Script) (session : Session) (inputs : List Input) →

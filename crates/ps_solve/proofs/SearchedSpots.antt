@@ -1,7 +1,8 @@
 -- What a search finds over the spots of a level is true of the level.
-use Rattle.std.proofs.Common.{◌≡◌, ◌∙◌, ℕ, Bool, true, false, List, [], ◌∷◌, Option, Some, None, refl, sym, ap, length, ◌≤◌, arith}
+use Rattle.std.proofs.Common.{◌≡◌, ◌∙◌, ℕ, Bool, true, false, List, [], ◌∷◌, Option, Some, None}
+use Rattle.std.proofs.Common.{refl, sym, ap, arith}
 use Rattle.std.specs.Prelude.{is_none, slice_index_or}
-use Rattle.std.specs.List.{All, Contains}
+use Rattle.std.specs.List.{Contains}
 use Rattle.std.specs.Option.{option_and_then}
 use Rattle.std.proofs.lemmas.Bool.{false≢true}
 use Rattle.ps_model.specs.declared.play.Input.{Input}
@@ -9,14 +10,12 @@ use Rattle.ps_model.specs.declared.play.Input.TheVariants.{Up, Down, Left, Right
 use Rattle.ps_model.specs.board.Turns.{Script}
 use Rattle.ps_model.specs.session.Sessions.{Session}
 use Rattle.ps_model.specs.session.Solving.{session_after_inputs, is_past, Spot, spot, next_spot, spot_after_inputs}
-use Rattle.ps_model.specs.session.Solving.{WinsInFewest, NeverWins, NotWithin}
 use Rattle.ps_trial.specs.Scripts.{PlaysAs}
 use Rattle.ps_trial.specs.SilentStarts.{Boards}
 use Rattle.ps_trial.proofs.SameTurns.{spots_of_input}
 use Rattle.ps_laws.proofs.sessions.SolvingSpots.{lists_go_by_spots}
 use Rattle.ps_search.specs.declared.answers.Found.{Found}
 use Rattle.ps_search.specs.declared.answers.Found.TheVariants.{Won, Never, Unknown}
-use Rattle.ps_search.specs.Leads as graph
 use Rattle.ps_search.specs.Leads.{led, AreGiven}
 use Rattle.ps_search.specs.Answers.{IsAnswer}
 use Rattle.ps_solve.specs.SolvedLevels.{all_inputs, IsFound}

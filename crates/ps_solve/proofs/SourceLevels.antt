@@ -4,6 +4,7 @@ use Rattle.ps_model.specs.declared.play.Input.{Input}
 use Rattle.ps_model.specs.declared.play.Key.{Key}
 use Rattle.ps_model.specs.board.Turns.{Script, script_at}
 use Rattle.ps_model.specs.game.Games.{Game, game}
+use Rattle.ps_model.specs.meaning.Compiled as model
 use Rattle.ps_model.specs.names.Names.{Names}
 use Rattle.ps_model.specs.game.Outputs.{opening_step}
 use Rattle.ps_model.specs.session.Sessions.{Session}
@@ -20,6 +21,7 @@ use Rattle.ps_trial.specs.Scripts.{PlaysAs}
 use Rattle.ps_run.proofs.Scripts.{own_table, script_is}
 use Rattle.ps_solve.specs.declared.solved.NotSearched.{NotSearched}
 use Rattle.ps_solve.specs.declared.solved.NotSearched.TheVariants.{NoLevel}
+use Rattle.ps_solve.specs.declared.solved.NotSearched.TheVariants as not_searched
 use Rattle.ps_answers.specs.SolvedLevels.{IsSolved}
 use Rattle.ps_answers.specs.declared.solved.Solved.{Solved}
 use Rattle.ps_solve.specs.declared.solved.SolvedHere.{SolvedHere}
@@ -43,6 +45,32 @@ found_after script source session keys limit found runs came is =
     here_alike script source session (played source keys)
     (λ inputs. ap (λ (s : Session). session_after_inputs script s inputs) came
     ∙ same_inputs script source runs keys inputs) limit found is
+
+-- the same of a game in play by programs that the game's rules compile to
+pub played_as_written :
+    (text : List ℕ) (read : Game) (entry : ℕ) (keys : List Key) (limit : ℕ) (parts : SessionParts)
+    (plain late : List CompiledSection) (plain_made late_made : List model.CompiledSection) (play : GameInPlay)
+    (found : Option SolvedHere) → game text ≡ Some read → AreCompiled read.names read.rules plain_made late_made →
+    sections_shown plain ≡ plain_made → sections_shown late ≡ late_made → parts ≡ parts_at read entry →
+    script_in play ≡ script_on parts plain late → play.session ≡ played (script_in play) keys →
+    IsSolvedHere (script_in play) play.session limit found →
+    IsSolvedHere (script_at read entry) (played (script_at read entry) keys) limit found
+played_as_written text read entry keys limit parts plain late plain_made late_made play found is made p l own plays came solved =
+    let plain_is : AreCompiled read.names read.rules (sections_shown plain) late_made =
+    subst (λ (s : List model.CompiledSection). AreCompiled read.names read.rules s late_made) (sym p) made in
+    let both : AreCompiled read.names read.rules (sections_shown plain) (sections_shown late) =
+    subst (λ (s : List model.CompiledSection). AreCompiled read.names read.rules (sections_shown plain) s) (sym l)
+    plain_is in
+    let script : script_in play ≡ script_on (parts_at read entry) plain late =
+    plays ∙ ap (λ (s : SessionParts). script_on s plain late) own in
+    found_after (script_in play) (script_at read entry) play.session keys limit found
+    (runs_as_written text read entry plain late (script_in play) is both script) came solved
+
+-- where nothing is told of any level, nothing is told of that of an entry
+pub nothing_at : (script : Script) (session : Session) (limit entry : ℕ) (fault : NotSearched) →
+    IsSolvedAfter script session limit (Err fault) → IsSolvedAt script entry session limit (Err fault)
+nothing_at script session limit entry NoLevel nowhere = nowhere entry
+nothing_at script session limit entry not_searched.Memory told = tt
 
 -- the level of an entry is another one than that of the session
 pub other_level : (script : Script) (session : Session) (limit entry other : ℕ) → entry ≢ other → IsIn other session →

@@ -1,5 +1,5 @@
 -- Where a search stands, as it goes from spot to spot.
-use Rattle.std.proofs.Common.{◌≡◌, ◌∙◌, ◌<◌, ℕ, List, Option, Some, None, length, refl, sym, ap, subst, Result, Ok, Err}
+use Rattle.std.proofs.Common.{◌≡◌, ◌∙◌, ℕ, List, Option, Some, None, refl, sym, ap, subst, Result, Ok, Err}
 use Rattle.std.specs.Prelude.{IfOk, OnOk}
 use Rattle.ps_search.specs.Steps.{IsStep}
 use Rattle.ps_search.specs.declared.moves.Step.{Step}
@@ -8,12 +8,15 @@ use Rattle.ps_model.specs.board.Grid.{Grid}
 use Rattle.ps_model.specs.declared.play.Input.{Input}
 use Rattle.ps_model.specs.board.Turns.{Script}
 use Rattle.ps_model.specs.session.Solving.{Spot, next_spot}
-use Rattle.ps_rows.specs.Packings.{IsKey, Packed, packed_grid}
+use Rattle.ps_rows.specs.Packings.{Packed, packed_grid}
 use Rattle.ps_trial.specs.Desks.{Basis, TrialValue}
 use Rattle.ps_trial.specs.SilentStarts.{Boards}
 use Rattle.ps_trial.specs.declared.told.Pending.{Pending}
 use Rattle.ps_turn.specs.States.{HaveSameSides}
-use Rattle.ps_solve.specs.Searches.{KeyParts, IsStanding, SearchValue, here_of, key_parts, played_by, start_of}
+use Rattle.ps_turn.specs.declared.rules.TurnRules.{TurnRules}
+use Rattle.ps_program.specs.declared.program.CompiledSection.{CompiledSection}
+use Rattle.ps_solve.specs.Searches.{KeyParts, IsStanding, SearchValue, here_of, key_parts, played_by}
+use Rattle.ps_solve.specs.Searches.{script_of, start_of}
 use Rattle.ps_solve.specs.SpotKeys.{KeyTable, KeepsKeys, IsAt, IsSpotKey, restart_grid, spot_at}
 use Rattle.ps_solve.proofs.KeptKeys.{at_kept}
 
@@ -95,8 +98,8 @@ gone_to old new words restart waits keys at =
     ∙ ap (λ (k : KeyTable). spot_at k words restart waits) keys
 
 -- a search begins where it began, where its keys keep their meanings
-pub begins_same : (old : SearchValue) (keys : KeyTable) (start : KeyParts) → start ≡ old.start → KeepsKeys old.keys keys →
-    IsSpotKey old.keys old.start.words old.start.restart →
+pub begins_same : (old : SearchValue) (keys : KeyTable) (start : KeyParts) → start ≡ old.start →
+    KeepsKeys old.keys keys → IsSpotKey old.keys old.start.words old.start.restart →
     spot_at keys start.words start.restart start.waits ≡ start_of old
 begins_same old keys start same keeps known =
     ap (λ (p : KeyParts). spot_at keys p.words p.restart p.waits) same
@@ -108,6 +111,18 @@ pub here_same : (old : SearchValue) (keys : KeyTable) (at : KeyParts) → at ≡
 here_same old keys at same keeps known =
     ap (λ (p : KeyParts). spot_at keys p.words p.restart p.waits) same
     ∙ (keeps old.at.words old.at.restart old.at.waits known).1
+
+-- the script by which a search goes, where its trial and its rules are those of another
+abbrev pub RowRules : Type 0
+RowRules = TurnRules (List CompiledSection)
+
+abbrev script_by : TrialValue → RowRules → Script
+script_by trial rules = script_of trial.basis rules.plain rules.late
+
+pub same_script : (trial own : TrialValue) (rules own_rules : RowRules) → trial ≡ own → rules ≡ own_rules →
+    script_of trial.basis rules.plain rules.late ≡ script_of own.basis own_rules.plain own_rules.late
+same_script trial own rules own_rules same alike =
+    ap (λ (t : TrialValue). script_by t rules) same ∙ ap (script_by own) alike
 
 -- a step from a spot of a script is one from where a search is
 pub step_is : {Key : Type 0} (is_key : Key → Type 0) (place : Key → Spot) (search : SearchValue) (script : Script)

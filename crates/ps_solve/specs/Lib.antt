@@ -1,3 +1,4 @@
 pub mod SpotKeys
 pub mod Searches
 pub mod SolvedLevels
+pub mod ReadTexts

@@ -38,7 +38,8 @@ module _ (script : Script) (entry : ℕ) (session : Session) (limit : ℕ) where
   abbrev pub IsFound : {Fault : Type 0} → Found Input Fault → Type 0
   IsFound (Won found) = WinsInFewest script entry session found.items
   IsFound (Never states) = NeverWins script entry session × (states ≤ limit)
-  IsFound (Unknown states depth why) = NotWithin script entry session depth × (states ≤ limit) × IsReason limit states why
+  IsFound (Unknown states depth why) =
+      NotWithin script entry session depth × (states ≤ limit) × IsReason limit states why
 
   -- the session is in the level of the entry, and what is told is true of it; or it isn't in that level
   abbrev pub IsSolvedAt : Result Solved NotSearched → Type 0

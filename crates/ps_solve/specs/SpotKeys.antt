@@ -1,5 +1,5 @@
--- What the keys of spots stand for. The key of a spot has that of its board, and what a waiting message goes on with. It
--- has the number of the board that a restart goes back to, too.
+-- What the keys of spots stand for. The key of a spot has the key of its board, and what a waiting message goes on
+-- with. It also has the number of the board that a restart goes back to.
 use Rattle.std.specs.Prelude.{◌≡◌, ℕ, ◌<◌, List, [], Option, Some, length, slice_index_or}
 use Rattle.std.specs.List.{All}
 use Rattle.ps_model.specs.board.Grid.{Grid}
@@ -9,7 +9,8 @@ use Rattle.ps_trial.specs.Desks.{TrialValue}
 use Rattle.ps_trial.specs.Told.{waits_shown}
 use Rattle.ps_trial.specs.declared.told.Pending.{Pending}
 
--- what keys rest on: what those of boards stand for, and the keys of the boards that restarts go back to, by their numbers
+-- what keys rest on: what those of boards stand for, and the keys of the boards that restarts go back to, by their
+-- numbers
 pub record KeyTable : Type 0 where
   pub packed : Packed
   pub restarts : List (List ℕ)

@@ -34,18 +34,21 @@ const INPUTS: [Input; 5] = [
     Input::Action,
 ];
 
-/// A search of a level, from a spot of it, by the turns of a game. It goes from spot to spot, and keeps each as a key of
-/// `N` words.
+/// A search of a level, from a spot of it, by the turns of a game. It goes from spot to spot, and keeps each as a key
+/// of `N` words.
+///
+/// Its parts are boxed where they are as large as a key or as a set of columns. So the size of a search depends on
+/// neither, and whoever owns one can show that it fits in memory.
 pub(crate) struct LevelSearch<'g, W: ColumnWords, const N: usize> {
     /// Tries inputs at the spot where the search is.
-    trial: Trial<'g, RowBoard<W>>,
-    rules: TurnRules<GameRules<'g, 'g, RowBoard<W>>>,
+    trial: Box<Trial<'g, RowBoard<W>>>,
+    rules: Box<TurnRules<GameRules<'g, 'g, RowBoard<W>>>>,
     keys: SpotKeys<W, N>,
     /// A board of the search's own, on which keys are unpacked. It shows the board of the spot where the search is.
     board: OwnBoard<RowBoard<W>>,
-    /// The key of the spot where the search begins, and that of the spot where it is. They are boxed, so that the size of a
-    /// search doesn't depend on how wide its keys are.
+    /// The key of the spot where the search begins.
     start: Box<SpotKey<N>>,
+    /// The key of the spot where the search is.
     at: Box<SpotKey<N>>,
 }
 
@@ -70,15 +73,15 @@ impl<'g, W: ColumnWords, const N: usize> Model for LevelSearch<'g, W, N> {
     ghost Value = { SearchValue };
 
     ghost view = { λ s. record {
-      basis = s.trial.basis;
-      plain = s.rules.plain;
-      late = s.rules.late;
+      basis = s.trial.value.basis;
+      plain = s.rules.value.plain;
+      late = s.rules.value.late;
       keys = s.keys;
       start = key_parts s.start.value.board.words s.start.value.restart s.start.value.waits;
       at = key_parts s.at.value.board.words s.at.value.restart s.at.value.waits;
     } };
 
-    ghost invariant = { λ s. (N ≤ 64) × IsStanding s.keys s.trial s.board
+    ghost invariant = { λ s. (N ≤ 64) × IsStanding s.keys s.trial.value s.board
         (key_parts s.start.value.board.words s.start.value.restart s.start.value.waits)
         (key_parts s.at.value.board.words s.at.value.restart s.at.value.waits) };
 }
@@ -119,8 +122,8 @@ impl<'g, W: ColumnWords, const N: usize> LevelSearch<'g, W, N> {
     ///
     /// # Errors
     ///
-    /// `Full`, where the board that a restart goes back to has no key so short; `Moves`, where it isn't known that nothing
-    /// moves on the boards of the spot; or `Memory`.
+    /// `Full`, where the board that a restart goes back to has no key so short; `Moves`, where it isn't known that
+    /// nothing moves on the boards of the spot; or `Memory`.
     pub(crate) fn try_new(
         alloc: Global,
         trial: Trial<'g, RowBoard<W>>,
@@ -128,7 +131,8 @@ impl<'g, W: ColumnWords, const N: usize> LevelSearch<'g, W, N> {
         waits: Option<Pending>,
     ) -> Result<LevelSearch<'g, W, N>, NotPacked>
         requires narrow { N ≤ 64 }
-        ensures script { IfOk result (λ search. played_by search ≡ script_of trial.entry.basis rules.entry.plain rules.entry.late) }
+        ensures script { IfOk result (λ search.
+            played_by search ≡ script_of trial.entry.basis rules.entry.plain rules.entry.late) }
         ensures start { IfOk result (λ search. start_of search ≡ spot_with trial.entry.here (waits_shown waits)) }
     {
         let mut keys = SpotKeys::try_new(alloc, trial.here())?;
@@ -141,6 +145,12 @@ impl<'g, W: ColumnWords, const N: usize> LevelSearch<'g, W, N> {
             return Err(NotPacked::Memory);
         };
         let Ok(board) = OwnBoard::copy_of(alloc, trial.here()) else {
+            return Err(NotPacked::Memory);
+        };
+        let Ok(trial) = Box::new(alloc, trial) else {
+            return Err(NotPacked::Memory);
+        };
+        let Ok(rules) = Box::new(alloc, rules) else {
             return Err(NotPacked::Memory);
         };
         Ok(LevelSearch {
@@ -190,12 +200,12 @@ impl<'g, W: ColumnWords, const N: usize> LevelSearch<'g, W, N> {
         *self.at = *key;
     }
 
-    /// Searches the level for the shortest list of directions and `x` that leads past it, and keeps at most `limit` spots.
-    /// What it tells is true of each script that is played by the game's turns, from each session at the spot where the
-    /// search begins.
+    /// Searches the level for the shortest list of directions and `x` that leads past it, and keeps at most `limit`
+    /// spots. What it tells is true of each script that is played by the game's turns, from each session at the spot
+    /// where the search begins.
     ///
-    /// It may run out of memory, the watcher may stop it, or a key may be full. Then the answer says up to which length no
-    /// list leads past. It can be called again, and begins anew then.
+    /// It may run out of memory, the watcher may stop it, or a key may be full. Then the answer says up to which length
+    /// no list leads past. It can be called again, and begins anew then.
     pub(crate) fn solve<T: Watcher>(&mut self, alloc: Global, limit: u32, watcher: &mut T) -> Solved
         ensures solved { (script : Script) (entry : ℕ) (session : Session) → PlaysAs script (played_by self.old)
             → spot entry session ≡ Some (start_of self.old) → IsSolved script entry session limit result }
@@ -243,11 +253,11 @@ impl<'g, W: ColumnWords, const N: usize> Moves for LevelSearch<'g, W, N> {
     }
 
     fn step(&mut self, input: Input) -> Result<Step<SpotKey<N>>, NotPacked> {
-        let pressed = match self.trial.press(&mut self.rules, self.at.waits, input) {
+        let pressed = match self.trial.press(&mut *self.rules, self.at.waits, input) {
             Ok(pressed) => pressed,
             Err(_) => return Err(NotPacked::Memory),
         };
-        step_to(&mut self.keys, &*self.at, &self.trial, pressed)
+        step_to(&mut self.keys, &*self.at, &*self.trial, pressed)
     }
 
     ghost one_place = { Prim.search (rules, nat_tests) };

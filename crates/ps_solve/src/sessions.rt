@@ -56,8 +56,8 @@ pub(crate) fn search_from<'g, W: ColumnWords, const N: usize>(
       table = ⟦<RowBoard<W> as Board>⟧.table_for session.now.game.names.layers;
       parts = turn_parts session.now.game;
     }) rules.entry.plain rules.entry.late)) }
-    ensures start { IfOk result (λ found. IfSome found (λ search. spot (entry_in session.now.session) session.now.session
-        ≡ Some (start_of search))) }
+    ensures start { IfOk result (λ found. IfSome found (λ search.
+        spot (entry_in session.now.session) session.now.session ≡ Some (start_of search))) }
     ensures nowhere { result ≡ Ok None → (entry : ℕ) → spot entry session.now.session ≡ None }
     ensures there { OnErr result (IsIn (entry_in session.now.session) session.now.session) }
 {

@@ -32,7 +32,7 @@ pub enum NotSearched {
     Memory,
 }
 
-/// Why a search doesn't know where a spot has no key.
+/// Why a level stays unsolved where a spot has no key.
 fn why_not_packed(fault: NotPacked) -> Unsolved
     ensures { (limit states : ℕ) → IsUnsolved limit states result }
 {
@@ -43,7 +43,7 @@ fn why_not_packed(fault: NotPacked) -> Unsolved
     }
 }
 
-/// Why a search doesn't know.
+/// Why a level stays unsolved where a search stopped.
 fn why_of(why: Why<NotPacked>) -> Unsolved
     ensures { (limit states : ℕ) → IsReason limit states why → IsUnsolved limit states result }
 {
@@ -68,7 +68,7 @@ pub(crate) fn not_begun(fault: NotPacked) -> Solved
     }
 }
 
-/// What a search has found, as it is told.
+/// The answer about a level that tells what a search has found.
 pub(crate) fn told(found: Found<Input, NotPacked>) -> Solved
     ensures { (script : Script) (entry : ℕ) (session : Session) (limit : ℕ)
         → IsFound script entry session limit found → IsSolved script entry session limit result }

@@ -1,14 +1,16 @@
 //! Levels of a game that are solved.
 
-ghost use Rattle.std.specs.Prelude.{◌≡◌, ℕ, List, Some};
+ghost use Rattle.std.specs.Prelude.{◌≡◌, ℕ, Err, false, List, Some, slice_get};
 ghost use Rattle.ps_laws.specs.Fronts.{session_after};
 ghost use Rattle.ps_model.specs.board.Turns.{script_at};
 ghost use Rattle.ps_model.specs.game.Games.{game as game_in};
+ghost use Rattle.ps_model.specs.game.LevelRuns.{is_level_found};
 ghost use Rattle.ps_model.specs.game.Outputs.{opening_step};
 ghost use Rattle.ps_model.specs.session.RoomSizes.{HasRoomSize};
 ghost use Rattle.ps_run.specs.GamesInPlay.{script_in};
 ghost use Rattle.ps_stage.specs.Playable.{ArePlayable};
 ghost use Rattle.ps_solve.specs.SolvedLevels.{IsSolvedAfter, IsSolvedAt, IsSolvedHere};
+ghost use Rattle.ps_solve.specs.declared.solved.NotSearched.TheVariants as NotSearched;
 
 use crate::played::play_keys;
 use crate::solved::{NotSearched, SolvedHere};
@@ -109,8 +111,10 @@ pub fn solve_level<T: Watcher>(
 ) -> Result<Solved, NotSearched>
     requires playable { ArePlayable game.now.names game.now.entries }
     requires rooms { HasRoomSize game.now.options }
-    ensures { (text : List ℕ) → game_in text ≡ Some game.now → let script = script_at game.now entry in
+    ensures solved { (text : List ℕ) → game_in text ≡ Some game.now → let script = script_at game.now entry in
         IsSolvedAt script entry (opening_step script).session limit result }
+    ensures no_level { (text : List ℕ) → game_in text ≡ Some game.now → result ≡ Err NotSearched.NoLevel
+        → is_level_found (slice_get game.now.entries entry) ≡ false }
 {
     let played = KeysPlayed { entry, keys: &[] };
     match solve_after(alloc, game, played, limit, watcher) {

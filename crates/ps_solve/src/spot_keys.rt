@@ -1,6 +1,7 @@
 //! Keys of spots, and what they stand for.
 
-ghost use Rattle.std.specs.Prelude.{◌≡◌, ◌<◌, ◌≤◌, ◌⊎◌, ◌++◌, ◌∷◌, true, slice_get, IfOk, Some, length, replicate, slice_index_or, []};
+ghost use Rattle.std.specs.Prelude.{◌≡◌, ◌<◌, ◌≤◌, ◌⊎◌, ◌++◌, ◌∷◌, [], true, IfOk, Some, length};
+ghost use Rattle.std.specs.Prelude.{replicate, slice_get, slice_index_or};
 ghost use Rattle.ps_board.specs.Rows.{DifferOnlyOn};
 ghost use Rattle.ps_rows.specs.Packings.{IsKey, packed_grid};
 ghost use Rattle.ps_trial.specs.SilentStarts.{spot_with};
@@ -116,7 +117,8 @@ impl<W: ColumnWords, const N: usize> SpotKeys<W, N> {
         requires table { ⟦<RowBoard<W> as Board>⟧.table to.now ≡ ⟦<RowBoard<W> as Board>⟧.table from.now }
         requires only { DifferOnlyOn rows.now (⟦<RowBoard<W> as Board>⟧.grid from.now)
             (⟦<RowBoard<W> as Board>⟧.grid to.now) }
-        ensures grid { IfOk result (λ key. packed_grid self.new.packed key.words ≡ ⟦<RowBoard<W> as Board>⟧.grid to.now) }
+        ensures grid { IfOk result (λ key.
+            packed_grid self.new.packed key.words ≡ ⟦<RowBoard<W> as Board>⟧.grid to.now) }
         ensures known { IfOk result (λ key. IsKey self.new.packed key.words) }
         ensures kept { KeepsKeys self.old self.new }
         ensures boards { KeepsBoards self.old.packed self.new.packed }
@@ -218,8 +220,8 @@ impl<W: ColumnWords, const N: usize> SpotKeys<W, N> {
         }
     }
 
-    /// The key of the spot to which the last input of a trial led, where a message waits or none does. The trial is at the
-    /// spot of a key.
+    /// The key of the spot to which the last input of a trial led, where a message waits or none does. The trial is at
+    /// the spot of a key.
     ///
     /// # Errors
     ///

@@ -25,7 +25,7 @@ pub(crate) struct RuleSections<'g> {
     pub late: &'g [CompiledSection<'g>],
 }
 
-/// The answer of a search from a session that is out of memory before it begins; nothing where the session is in no
+/// The answer where memory runs out before the level of a session is searched; nothing where the session is in no
 /// level.
 fn without_memory<B: Board, H: History<B>>(session: &Session<'_, B, H>) -> Option<Solved>
     ensures { (script : Script) (limit : ℕ) → IsSolvedIn script session.now.session limit result }
@@ -36,7 +36,7 @@ fn without_memory<B: Board, H: History<B>>(session: &Session<'_, B, H>) -> Optio
     }
 }
 
-/// Whether wider keys may do.
+/// Whether wider keys may find more.
 fn is_full(solved: &Option<Solved>) -> bool {
     match solved {
         Some(Solved::Unknown { why, .. }) => *why == Unsolved::Full,
@@ -44,7 +44,8 @@ fn is_full(solved: &Option<Solved>) -> bool {
     }
 }
 
-/// Searches the level where a session is, if it is in one, with keys of `N` words and rules of the search's own.
+/// Searches the level where a session is, if it is in one, with keys of `N` words. The search has rules of its own, so
+/// the session stays as it is.
 fn solve_with<'g, W: ColumnWords, T: Watcher, const N: usize>(
     alloc: Global,
     session: &Session<'g, RowBoard<W>, RowHistory<W>>,
@@ -98,8 +99,8 @@ fn solve_widely<'g, W: ColumnWords, T: Watcher>(
     solve_with::<W, T, 64>(alloc, session, sections, limit, watcher)
 }
 
-/// Whether the level in which a session is can be won from there, and by how few directions and `x`; nothing where it is in
-/// no level. At most `limit` spots are kept.
+/// Whether the level in which a session is can be won from there, and by how few directions and `x`; nothing where it
+/// is in no level. At most `limit` spots are kept.
 ///
 /// What is told is true of each script that is played by these sections. Out of memory, the answer says so.
 pub(crate) fn solve_session<'g, W: ColumnWords, T: Watcher>(

@@ -48,7 +48,11 @@ mod rows;
 #[cfg(test)]
 mod searches;
 #[cfg(test)]
+mod solved_puzzles;
+#[cfg(test)]
 mod solving;
+#[cfg(test)]
+mod told_levels;
 #[cfg(test)]
 mod watched;
 #[cfg(test)]

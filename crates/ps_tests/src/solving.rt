@@ -147,6 +147,17 @@ fn a_restart_leads_to_the_checkpoint(rt: HostRuntime) {
     assert_eq!(rt; shown(&never), ("never", 6, 0));
 }
 
+#[test]
+fn again_turns_win(rt: HostRuntime) {
+    let lines =
+        "RULES\nright [ Crate | no Crate ] -> [ > Crate | no Crate ] again\nWINCONDITIONS\nAll Target on Crate\n\
+        LEVELS\n";
+    match solved(&rt, lines, "P*..O\n", 100, &mut Unwatched) {
+        Solved::Won { keys } => assert!(rt; keys.as_slice() == [Input::Up].as_slice()),
+        _ => assert!(rt; false),
+    }
+}
+
 /// Eighty cells for a Player to walk on.
 const WALK: &str =
     "P......................................O\n........................................\n";
@@ -155,6 +166,40 @@ const WALK: &str =
 fn wide_keys_do_where_narrow_ones_are_full(rt: HostRuntime) {
     let never = solved(&rt, PUSHING, WALK, 100, &mut Unwatched);
     assert_eq!(rt; shown(&never), ("never", 80, 0));
+}
+
+/// Thirty-two cells of a row: an eighth of the widest.
+const FLOOR: &str = "................................";
+
+/// The last cells of the last row of a level as wide as can be, where four keys win.
+const LAST: &str = "..........................P.*..O";
+
+/// The last cells of its last two rows, where no key wins.
+const SHUT: &str = "............................####";
+
+const SHUT_IN: &str = "...........................#OP*";
+
+#[test]
+fn levels_as_wide_as_can_be_are_solved(rt: HostRuntime) {
+    let alloc = rt.alloc();
+    let front = format!(in alloc; "{FLOOR}{FLOOR}{FLOOR}{FLOOR}{FLOOR}{FLOOR}{FLOOR}");
+    let front = front.expect(&rt, "memory for a row");
+    let above = format!(in alloc; "{front}{FLOOR}\n{front}{FLOOR}\n{front}");
+    let above = above.expect(&rt, "memory for rows");
+    let open = format!(in alloc; "{above}{FLOOR}\n{front}{LAST}\n").expect(
+        &rt,
+        "memory for a level",
+    );
+    match solved(&rt, PUSHING, &open, 1000, &mut Unwatched) {
+        Solved::Won { keys } => assert!(rt; keys.as_slice() == [Input::Right; 4].as_slice()),
+        _ => assert!(rt; false),
+    }
+    let shut = format!(in alloc; "{above}{SHUT}\n{front}.{SHUT_IN}\n").expect(
+        &rt,
+        "memory for a level",
+    );
+    let never = solved(&rt, PUSHING, &shut, 1000, &mut Unwatched);
+    assert_eq!(rt; shown(&never), ("never", 2, 0));
 }
 
 #[test]

@@ -1,18 +1,10 @@
-use Rattle.std.proofs.Common.{◌≡◌, List, Some, ap}
+use Rattle.std.proofs.Common.{Some, ap}
 use Rattle.ps_model.specs.board.Turns.{script_at}
 use Rattle.ps_model.specs.game.Games.{Game}
-use Rattle.ps_model.specs.meaning.Compiled as model
-use Rattle.ps_model.specs.names.Names.{Names}
-use Rattle.ps_model.specs.rules.SourceRules.{RuleLine}
 use Rattle.ps_rulebook.specs.PlayedGames.{AreCompiled}
 use Rattle.ps_run.proofs.Rightly.{wants_memory}
+use Rattle.ps_run.proofs.Scripts.{made_of}
 use Rattle.ps_run.proofs.read_run.run_read.Goals as goal
-
--- programs that are compiled of some names and rules are compiled of the same ones
-made_of :
-    (names names' : Names) (rules rules' : List RuleLine) (plain late : List model.CompiledSection) → names ≡ names' →
-    rules ≡ rules' → AreCompiled names rules plain late → AreCompiled names' rules' plain late
-made_of names names' rules rules' plain late n r made = rw (← n, ← r) made
 
 pub returns-in-Err : goal.returns-in-Err
 returns-in-Err g c = record {

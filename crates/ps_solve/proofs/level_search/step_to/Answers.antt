@@ -1,4 +1,4 @@
-use Rattle.std.proofs.Common.{◌≡◌, ◌∙◌, Some, ap, sym}
+use Rattle.std.proofs.Common.{◌∙◌, Some, ap, sym}
 use Rattle.ps_model.specs.session.Solving.{Spot}
 use Rattle.ps_trial.specs.SilentStarts.{spot_with}
 use Rattle.ps_trial.specs.Told.{pressed_shown, waits_shown}

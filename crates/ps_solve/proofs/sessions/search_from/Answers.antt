@@ -1,4 +1,4 @@
-use Rattle.std.proofs.Common.{◌≡◌, ◌∙◌, List, Option, Some, ap, refl, rules, sym}
+use Rattle.std.proofs.Common.{◌∙◌, Some, ap, refl, rules, sym}
 use Rattle.ps_model.specs.session.Solving.{Spot}
 use Rattle.ps_stage.specs.Standings.{play_of, turn_parts}
 use Rattle.ps_stage.specs.Standings as stage

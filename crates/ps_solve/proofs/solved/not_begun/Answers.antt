@@ -1,4 +1,4 @@
-use Rattle.std.proofs.Common.{◌≤◌, arith}
+use Rattle.std.proofs.Common.{arith}
 use Rattle.ps_solve.proofs.AlikeLevels.{not_past_yet}
 use Rattle.ps_solve.proofs.solved.not_begun.Goals as goal
 

@@ -1,4 +1,4 @@
-use Rattle.std.proofs.Common.{◌≡◌, ◌∙◌, sym}
+use Rattle.std.proofs.Common.{◌∙◌, sym}
 use Rattle.ps_solve.proofs.FromSessions.{entry_is, here_in}
 use Rattle.ps_solve.proofs.widths.solve_session.Goals as goal
 

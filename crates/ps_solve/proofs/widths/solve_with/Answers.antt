@@ -1,4 +1,4 @@
-use Rattle.std.proofs.Common.{◌≡◌, ◌∙◌, Option, Some, None, Ok, Err, Result, ap, refl, rules, subst, sym}
+use Rattle.std.proofs.Common.{◌≡◌, Some, Ok, ap, rules, subst}
 use Rattle.std.specs.Prelude.{IfSome}
 use Rattle.ps_model.specs.session.Solving.{spot}
 use Rattle.ps_stage.specs.Standings.{turn_parts}

@@ -1,6 +1,6 @@
-use Rattle.std.proofs.Common.{◌≡◌, ◌∙◌, ◌<◌, None, length, List, ℕ, arith, ap, sym, subst}
+use Rattle.std.proofs.Common.{◌∙◌, ◌<◌, None, length, List, ℕ, arith, ap, sym, subst}
 use Rattle.ps_rows.specs.Packings.{IsKey, packed_grid}
-use Rattle.ps_trial.specs.Desks.{Basis}
+use Rattle.ps_trial.specs.Desks.{Basis, TrialValue}
 use Rattle.ps_solve.specs.Searches.{SearchValue, played_by, script_of}
 use Rattle.ps_solve.specs.declared.spot_keys.SpotKey.{SpotKey}
 use Rattle.ps_solve.proofs.KeyRooms.{board_key_room}
@@ -31,22 +31,28 @@ unpack-requires g c =
 pub go_to-requires-clause-sides : goal.go_to-requires-clause-sides
 go_to-requires-clause-sides g c =
     same_sides c.self.inside.keys.packed c.restart_key-board.result.words c.self.inside.at.value.board.words _
-    c.self.inside.trial.here.board (c.board.ensures.grid ∙ c.unpack.ensures.grid) c.self.invariant.1.at.board
+    c.deref_mut.result.now.here.board (c.board.ensures.grid ∙ c.unpack.ensures.grid)
+    (ap (λ (t : TrialValue). t.here.board) c.deref_mut.ensures.value ∙ c.self.invariant.1.at.board)
 
 pub restart_at-requires-clause-table : goal.restart_at-requires-clause-table
 restart_at-requires-clause-table g c =
     c.board-2.ensures.table ∙ c.unpack.ensures.table ∙ c.self.invariant.1.own_table ∙ sym c.self.invariant.1.at.own
+    ∙ sym (ap (λ (t : TrialValue). t.basis.table) c.deref_mut.ensures.value)
     ∙ sym (ap (λ (b : Basis). b.table) c.go_to.ensures.basis)
+    ∙ sym (ap (λ (t : TrialValue). t.basis.table) c.deref_mut-2.ensures.value)
 
 pub invariant_of-self : goal.invariant_of-self
 invariant_of-self g c =
     let below : c.args.number < length c.self.inside.keys.restarts =
     subst (λ (s : SearchValue). c.args.number < length s.keys.restarts) (sym c.self.view_is) c.requires in (
       c.self.invariant.0,
-      stands_at c.self.inside.keys c.self.inside.board _ _ c.self.inside.trial c.restart_at.new.self
+      stands_at c.self.inside.keys c.self.inside.board _ _ c.self.inside.trial.value c.restart_at.new.self
           c.unpack.new.board c.restart_key-board.result.words c.args.number None c.self.invariant.1
-          (c.restart_key-board.ensures.known, below) (c.restart_at.ensures.basis ∙ c.go_to.ensures.basis)
-          (c.restart_at.ensures.board ∙ c.go_to.ensures.board ∙ c.board.ensures.grid)
+          (c.restart_key-board.ensures.known, below)
+          (c.restart_at.ensures.basis ∙ ap (λ (t : TrialValue). t.basis) c.deref_mut-2.ensures.value
+          ∙ c.go_to.ensures.basis ∙ ap (λ (t : TrialValue). t.basis) c.deref_mut.ensures.value)
+          (c.restart_at.ensures.board ∙ ap (λ (t : TrialValue). t.here.board) c.deref_mut-2.ensures.value
+          ∙ c.go_to.ensures.board ∙ c.board.ensures.grid)
           (c.restart_at.ensures.restart_board ∙ c.board-2.ensures.grid ∙ c.unpack.ensures.grid
           ∙ ap (λ (words : List ℕ). packed_grid c.self.inside.keys.packed words) c.restart_key-board.ensures.words)
           c.unpack.ensures.grid c.unpack.ensures.table,
@@ -54,6 +60,7 @@ invariant_of-self g c =
 
 pub returns-clause-script : goal.returns-clause-script
 returns-clause-script g c =
-    ap (λ (b : Basis). script_of b c.self.inside.rules.plain c.self.inside.rules.late)
-    (c.restart_at.ensures.basis ∙ c.go_to.ensures.basis)
+    ap (λ (b : Basis). script_of b c.self.inside.rules.value.plain c.self.inside.rules.value.late)
+    (c.restart_at.ensures.basis ∙ ap (λ (t : TrialValue). t.basis) c.deref_mut-2.ensures.value
+    ∙ c.go_to.ensures.basis ∙ ap (λ (t : TrialValue). t.basis) c.deref_mut.ensures.value)
     ∙ ap played_by c.self.view_is

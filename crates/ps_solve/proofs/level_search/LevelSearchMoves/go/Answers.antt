@@ -2,7 +2,7 @@ use Rattle.std.proofs.Common.{◌∙◌, rules, subst, sym}
 use Rattle.ps_solve.proofs.KeyRooms.{spot_key_room}
 use Rattle.ps_solve.specs.Searches.{played_by}
 use Rattle.ps_solve.specs.SpotKeys.{IsSpotKey, KeyTable}
-use Rattle.ps_solve.proofs.Standing.{begins_same, gone_to, keeps_same, same_steps}
+use Rattle.ps_solve.proofs.Standing.{gone_to, keeps_same, same_steps}
 use Rattle.ps_solve.proofs.level_search.LevelSearchMoves.go.Goals as goal
 
 pub returns-clause-here : goal.returns-clause-here

@@ -1,4 +1,4 @@
-use Rattle.std.proofs.Common.{◌≡◌, ◌≤◌, true, List, ℕ, map, rules, sym, subst}
+use Rattle.std.proofs.Common.{◌≡◌, List, ℕ, map, rules, sym, subst}
 use Rattle.std.proofs.lemmas.Bool.Decides.{nat_tests}
 use Rattle.ps_rows.specs.Packings.{IsKey, packed_grid}
 use Rattle.ps_rows.specs.declared.packed_keys.PackedKey.{PackedKey}
