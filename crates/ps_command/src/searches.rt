@@ -40,7 +40,8 @@ pub fn stop_option(alloc: Global) -> Result<Arg<'static>, AllocError> {
         .value_name("FILE")
         .help("With --solve, ends the search once FILE is there, and says what is known then")
         .action(ArgAction::Set)
-        .requires_arg("solve")
+        .requires_arg("solve")?
+        .conflicts_with_all(&["check", "keys", "view", "show", "describe"])
 }
 
 /// What several texts can be given for: one of these.
