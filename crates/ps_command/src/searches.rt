@@ -29,7 +29,8 @@ pub fn states_option(alloc: Global) -> Result<Arg<'static>, AllocError> {
         .value_name("N")
         .help("With --solve, keeps at most N states for a level, in place of 1000000")
         .action(ArgAction::Set)
-        .requires_arg("solve")
+        .requires_arg("solve")?
+        .conflicts_with_all(&["check", "keys", "view", "show", "describe"])
 }
 
 /// What several texts can be given for: one of these.
