@@ -6,10 +6,11 @@
 use ps_command::run_command_line;
 use ps_devices::FromStd;
 use ps_run::GamePlayer;
+use ps_solve::GameSolver;
 use std::process::ExitCode;
 
 fn main(rt: HostRuntime) -> ExitCode {
     let mut keys = FromStd::new(rt.stdin());
     let mut screen = FromStd::new(rt.stdout());
-    ExitCode::from(run_command_line(&rt, &GamePlayer, &mut keys, &mut screen))
+    ExitCode::from(run_command_line(&rt, &GamePlayer, &GameSolver, &mut keys, &mut screen))
 }

@@ -7,31 +7,32 @@ use ps_command::run_command_line;
 use ps_devices::{MemoryReader, MemoryWriter};
 use ps_model::CALL_LIMIT;
 use ps_run::GamePlayer;
+use ps_solve::GameSolver;
 use std::process::Abort;
 
 /// What must come of a command line.
-struct Told {
+pub struct Told {
     /// What standard input has.
-    input: &'static [u8],
+    pub input: &'static [u8],
     /// How often it is asked.
-    reads: usize,
-    status: u8,
+    pub reads: usize,
+    pub status: u8,
     /// What is written to the screen.
-    shown: &'static str,
+    pub shown: &'static str,
     /// What standard output gets besides.
-    printed: &'static str,
+    pub printed: &'static str,
     /// What standard error gets.
-    complained: &'static str,
+    pub complained: &'static str,
 }
 
 /// The words of a command line, and the files that are opened for it, each in a line.
-type Line = (&'static [&'static str], &'static str);
+pub type Line = (&'static [&'static str], &'static str);
 
 /// The fault of the text that ends before its levels: its last line is the eleventh.
-const CUT: &str = "line 11: GM2 NoSection\n";
+pub const CUT: &str = "line 11: GM2 NoSection\n";
 
 /// The fault of a text that is longer than one may be.
-const TOO_LONG: &str = "line 1: TX2 TooLong\n";
+pub const TOO_LONG: &str = "line 1: TX2 TooLong\n";
 
 /// What is shown of the game where it is quit at once.
 const QUIT: &str = "= T\n# level 1\n#P*O#\n\n* quit\n";
@@ -70,7 +71,7 @@ const OBJECTS: &str =
     \"levels\":null,\"ok\":false,\"title\":null}\n";
 
 /// The words of command lines that aren't right.
-const BAD_LINES: [&[&str]; 39] = [
+const BAD_LINES: [&[&str]; 59] = [
     &["ps_play", "a.game", "--show", "-"],
     &["ps_play", "--view", "24x80", "--show", "-"],
     &["ps_play", "--describe"],
@@ -112,6 +113,28 @@ const BAD_LINES: [&[&str]; 39] = [
     &["ps_play", "--format", "gnu", "a.game"],
     &["ps_play", "--check", "--format", "xml", "a.game"],
     &["ps_play", "--explain", "RU7", "--format", "json"],
+    &["ps_play", "--solve"],
+    &["ps_play", "--solve", "a.game", "--solve"],
+    &["ps_play", "--solve", "a.game", "--check"],
+    &["ps_play", "--solve", "a.game", "--why"],
+    &["ps_play", "--solve", "a.game", "--all"],
+    &["ps_play", "--solve", "a.game", "--format", "gnu"],
+    &["ps_play", "--solve", "a.game", "--keys", "a.keys"],
+    &["ps_play", "--solve", "a.game", "--view", "24x80"],
+    &[
+        "ps_play", "--solve", "a.game", "--view", "24x80", "--show", "-",
+    ],
+    &["ps_play", "--solve", "a.game", "--describe"],
+    &["ps_play", "--solve", "a.game", "0"],
+    &["ps_play", "--solve", "a.game", "--level", "0"],
+    &["ps_play", "--solve", "a.game", "--level", "two"],
+    &["ps_play", "--solve", "a.game", "--states"],
+    &["ps_play", "--solve", "a.game", "--states", "0"],
+    &["ps_play", "--solve", "a.game", "--states", "many"],
+    &["ps_play", "--solve", "a.game", "--states", "4294967296"],
+    &["ps_play", "a.game", "--states", "5"],
+    &["ps_play", "--check", "a.game", "--states", "5"],
+    &["ps_play", "--explain", "RU7", "--solve"],
 ];
 
 /// Command lines that ask for a game to be played, and what must come of each.
@@ -667,21 +690,32 @@ const EXPLANATIONS: [(Told, &[Line]); 5] = [
 
 /// What came of a command line.
 #[derive(Drop)]
-struct Outcome {
-    status: u8,
-    kept: Kept,
+pub struct Outcome {
+    pub status: u8,
+    pub kept: Kept,
     /// How often standard input was asked.
-    reads: u32,
-    screen: MemoryWriter,
+    pub reads: u32,
+    pub screen: MemoryWriter,
 }
 
 /// Does what a command line asks for, with these bytes from standard input, one at a time.
 fn obey(rt: &(impl Abort + AllocGlobal), words: &[&str], input: &[u8]) -> Outcome {
+    obey_on(rt, words, input, 1000)
+}
+
+/// Does what a command line asks for, with these bytes from standard input, one at a time, on a screen that takes so
+/// many bytes and then fails.
+pub fn obey_on(
+    rt: &(impl Abort + AllocGlobal),
+    words: &[&str],
+    input: &[u8],
+    room: usize,
+) -> Outcome {
     let machine = Machine::new(rt.alloc(), words);
     let mut keys = Watched::new(MemoryReader::new(input, 1, None));
-    let screen = MemoryWriter::new(rt.alloc(), 1000, CALL_LIMIT);
+    let screen = MemoryWriter::new(rt.alloc(), room, CALL_LIMIT);
     let mut screen = screen.expect(rt, "memory for the screen");
-    let status = run_command_line(&machine, &GamePlayer, &mut keys, &mut screen);
+    let status = run_command_line(&machine, &GamePlayer, &GameSolver, &mut keys, &mut screen);
     Outcome {
         status,
         kept: machine.kept(),
@@ -714,7 +748,7 @@ fn differing(outcome: &Outcome, told: &Told, opened: &str) -> &'static str {
 }
 
 /// Does what command lines ask for, and looks at all that comes of each.
-fn expect_each(rt: &(impl Abort + AllocGlobal), asked: &[(Told, &[Line])]) {
+pub fn expect_each(rt: &(impl Abort + AllocGlobal), asked: &[(Told, &[Line])]) {
     for (told, lines) in asked {
         for (words, opened) in *lines {
             let outcome = obey(rt, *words, told.input);

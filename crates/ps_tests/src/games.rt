@@ -25,6 +25,13 @@ pub const TWO_LEVELS: &[u8] =
 Background\nTarget\nPlayer\nRULES\nWINCONDITIONS\nSome Player on Target\nLEVELS\n\
 message Hello\nPO\n\nmessage Now\n.PO\n";
 
+/// The game [`PUSHING`] with two levels more: one that can't be won, and one that is won by the third of three keys.
+pub const THREE_LEVELS: &[u8] =
+    b"title T\nOBJECTS\nBackground .\ngreen\nWall #\nbrown\nPlayer P\nwhite\nCrate *\norange\nTarget O\nblue\n\
+LEGEND\n@ = Crate and Target\nCOLLISIONLAYERS\nBackground\nTarget\nPlayer, Wall, Crate\n\
+RULES\n[ > Player | Crate ] -> [ > Player | > Crate ]\nWINCONDITIONS\nAll Target on Crate\nLEVELS\n\
+#P*O#\n\n#OP*#\n\nmessage Last\n#P.*.O#\n";
+
 /// A text that ends before its levels.
 pub const CUT_SHORT: &[u8] =
     b"OBJECTS\nBackground .\ngreen\nPlayer P\nwhite\nLEGEND\nCOLLISIONLAYERS\nBackground\nPlayer\n\

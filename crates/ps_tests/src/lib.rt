@@ -46,6 +46,8 @@ mod row_scan;
 #[cfg(test)]
 mod rows;
 #[cfg(test)]
+mod searches;
+#[cfg(test)]
 mod watched;
 #[cfg(test)]
 mod writers;
