@@ -326,10 +326,10 @@ fn searches_what_is_asked_for(rt: HostRuntime) {
 fn a_screen_that_fails_ends_the_search(rt: HostRuntime) {
     let outcome = obey_on(&rt, &["ps_play", "--solve", "two.game"], b"d", 30);
     assert_eq!(rt; outcome.status, 1);
-    assert!(rt; outcome.screen.bytes() == b"level 1: won in 1 key: d\nlevel");
+    assert!(rt; outcome.screen.bytes() == "level 1: won in 1 key: d\nlevel".as_bytes());
     assert_eq!(rt; outcome.kept.complained.as_str(), "cannot write\n");
     let outcome = obey_on(&rt, &["ps_play", "--solve", "a.game", "cut.game"], b"d", 40);
     assert_eq!(rt; outcome.status, 1);
-    assert!(rt; outcome.screen.bytes() == b"a.game: level 1: won in 1 key: d\ncut.gam");
+    assert!(rt; outcome.screen.bytes() == "a.game: level 1: won in 1 key: d\ncut.gam".as_bytes());
     assert_eq!(rt; outcome.kept.complained.as_str(), "cannot write\n");
 }
