@@ -70,8 +70,14 @@ const OBJECTS: &str =
     \"message\":\"There is no header LEVELS.\",\"name\":\"NoSection\"}],\"file\":\"cut.game\",\"homepage\":null,\
     \"levels\":null,\"ok\":false,\"title\":null}\n";
 
+/// The object of JSON on the text that ends before its levels.
+pub const CUT_OBJECT: &str =
+    "{\"author\":null,\"complete\":true,\"counts\":null,\"faults\":[{\"code\":\"GM2\",\"column\":1,\"line\":11,\
+    \"message\":\"There is no header LEVELS.\",\"name\":\"NoSection\"}],\"file\":\"cut.game\",\"homepage\":null,\
+    \"levels\":null,\"ok\":false,\"title\":null}\n";
+
 /// The words of command lines that aren't right.
-const BAD_LINES: [&[&str]; 59] = [
+const BAD_LINES: [&[&str]; 61] = [
     &["ps_play", "a.game", "--show", "-"],
     &["ps_play", "--view", "24x80", "--show", "-"],
     &["ps_play", "--describe"],
@@ -134,6 +140,8 @@ const BAD_LINES: [&[&str]; 59] = [
     &["ps_play", "--solve", "a.game", "--states", "4294967296"],
     &["ps_play", "a.game", "--states", "5"],
     &["ps_play", "--check", "a.game", "--states", "5"],
+    &["ps_play", "--describe", "a.game", "--states", "5"],
+    &["ps_play", "a.game", "--format", "json"],
     &["ps_play", "--explain", "RU7", "--solve"],
 ];
 

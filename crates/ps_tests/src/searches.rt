@@ -1,10 +1,19 @@
 //! Command lines that ask whether levels can be won.
 
-use crate::command_lines::{CUT, Line, TOO_LONG, Told, expect_each, obey_on};
+use crate::command_lines::{CUT, CUT_OBJECT, Line, TOO_LONG, Told, expect_each, obey_on};
 use crate::games::PUSHING;
 
+/// The objects of JSON on the levels of the game of three levels, where two states may be kept.
+const ANSWERS: &str =
+    "{\"answer\":\"won\",\"depth\":null,\"fewest\":1,\"file\":\"three.game\",\"keys\":\"d\",\"level\":1,\
+    \"reason\":null,\"states\":null}\n\
+    {\"answer\":\"never\",\"depth\":null,\"fewest\":null,\"file\":\"three.game\",\"keys\":null,\"level\":2,\
+    \"reason\":null,\"states\":2}\n\
+    {\"answer\":\"unknown\",\"depth\":1,\"fewest\":null,\"file\":\"three.game\",\"keys\":null,\"level\":3,\
+    \"reason\":\"limit\",\"states\":2}\n";
+
 /// Command lines that ask whether levels can be won, and what must come of each.
-const SEARCHES: [(Told, &[Line]); 16] = [
+const SEARCHES: [(Told, &[Line]); 18] = [
     // A level is searched, and no key is asked for.
     (
         Told {
@@ -25,6 +34,10 @@ const SEARCHES: [(Told, &[Line]); 16] = [
                 "a.game\n",
             ),
             (&["ps_play", "--solve", "--states=1", "a.game"], "a.game\n"),
+            (
+                &["ps_play", "--solve", "--format", "text", "a.game"],
+                "a.game\n",
+            ),
             (
                 &["ps_play", "--solve", "--states", "4294967295", "a.game"],
                 "a.game\n",
@@ -256,6 +269,52 @@ const SEARCHES: [(Told, &[Line]); 16] = [
         },
         &[(&["ps_play", "--solve", "a.game", "-"], "a.game\n")],
     ),
+    // For programs the answer about each level is an object.
+    (
+        Told {
+            input: b"d",
+            reads: 0,
+            status: 1,
+            shown: ANSWERS,
+            printed: "",
+            complained: "",
+        },
+        &[(
+            &[
+                "ps_play",
+                "--solve",
+                "--format",
+                "json",
+                "--states",
+                "2",
+                "three.game",
+            ],
+            "three.game\n",
+        )],
+    ),
+    // A text with a fault is one as a check tells it.
+    (
+        Told {
+            input: b"d",
+            reads: 0,
+            status: 1,
+            shown: CUT_OBJECT,
+            printed: "",
+            complained: "two.game: the game has 2 levels: there is no level 3\nlost.game: cannot read game\n",
+        },
+        &[(
+            &[
+                "ps_play",
+                "two.game",
+                "lost.game",
+                "cut.game",
+                "--solve",
+                "--level=3",
+                "--format=json",
+            ],
+            "two.game\nlost.game\ncut.game\n",
+        )],
+    ),
 ];
 
 #[test]
@@ -267,10 +326,10 @@ fn searches_what_is_asked_for(rt: HostRuntime) {
 fn a_screen_that_fails_ends_the_search(rt: HostRuntime) {
     let outcome = obey_on(&rt, &["ps_play", "--solve", "two.game"], b"d", 30);
     assert_eq!(rt; outcome.status, 1);
-    assert!(rt; outcome.screen.bytes() == b"level 1: won in 1 key: d\nlevel");
+    assert!(rt; outcome.screen.bytes() == "level 1: won in 1 key: d\nlevel".as_bytes());
     assert_eq!(rt; outcome.kept.complained.as_str(), "cannot write\n");
     let outcome = obey_on(&rt, &["ps_play", "--solve", "a.game", "cut.game"], b"d", 40);
     assert_eq!(rt; outcome.status, 1);
-    assert!(rt; outcome.screen.bytes() == b"a.game: level 1: won in 1 key: d\ncut.gam");
+    assert!(rt; outcome.screen.bytes() == "a.game: level 1: won in 1 key: d\ncut.gam".as_bytes());
     assert_eq!(rt; outcome.kept.complained.as_str(), "cannot write\n");
 }
