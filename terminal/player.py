@@ -68,7 +68,6 @@ class Player:
 
     def __init__(self, path):
         self.path = path
-        self._help = None
 
     def describe(self, game):
         """What it says of the game; raises Fault where the text has one."""
@@ -80,26 +79,10 @@ class Player:
             raise Fault(told.stdout + told.stderr, status_of(told.returncode))
         return Described(json.loads(told.stdout))
 
-    def knows(self, option):
-        """Whether it has an option of that name."""
-        if self._help is None:
-            told = subprocess.run([self.path, "--help"], stdin=subprocess.DEVNULL, capture_output=True)
-            self._help = [word for line in told.stdout.splitlines() for word in line.split()[:1]]
-        return option.encode() in self._help
-
-    def solve_after(self, game, level, keys, states, seconds):
-        """The line on the level that is played after keys of a run from that level; None where it takes longer."""
-        with tempfile.NamedTemporaryFile() as file:
-            file.write(keys)
-            file.flush()
-            asked = ["--solve", "--level", str(level), "--after", file.name, "--states", str(states)]
-            try:
-                told = subprocess.run(
-                    [self.path, *asked, "--", game], stdin=subprocess.DEVNULL, capture_output=True, timeout=seconds
-                )
-            except (subprocess.TimeoutExpired, OSError):
-                return None
-        return told.stdout
+    def begins_at_levels(self):
+        """Whether it knows the option --level."""
+        told = subprocess.run([self.path, "--help"], stdin=subprocess.DEVNULL, capture_output=True)
+        return any(line.split()[:1] == [b"--level"] for line in told.stdout.splitlines())
 
 
 class Run:

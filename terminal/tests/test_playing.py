@@ -98,17 +98,15 @@ class FakeScreen:
 
 
 class PlayingTest(unittest.TestCase):
-    def play(self, keys, answers=(), start=START, pages=1, notice=None, has_hints=True):
+    def play(self, keys, answers=(), start=START, pages=1, notice=None):
         clock = Clock()
         events = FakeEvents(clock, keys)
         self.run_ = FakeRun(events, answers)
         self.screen = FakeScreen(clock, pages)
-        self.progress, self.hints = mock.Mock(), mock.Mock(is_offered=has_hints)
-        self.hints.after.return_value = "d wins."
+        self.progress = mock.Mock()
         events.come(start)
         with mock.patch.object(playing, "time", clock):
-            game = Game(Described(SAID), self.progress, notice, self.hints)
-            self.playing = Playing(self.run_, self.screen, events, game)
+            self.playing = Playing(self.run_, self.screen, events, Game(Described(SAID), self.progress, notice))
             self.playing.play()
         return self.screen.said
 
@@ -158,21 +156,6 @@ class PlayingTest(unittest.TestCase):
         self.assertIn("  P  Player", said[-2])
         self.assertIn("  x  act", said[-2])
         self.assertNotIn("  z  undo", said[-2])
-        self.assertIn("  h  say how the level goes on", said[-2])
-
-    def test_a_hint_is_of_the_level_and_its_keys(self):
-        said = self.play([Key.RIGHT, Key.HINT], [b".P.\n\n"])
-        self.assertIn("? d wins.", said)
-        self.hints.after.assert_called_once_with(1, b"d", ["undo"])
-        self.play([Key.RIGHT, Key.HINT], [b"* level 1 done\n# level 2\n2\n\n"])
-        self.hints.after.assert_called_once_with(2, b"", ["undo"])
-
-    def test_no_hint_at_a_message_or_where_there_are_none(self):
-        self.play([Key.RIGHT, Key.HINT], [b".P.\n\n! Hi\n"])
-        self.hints.after.assert_not_called()
-        said = self.play([Key.HINT, Key.HELP], has_hints=False)
-        self.hints.after.assert_not_called()
-        self.assertNotIn("  h  say how the level goes on", said[-2])
 
     def test_drawing_anew(self):
         said = self.play([Key.DRAW_ANEW, Event(Kind.DRAW, None), Event(Kind.STOP, None)])

@@ -12,9 +12,9 @@ mod progress;
 mod solved;
 mod solvers;
 mod tellers;
-mod watching;
 #[cfg(test)]
 mod tests;
+mod watching;
 
 pub use forms::{Form, told_in};
 pub use lines::level_line;

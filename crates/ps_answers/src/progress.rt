@@ -61,7 +61,7 @@ impl Display for Progress {
     }
 }
 
-/// How many states were found in a second, on average, where so many were found in this time.
+/// How many states were found in a second, on average, where `states` of them were found in a time.
 fn rate_of(states: u32, time: Duration) -> u128 {
     let milliseconds = time.as_millis();
     if milliseconds == 0 {

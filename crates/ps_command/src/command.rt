@@ -384,7 +384,21 @@ fn explain_option(alloc: Global) -> Result<Arg<'static>, AllocError> {
         .help("Says in a sentence what the fault of this code is, as RU7")
         .action(ArgAction::Set)
         .conflicts_with_all(&[
-            "GAME", "FURTHER", "check", "why", "all", "limit", "format", "solve", "states",
-            "stop-file", "level", "keys", "view", "sizes", "show", "describe",
+            "GAME",
+            "FURTHER",
+            "check",
+            "why",
+            "all",
+            "limit",
+            "format",
+            "solve",
+            "states",
+            "stop-file",
+            "level",
+            "keys",
+            "view",
+            "sizes",
+            "show",
+            "describe",
         ])
 }

@@ -13,7 +13,9 @@ use crate::engine::Engine;
 use crate::files::{STANDARD_INPUT, read_game_file, read_input};
 use crate::reporting::report_bytes;
 use crate::stops::{Stop, tell_no_such_level};
-use ps_answers::{Form, LevelSolver, LevelTeller, Refusal, SearchProgress, SolvableGame, TellFault};
+use ps_answers::{
+    Form, LevelSolver, LevelTeller, Refusal, SearchProgress, SolvableGame, TellFault,
+};
 use ps_devices::{ByteReader, ByteWriter, Player, RunFault};
 use ps_report::{Detail, Format, How};
 use std::rt::Files;

@@ -66,7 +66,7 @@ no_level_told read entry limit (Ok solved) at same = absurd (cc same)
 no_level_told read entry limit (Err not_searched.NoLevel) at same = no_level_there read entry at
 no_level_told read entry limit (Err not_searched.Memory) at same = absurd (cc same)
 
--- what is told of the entry that is found for a number is true of the level of that number
+-- an answer about the entry that is found for a number is true of the level of that number
 pub solved_level :
     (text : List ℕ) (read : Game) (level entry limit : ℕ) (solved : Solved) → game text ≡ Some read →
     level_entry read.entries level ≡ Some entry →

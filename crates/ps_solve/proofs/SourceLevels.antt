@@ -66,7 +66,7 @@ played_as_written text read entry keys limit parts plain late plain_made late_ma
     found_after (script_in play) (script_at read entry) play.session keys limit found
     (runs_as_written text read entry plain late (script_in play) is both script) came solved
 
--- where nothing is told of any level, nothing is told of that of an entry
+-- where there is no answer about any level, there is none about that of an entry
 pub nothing_at : (script : Script) (session : Session) (limit entry : ℕ) (fault : NotSearched) →
     IsSolvedAfter script session limit (Err fault) → IsSolvedAt script entry session limit (Err fault)
 nothing_at script session limit entry NoLevel nowhere = nowhere entry
