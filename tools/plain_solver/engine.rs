@@ -67,10 +67,10 @@ pub struct Engine<'g, const N: usize, const M: usize> {
 
 #[inline(always)]
 fn cell_fits<const N: usize, const M: usize>(board: &Board<N, M>, pattern: &Pattern<N, M>, cell: usize) -> bool {
-    let objects = board.objects[cell];
-    objects.and(pattern.asked.objects) == pattern.wanted.objects
-        && board.moves[cell].and(pattern.asked.moves) == pattern.wanted.moves
-        && pattern.any.iter().all(|any| objects.meets(*any))
+    let content = board.content(cell);
+    content.objects.and(pattern.asked.objects) == pattern.wanted.objects
+        && content.moves.and(pattern.asked.moves) == pattern.wanted.moves
+        && pattern.any.iter().all(|any| content.objects.meets(*any))
 }
 
 #[inline(always)]
@@ -146,7 +146,7 @@ impl<'g, const N: usize, const M: usize> Engine<'g, N, M> {
         let mut has_changed = false;
         for rule in group {
             for reading in &rule.readings {
-                if !board.all.has(&reading.wanted) || !self.has_places(board, reading) {
+                if !board.all().has(&reading.wanted) || !self.has_places(board, reading) {
                     continue;
                 }
                 if rule.asks {
@@ -202,7 +202,8 @@ fn find_places<const N: usize, const M: usize>(
     if row.cells.len() > lines.length {
         return;
     }
-    for (line, content) in contents[..lines.count].iter().enumerate() {
+    for line in 0..lines.count {
+        let content = contents.content(line);
         if !content.has(&row.wanted) || !row.any.iter().all(|any| content.objects.meets(*any)) {
             continue;
         }

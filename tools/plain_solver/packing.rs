@@ -67,6 +67,11 @@ pub struct Packing<const N: usize> {
     restart_boards: Numbered<Vec<Mask<N>>>,
     /// The number of the restart board of the state under work.
     restart: u32,
+    /// How many cells a board has.
+    cells: usize,
+    /// The words of the state that was told last, and the bits of a number there.
+    told: Vec<u64>,
+    bits: usize,
 }
 
 impl<const N: usize> Packing<N> {
@@ -74,24 +79,22 @@ impl<const N: usize> Packing<N> {
     pub fn new(restart_board: &Vec<Mask<N>>) -> Packing<N> {
         let mut restart_boards = Numbered::new();
         let restart = restart_boards.number(restart_board);
-        Packing { contents: Numbered::new(), situations: Numbered::new(), restart_boards, restart }
+        let (contents, situations) = (Numbered::new(), Numbered::new());
+        let cells = restart_board.len();
+        Packing { contents, situations, restart_boards, restart, cells, told: Vec::new(), bits: 0 }
     }
 
-    /// Puts a whole state into the scratch of the states.
+    /// Puts a whole board into the scratch of the states.
     pub fn pack_first(&mut self, states: &mut States, objects: &[Mask<N>]) {
         for (cell, content) in objects.iter().enumerate() {
             states.put(cell, self.contents.number(content));
         }
     }
 
-    /// Puts what differs from the state under work into the scratch of the states.
+    /// Puts a cell into the scratch of the states.
     #[inline(always)]
-    pub fn pack(&mut self, states: &mut States, before: &[Mask<N>], after: &[Mask<N>]) {
-        for (cell, (old, new)) in before.iter().zip(after).enumerate() {
-            if old != new {
-                states.put(cell, self.contents.number(new));
-            }
-        }
+    pub fn pack(&mut self, states: &mut States, cell: usize, content: &Mask<N>) {
+        states.put(cell, self.contents.number(content));
     }
 
     /// Puts where the level is into the scratch of the states. The restart board is then that of the state under work.
@@ -104,16 +107,35 @@ impl<const N: usize> Packing<N> {
             stage.has_checkpoint = false;
         }
         let number = self.situations.number(&Situation { goes, restart });
-        states.put(stage.board.objects.len(), number);
+        states.put(stage.before.len(), number);
     }
 
-    /// Goes to a state, and answers where its level is.
-    pub fn unpack<const M: usize>(&mut self, states: &States, state: usize, stage: &mut Stage<N, M>) -> Goes {
+    /// Tells what a state has in each cell where it isn't known to be as the state that was told before.
+    #[inline(always)]
+    pub fn unpack(&mut self, states: &States, state: usize, mut tell: impl FnMut(usize, Mask<N>)) {
         let words = states.words(state);
-        for (cell, content) in stage.board.objects.iter_mut().enumerate() {
-            *content = self.contents.all[states.number(words, cell) as usize];
+        if self.bits != states.bits() {
+            self.bits = states.bits();
+            self.told = words.iter().map(|word| !word).collect();
         }
-        let situation = self.situations.all[states.number(words, stage.board.objects.len()) as usize];
+        let field = u64::MAX >> (64 - self.bits);
+        for (at, (word, told)) in words.iter().zip(&mut self.told).enumerate() {
+            let mut left = word ^ std::mem::replace(told, *word);
+            while left != 0 {
+                let place = left.trailing_zeros() as usize / self.bits;
+                left &= !(field << (place * self.bits));
+                let cell = at * 64 / self.bits + place;
+                if cell < self.cells {
+                    tell(cell, self.contents.all[(word >> (place * self.bits) & field) as usize]);
+                }
+            }
+        }
+    }
+
+    /// Where the level is in a state, whose restart board the stage gets.
+    #[inline(always)]
+    pub fn unpack_situation<const M: usize>(&mut self, states: &States, state: usize, stage: &mut Stage<N, M>) -> Goes {
+        let situation = self.situations.all[states.number(states.words(state), self.cells) as usize];
         if situation.restart != self.restart {
             self.restart = situation.restart;
             stage.restart_board.copy_from_slice(&self.restart_boards.all[self.restart as usize]);

@@ -171,10 +171,7 @@ impl<const N: usize, const M: usize> Run<'_, N, M> {
                 goes
             }
             (Key::Restart, _) => self.with(&mut stage, |play| play.restart(None)),
-            (Key::Move(input), _) => {
-                stage.board.look();
-                self.with(&mut stage, |play| play.key(input))
-            }
+            (Key::Move(input), _) => self.with(&mut stage, |play| play.key(input)),
             (Key::Quit, _) => goes,
         };
         if goes == Goes::Won {

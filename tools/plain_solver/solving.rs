@@ -94,10 +94,10 @@ struct Search<'s, 'g, const N: usize, const M: usize> {
 
 impl<'s, 'g, const N: usize, const M: usize> Search<'s, 'g, N, M> {
     fn new(turner: &'s mut Turner<'g, N, M>, level: &Level) -> Search<'s, 'g, N, M> {
-        let board = Board::of_level(level);
-        let states = States::new(board.objects.len() + 1);
-        let packing = Packing::new(&board.objects);
-        Search { turner, stage: Stage::new(board.clone()), base: board, packing, states, turns: 0 }
+        let base = Board::of_level(level);
+        let states = States::new(base.objects.len() + 1);
+        let packing = Packing::new(&base.objects);
+        Search { turner, stage: Stage::new(Board::of_level(level)), base, packing, states, turns: 0 }
     }
 
     fn with<T>(&mut self, act: impl FnOnce(&mut Play<'_, 'g, Nobody, N, M>) -> T) -> T {
@@ -109,6 +109,8 @@ impl<'s, 'g, const N: usize, const M: usize> Search<'s, 'g, N, M> {
         let goes = self.with(|play| play.start(None));
         self.packing.pack_first(&mut self.states, &self.stage.board.objects);
         self.packing.pack_situation(&mut self.states, goes, &mut self.stage);
+        self.stage.board.touched.clear();
+        self.stage.earlier.clear();
         self.states.note(0, 0, limit) == Noted::New
     }
 
@@ -146,10 +148,15 @@ impl<'s, 'g, const N: usize, const M: usize> Search<'s, 'g, N, M> {
 
     /// Goes to a state: where its level is.
     fn enter(&mut self, state: usize) -> Goes {
-        let goes = self.packing.unpack(&self.states, state, &mut self.stage);
-        self.stage.board.look();
-        self.base.copy_from(&self.stage.board);
-        goes
+        let (stage, base) = (&mut self.stage, &mut self.base);
+        self.packing.unpack(&self.states, state, |cell, objects| {
+            base.objects[cell] = objects;
+            stage.board.objects[cell] = objects;
+            stage.before[cell] = objects;
+        });
+        base.look();
+        stage.board.copy_lines(base);
+        self.packing.unpack_situation(&self.states, state, stage)
     }
 
     /// Where an input leads from the state under work; nothing, if it does nothing.
@@ -165,9 +172,16 @@ impl<'s, 'g, const N: usize, const M: usize> Search<'s, 'g, N, M> {
     /// Notes the state that the level has come to. The boards are then again those of the state under work.
     fn note(&mut self, goes: Goes, (parent, letter): (usize, u8), limit: usize) -> Noted {
         self.states.load(parent);
-        self.packing.pack(&mut self.states, &self.base.objects, &self.stage.board.objects);
-        self.packing.pack_situation(&mut self.states, goes, &mut self.stage);
-        self.stage.board.copy_from(&self.base);
+        let stage = &mut self.stage;
+        while let Some(cell) = stage.board.touched.pop().or_else(|| stage.earlier.pop()) {
+            let cell = cell as usize;
+            if stage.board.objects[cell] != self.base.objects[cell] {
+                self.packing.pack(&mut self.states, cell, &stage.board.objects[cell]);
+            }
+            stage.board.copy_cell(&self.base, cell);
+            stage.before[cell] = self.base.objects[cell];
+        }
+        self.packing.pack_situation(&mut self.states, goes, stage);
         self.states.note(parent, letter, limit)
     }
 }

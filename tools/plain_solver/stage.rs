@@ -36,8 +36,10 @@ pub trait Audience<const N: usize, const M: usize> {
 /// The boards of a level.
 pub struct Stage<const N: usize, const M: usize> {
     pub board: Board<N, M>,
-    /// The board before the last turn.
-    before: Vec<Mask<N>>,
+    /// The objects before the last turn.
+    pub before: Vec<Mask<N>>,
+    /// The cells that turns before the last one have touched.
+    pub earlier: Vec<u32>,
     pub restart_board: Vec<Mask<N>>,
     /// Whether a checkpoint has been set.
     pub has_checkpoint: bool,
@@ -53,16 +55,31 @@ pub struct Play<'p, 'g, A, const N: usize, const M: usize> {
 impl<const N: usize, const M: usize> Stage<N, M> {
     pub fn new(board: Board<N, M>) -> Stage<N, M> {
         let objects = board.objects.clone();
-        Stage { board, before: objects.clone(), restart_board: objects, has_checkpoint: false }
+        Stage { board, before: objects.clone(), earlier: Vec::new(), restart_board: objects, has_checkpoint: false }
+    }
+}
+
+impl<const N: usize, const M: usize> Stage<N, M> {
+    /// The next turn begins with the board as it is.
+    fn settle(&mut self) {
+        for &cell in &self.board.touched {
+            self.before[cell as usize] = self.board.objects[cell as usize];
+        }
+        self.earlier.append(&mut self.board.touched);
+        if self.earlier.len() > 8 * self.before.len() {
+            self.earlier.sort_unstable();
+            self.earlier.dedup();
+        }
+        self.board.look();
     }
 }
 
 impl<A: Audience<N, M>, const N: usize, const M: usize> Play<'_, '_, A, N, M> {
     fn turn(&mut self, input: Option<Move>) -> Outcome {
-        if input.is_none() {
-            self.stage.board.look();
+        if !self.stage.board.touched.is_empty() {
+            self.stage.settle();
         }
-        self.turner.turn(&mut self.stage.board, &mut self.stage.before, input)
+        self.turner.turn(&mut self.stage.board, &self.stage.before, input)
     }
 
     /// The board of a done turn counts, and is shown.

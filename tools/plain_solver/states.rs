@@ -60,6 +60,10 @@ impl States {
         &self.words[state * self.stride..(state + 1) * self.stride]
     }
 
+    pub fn bits(&self) -> usize {
+        self.bits
+    }
+
     /// A number of the words of a state.
     #[inline(always)]
     pub fn number(&self, words: &[u64], at: usize) -> u32 {

@@ -67,6 +67,8 @@ pub struct Turner<'g, const N: usize, const M: usize> {
     layers: Vec<Mask<N>>,
     pub player: Mask<N>,
     conditions: Vec<Condition<N>>,
+    /// Moves that have ended, and the objects that are on their way.
+    ended: Vec<(usize, Mask<M>)>,
     movers: Vec<Mover>,
 }
 
@@ -88,13 +90,13 @@ impl<'g, const N: usize, const M: usize> Turner<'g, N, M> {
             player: object_mask(&game.names.objects(game.names.player)),
             conditions: conditions.collect(),
             layers,
+            ended: Vec::new(),
             movers: Vec::new(),
         }
     }
 
-    /// Takes a turn. A turn that isn't done leaves the board as it was. `before` has then what the board was.
-    pub fn turn(&mut self, board: &mut Board<N, M>, before: &mut [Mask<N>], input: Option<Move>) -> Outcome {
-        before.copy_from_slice(&board.objects);
+    /// Takes a turn on a board that is as it was before, and has no touched cells. A turn that isn't done leaves it so.
+    pub fn turn(&mut self, board: &mut Board<N, M>, before: &[Mask<N>], input: Option<Move>) -> Outcome {
         self.engine.queue = Default::default();
         if let Some(own) = input {
             self.give_moves(board, own);
@@ -114,21 +116,24 @@ impl<'g, const N: usize, const M: usize> Turner<'g, N, M> {
             self.take_back(board, before);
             return if queue.cancel { Outcome::Blocked(message) } else { Outcome::Restart(message) };
         }
-        let has_changed = board.objects != before;
+        let has_changed = board.touched.iter().any(|cell| board.objects[*cell as usize] != before[*cell as usize]);
         let wins = queue.win || (!self.conditions.is_empty() && self.holds(board));
         let goes_on = queue.again && has_changed;
         Outcome::Done(Done { has_changed, wins, goes_on, checkpoint: queue.checkpoint, message })
     }
 
-    fn take_back(&self, board: &mut Board<N, M>, before: &[Mask<N>]) {
-        board.rest();
-        board.show(before);
+    fn take_back(&mut self, board: &mut Board<N, M>, before: &[Mask<N>]) {
+        self.ended.clear();
+        board.end_moves(&mut self.ended);
+        while let Some(cell) = board.touched.pop() {
+            board.objects[cell as usize] = before[cell as usize];
+        }
     }
 
     /// Gives each object of Player the move of a key.
     fn give_moves(&self, board: &mut Board<N, M>, own: Move) {
         for row in 0..board.height {
-            if !board.rows[row].objects.meets(self.player) {
+            if !board.rows.objects[row].meets(self.player) {
                 continue;
             }
             for cell in row * board.width..(row + 1) * board.width {
@@ -146,11 +151,7 @@ impl<'g, const N: usize, const M: usize> Turner<'g, N, M> {
 
     /// Moves all objects that can go, as often as one of them makes room for another.
     fn move_objects(&mut self, board: &mut Board<N, M>) {
-        if board.all.moves.is_empty() {
-            return;
-        }
         self.find_movers(board);
-        board.rest();
         let mut has_moved = true;
         while has_moved {
             let count = self.movers.len();
@@ -160,21 +161,17 @@ impl<'g, const N: usize, const M: usize> Turner<'g, N, M> {
         }
     }
 
-    /// Notes what would move, down the columns.
-    fn find_movers(&mut self, board: &Board<N, M>) {
+    /// Ends all moves, and notes what would move, down the columns.
+    fn find_movers(&mut self, board: &mut Board<N, M>) {
+        self.ended.clear();
+        board.end_moves(&mut self.ended);
         self.movers.clear();
-        for column in 0..board.width {
-            if board.columns[column].moves.is_empty() {
-                continue;
-            }
-            for row in 0..board.height {
-                let cell = row * board.width + column;
-                let mut left = board.moves[cell];
-                while let Some(bit) = left.take_first() {
-                    let (layer, own) = layer_and_move(bit);
-                    if let Some(target) = neighbour(board, (column, row), own) {
-                        self.movers.push(Mover { cell, layer, target });
-                    }
+        for (cell, moves) in &self.ended {
+            let mut left = *moves;
+            while let Some(bit) = left.take_first() {
+                let (layer, own) = layer_and_move(bit);
+                if let Some(target) = neighbour(board, *cell, own) {
+                    self.movers.push(Mover { cell: *cell, layer, target });
                 }
             }
         }
@@ -205,17 +202,12 @@ impl<'g, const N: usize, const M: usize> Turner<'g, N, M> {
 
 /// The cell next to a cell in the direction of a move, if it is one and the cell is on the board.
 #[inline(always)]
-fn neighbour<const N: usize, const M: usize>(
-    board: &Board<N, M>,
-    (column, row): (usize, usize),
-    own: usize,
-) -> Option<usize> {
-    let cell = row * board.width + column;
+fn neighbour<const N: usize, const M: usize>(board: &Board<N, M>, cell: usize, own: usize) -> Option<usize> {
     match own {
-        0 if row > 0 => Some(cell - board.width),
-        1 if row + 1 < board.height => Some(cell + board.width),
-        2 if column > 0 => Some(cell - 1),
-        3 if column + 1 < board.width => Some(cell + 1),
+        0 if cell >= board.width => Some(cell - board.width),
+        1 if cell + board.width < board.objects.len() => Some(cell + board.width),
+        2 if !cell.is_multiple_of(board.width) => Some(cell - 1),
+        3 if !(cell + 1).is_multiple_of(board.width) => Some(cell + 1),
         _ => None,
     }
 }
@@ -228,7 +220,7 @@ fn moves<const N: usize, const M: usize>(board: &mut Board<N, M>, mover: Mover, 
         return false;
     }
     let own = board.objects[mover.cell];
-    board.objects[mover.cell] = own.without(layer);
+    board.set(mover.cell, Content { objects: own.without(layer), moves: Mask::EMPTY });
     board.set(mover.target, Content { objects: target.or(own.and(layer)), moves: Mask::EMPTY });
     true
 }
