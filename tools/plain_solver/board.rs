@@ -7,11 +7,11 @@ use crate::masks::Mask;
 pub struct Board<const N: usize, const M: usize> {
     pub width: usize,
     pub height: usize,
-    pub objects: Vec<Mask<N>>,
-    moves: Vec<Mask<M>>,
-    pub rows: Lines<N, M>,
-    pub columns: Lines<N, M>,
-    all: Content<N, M>,
+    pub cells: Vec<Content<N, M>>,
+    /// What stands on each row, on each column and on all. It may be said to be more than it is, never less.
+    pub rows: Vec<Content<N, M>>,
+    pub columns: Vec<Content<N, M>>,
+    pub all: Content<N, M>,
     /// The cells whose objects have been changed, some of them more than once.
     pub touched: Vec<u32>,
     /// The cells that have got moves, some of them more than once.
@@ -23,12 +23,6 @@ pub struct Board<const N: usize, const M: usize> {
 pub struct Content<const N: usize, const M: usize> {
     pub objects: Mask<N>,
     pub moves: Mask<M>,
-}
-
-/// What stands on each line. It may be said to be more than it is, never less.
-pub struct Lines<const N: usize, const M: usize> {
-    pub objects: Vec<Mask<N>>,
-    pub moves: Vec<Mask<M>>,
 }
 
 impl<const N: usize, const M: usize> Content<N, M> {
@@ -46,47 +40,36 @@ impl<const N: usize, const M: usize> Content<N, M> {
     }
 }
 
-impl<const N: usize, const M: usize> Lines<N, M> {
-    fn new(count: usize) -> Lines<N, M> {
-        Lines { objects: vec![Mask::EMPTY; count], moves: vec![Mask::EMPTY; count] }
-    }
-
-    #[inline(always)]
-    pub fn content(&self, line: usize) -> Content<N, M> {
-        Content { objects: self.objects[line], moves: self.moves[line] }
-    }
-
-    #[inline(always)]
-    fn add(&mut self, line: usize, content: Content<N, M>) {
-        self.objects[line] = self.objects[line].or(content.objects);
-        self.moves[line] = self.moves[line].or(content.moves);
-    }
-}
-
-/// Adds a cell to a list that is to stay short.
+/// Adds a cell to a list that has at most four times as many as the board.
 #[inline(always)]
 fn note(list: &mut Vec<u32>, cell: usize, cells: usize) {
     if list.len() > 4 * cells {
-        list.sort_unstable();
-        list.dedup();
+        shorten(list);
     }
     list.push(cell as u32);
 }
 
+/// Takes out of a list what stands in it before.
+#[cold]
+#[inline(never)]
+pub fn shorten(list: &mut Vec<u32>) {
+    list.sort_unstable();
+    list.dedup();
+}
+
 impl<const N: usize, const M: usize> Board<N, M> {
     pub fn of_level(level: &Level) -> Board<N, M> {
-        let mask = |objects: &Vec<usize>| {
-            let mut mask = Mask::EMPTY;
-            objects.iter().for_each(|object| mask.insert(*object));
-            mask
+        let content = |objects: &Vec<usize>| {
+            let mut content = Content::EMPTY;
+            objects.iter().for_each(|object| content.objects.insert(*object));
+            content
         };
         let mut board = Board {
             width: level.width,
             height: level.height,
-            objects: level.cells.iter().map(mask).collect(),
-            moves: vec![Mask::EMPTY; level.cells.len()],
-            rows: Lines::new(level.height),
-            columns: Lines::new(level.width),
+            cells: level.cells.iter().map(content).collect(),
+            rows: vec![Content::EMPTY; level.height],
+            columns: vec![Content::EMPTY; level.width],
             all: Content::EMPTY,
             touched: Vec::new(),
             moving: Vec::new(),
@@ -95,51 +78,49 @@ impl<const N: usize, const M: usize> Board<N, M> {
         board
     }
 
-    /// Looks which objects stand on each line.
+    /// Looks what stands on each line.
     pub fn look(&mut self) {
-        self.columns.objects.fill(Mask::EMPTY);
-        self.all.objects = Mask::EMPTY;
-        for (row, cells) in self.rows.objects.iter_mut().zip(self.objects.chunks_exact(self.width)) {
-            *row = cells.iter().fold(Mask::EMPTY, |all, cell| all.or(*cell));
-            for (column, cell) in self.columns.objects.iter_mut().zip(cells) {
-                *column = column.or(*cell);
+        self.columns.fill(Content::EMPTY);
+        self.all = Content::EMPTY;
+        for (row, cells) in self.rows.iter_mut().zip(self.cells.chunks_exact(self.width)) {
+            *row = Content::EMPTY;
+            for (column, cell) in self.columns.iter_mut().zip(cells) {
+                column.add(*cell);
+                row.add(*cell);
             }
-            self.all.objects = self.all.objects.or(*row);
+            self.all.add(*row);
         }
     }
 
-    #[inline(always)]
-    pub fn all(&self) -> &Content<N, M> {
-        &self.all
-    }
-
-    #[inline(always)]
-    pub fn content(&self, cell: usize) -> Content<N, M> {
-        Content { objects: self.objects[cell], moves: self.moves[cell] }
+    /// The objects of each cell.
+    pub fn objects(&self) -> Vec<Mask<N>> {
+        self.cells.iter().map(|cell| cell.objects).collect()
     }
 
     /// Changes a cell.
     #[inline(always)]
     pub fn set(&mut self, cell: usize, content: Content<N, M>) {
-        if self.moves[cell].is_empty() && !content.moves.is_empty() {
-            note(&mut self.moving, cell, self.objects.len());
+        let before = &mut self.cells[cell];
+        let (gets_moves, is_touched) =
+            (before.moves.is_empty() && !content.moves.is_empty(), before.objects != content.objects);
+        *before = content;
+        if gets_moves {
+            note(&mut self.moving, cell, self.cells.len());
         }
-        if self.objects[cell] != content.objects {
-            note(&mut self.touched, cell, self.objects.len());
+        if is_touched {
+            note(&mut self.touched, cell, self.cells.len());
         }
-        self.objects[cell] = content.objects;
-        self.moves[cell] = content.moves;
-        self.rows.add(cell / self.width, content);
-        self.columns.add(cell % self.width, content);
+        self.rows[cell / self.width].add(content);
+        self.columns[cell % self.width].add(content);
         self.all.add(content);
     }
 
-    /// Has these objects.
+    /// Has these objects. Nothing moves.
     pub fn show(&mut self, objects: &[Mask<N>]) {
-        for cell in 0..objects.len() {
-            if self.objects[cell] != objects[cell] {
+        for (cell, own) in objects.iter().enumerate() {
+            if self.cells[cell].objects != *own {
                 note(&mut self.touched, cell, objects.len());
-                self.objects[cell] = objects[cell];
+                self.cells[cell].objects = *own;
             }
         }
         self.look();
@@ -147,35 +128,40 @@ impl<const N: usize, const M: usize> Board<N, M> {
 
     /// Stands on the same lines as another board does.
     pub fn copy_lines(&mut self, other: &Board<N, M>) {
-        self.rows.objects.copy_from_slice(&other.rows.objects);
-        self.columns.objects.copy_from_slice(&other.columns.objects);
-        self.all.objects = other.all.objects;
+        self.rows.copy_from_slice(&other.rows);
+        self.columns.copy_from_slice(&other.columns);
+        self.all = other.all;
     }
 
     /// Has what another board has in a cell and on its lines.
     #[inline(always)]
     pub fn copy_cell(&mut self, other: &Board<N, M>, cell: usize) {
         let (row, column) = (cell / self.width, cell % self.width);
-        self.objects[cell] = other.objects[cell];
-        self.rows.objects[row] = other.rows.objects[row];
-        self.columns.objects[column] = other.columns.objects[column];
-        self.all.objects = other.all.objects;
+        self.cells[cell] = other.cells[cell];
+        self.rows[row] = other.rows[row];
+        self.columns[column] = other.columns[column];
+    }
+
+    /// Puts the cells that have got moves in their order down the columns.
+    #[inline(never)]
+    fn sort_moving(&mut self) {
+        let (width, height) = (self.width as u32, self.height as u32);
+        self.moving.sort_unstable_by_key(|cell| cell % width * height + cell / width);
     }
 
     /// Ends all moves, and adds the cells and the moves that they had, down the columns.
     #[inline(always)]
     pub fn end_moves(&mut self, ended: &mut Vec<(usize, Mask<M>)>) {
         if self.moving.len() > 1 {
-            let (width, height) = (self.width, self.height);
-            self.moving.sort_unstable_by_key(|cell| *cell as usize % width * height + *cell as usize / width);
+            self.sort_moving();
         }
         for cell in self.moving.drain(..).map(|cell| cell as usize) {
-            if !self.moves[cell].is_empty() {
-                ended.push((cell, self.moves[cell]));
-                self.moves[cell] = Mask::EMPTY;
+            let moves = std::mem::replace(&mut self.cells[cell].moves, Mask::EMPTY);
+            if !moves.is_empty() {
+                ended.push((cell, moves));
             }
-            self.rows.moves[cell / self.width] = Mask::EMPTY;
-            self.columns.moves[cell % self.width] = Mask::EMPTY;
+            self.rows[cell / self.width].moves = Mask::EMPTY;
+            self.columns[cell % self.width].moves = Mask::EMPTY;
         }
         self.all.moves = Mask::EMPTY;
     }

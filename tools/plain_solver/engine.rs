@@ -45,7 +45,6 @@ pub type Place = [u32; 3];
 
 /// Lines of cells that run in one direction.
 struct Lines {
-    count: usize,
     length: usize,
     /// From a line to the next one, and from a cell to the next one.
     stride: usize,
@@ -67,7 +66,7 @@ pub struct Engine<'g, const N: usize, const M: usize> {
 
 #[inline(always)]
 fn cell_fits<const N: usize, const M: usize>(board: &Board<N, M>, pattern: &Pattern<N, M>, cell: usize) -> bool {
-    let content = board.content(cell);
+    let content = &board.cells[cell];
     content.objects.and(pattern.asked.objects) == pattern.wanted.objects
         && content.moves.and(pattern.asked.moves) == pattern.wanted.moves
         && pattern.any.iter().all(|any| content.objects.meets(*any))
@@ -146,7 +145,7 @@ impl<'g, const N: usize, const M: usize> Engine<'g, N, M> {
         let mut has_changed = false;
         for rule in group {
             for reading in &rule.readings {
-                if !board.all().has(&reading.wanted) || !self.has_places(board, reading) {
+                if !board.all.has(&reading.wanted) || !self.has_places(board, reading) {
                     continue;
                 }
                 if rule.asks {
@@ -195,15 +194,14 @@ fn find_places<const N: usize, const M: usize>(
     places: &mut Vec<Place>,
 ) {
     let lines = match reading.is_vertical {
-        true => Lines { count: board.width, length: board.height, stride: 1, step: board.width },
-        false => Lines { count: board.height, length: board.width, stride: board.width, step: 1 },
+        true => Lines { length: board.height, stride: 1, step: board.width },
+        false => Lines { length: board.width, stride: board.width, step: 1 },
     };
     let contents = if reading.is_vertical { &board.columns } else { &board.rows };
     if row.cells.len() > lines.length {
         return;
     }
-    for line in 0..lines.count {
-        let content = contents.content(line);
+    for (line, content) in contents.iter().enumerate() {
         if !content.has(&row.wanted) || !row.any.iter().all(|any| content.objects.meets(*any)) {
             continue;
         }
@@ -286,7 +284,7 @@ fn rewrite_cell<const N: usize, const M: usize>(
     cell: usize,
     layers: &[Mask<N>],
 ) -> bool {
-    let before = board.content(cell);
+    let before = board.cells[cell];
     let mut after = before;
     let is_barred = before.objects.meets(rewrite.barred);
     if is_barred {

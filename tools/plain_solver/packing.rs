@@ -87,7 +87,7 @@ impl<const N: usize> Packing<N> {
     /// Puts a whole board into the scratch of the states.
     pub fn pack_first(&mut self, states: &mut States, objects: &[Mask<N>]) {
         for (cell, content) in objects.iter().enumerate() {
-            states.put(cell, self.contents.number(content));
+            self.pack(states, cell, content);
         }
     }
 
@@ -107,7 +107,7 @@ impl<const N: usize> Packing<N> {
             stage.has_checkpoint = false;
         }
         let number = self.situations.number(&Situation { goes, restart });
-        states.put(stage.before.len(), number);
+        states.put(self.cells, number);
     }
 
     /// Tells what a state has in each cell where it isn't known to be as the state that was told before.

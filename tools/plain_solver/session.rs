@@ -61,7 +61,7 @@ struct Script<'g, const N: usize> {
 
 impl<const N: usize, const M: usize> Audience<N, M> for Script<'_, N> {
     fn frame(&mut self, board: &Board<N, M>) {
-        self.frames.write(&board.objects, board.width, &mut self.text);
+        self.frames.write(&board.objects(), board.width, &mut self.text);
     }
 
     fn message(&mut self, rule: usize) {

@@ -87,6 +87,8 @@ struct Search<'s, 'g, const N: usize, const M: usize> {
     stage: Stage<N, M>,
     /// The board of the state under work.
     base: Board<N, M>,
+    /// Where the level is in the state under work.
+    goes: Goes,
     packing: Packing<N>,
     states: States,
     turns: usize,
@@ -95,9 +97,9 @@ struct Search<'s, 'g, const N: usize, const M: usize> {
 impl<'s, 'g, const N: usize, const M: usize> Search<'s, 'g, N, M> {
     fn new(turner: &'s mut Turner<'g, N, M>, level: &Level) -> Search<'s, 'g, N, M> {
         let base = Board::of_level(level);
-        let states = States::new(base.objects.len() + 1);
-        let packing = Packing::new(&base.objects);
-        Search { turner, stage: Stage::new(Board::of_level(level)), base, packing, states, turns: 0 }
+        let states = States::new(base.cells.len() + 1);
+        let packing = Packing::new(&base.objects());
+        Search { turner, stage: Stage::new(Board::of_level(level)), base, goes: Goes::Playing, packing, states, turns: 0 }
     }
 
     fn with<T>(&mut self, act: impl FnOnce(&mut Play<'_, 'g, Nobody, N, M>) -> T) -> T {
@@ -107,7 +109,7 @@ impl<'s, 'g, const N: usize, const M: usize> Search<'s, 'g, N, M> {
     /// Notes the state at the start of the level: whether that may be kept.
     fn begin(&mut self, limit: usize) -> bool {
         let goes = self.with(|play| play.start(None));
-        self.packing.pack_first(&mut self.states, &self.stage.board.objects);
+        self.packing.pack_first(&mut self.states, &self.stage.board.objects());
         self.packing.pack_situation(&mut self.states, goes, &mut self.stage);
         self.stage.board.touched.clear();
         self.stage.earlier.clear();
@@ -124,10 +126,10 @@ impl<'s, 'g, const N: usize, const M: usize> Search<'s, 'g, N, M> {
             if at == end {
                 (end, depth) = (self.states.count(), depth + 1);
             }
-            let goes = self.enter(at);
+            self.enter(at);
             for (input, letter) in INPUTS {
                 self.turns += 1;
-                match self.step(goes, input) {
+                match self.step(input) {
                     None => {}
                     Some(Goes::Won) => {
                         let mut keys = self.states.inputs(at);
@@ -146,22 +148,23 @@ impl<'s, 'g, const N: usize, const M: usize> Search<'s, 'g, N, M> {
         Found::Never
     }
 
-    /// Goes to a state: where its level is.
-    fn enter(&mut self, state: usize) -> Goes {
+    /// Goes to a state.
+    fn enter(&mut self, state: usize) {
         let (stage, base) = (&mut self.stage, &mut self.base);
         self.packing.unpack(&self.states, state, |cell, objects| {
-            base.objects[cell] = objects;
-            stage.board.objects[cell] = objects;
+            base.cells[cell].objects = objects;
+            stage.board.cells[cell].objects = objects;
             stage.before[cell] = objects;
         });
+        stage.knows_players = false;
         base.look();
         stage.board.copy_lines(base);
-        self.packing.unpack_situation(&self.states, state, stage)
+        self.goes = self.packing.unpack_situation(&self.states, state, stage);
     }
 
     /// Where an input leads from the state under work; nothing, if it does nothing.
-    fn step(&mut self, goes: Goes, input: Move) -> Option<Goes> {
-        match (goes, input) {
+    fn step(&mut self, input: Move) -> Option<Goes> {
+        match (self.goes, input) {
             (Goes::Waiting(pending), Move::Action) => Some(self.with(|play| play.dismiss(pending))),
             (Goes::Waiting(_), _) => None,
             (_, Move::Action) if self.turner.game.options.has_no_action => None,
@@ -173,13 +176,19 @@ impl<'s, 'g, const N: usize, const M: usize> Search<'s, 'g, N, M> {
     fn note(&mut self, goes: Goes, (parent, letter): (usize, u8), limit: usize) -> Noted {
         self.states.load(parent);
         let stage = &mut self.stage;
+        let mut has_changed = stage.has_checkpoint || goes != self.goes;
         while let Some(cell) = stage.board.touched.pop().or_else(|| stage.earlier.pop()) {
             let cell = cell as usize;
-            if stage.board.objects[cell] != self.base.objects[cell] {
-                self.packing.pack(&mut self.states, cell, &stage.board.objects[cell]);
+            let objects = stage.board.cells[cell].objects;
+            if objects != self.base.cells[cell].objects {
+                self.packing.pack(&mut self.states, cell, &objects);
+                has_changed = true;
             }
             stage.board.copy_cell(&self.base, cell);
-            stage.before[cell] = self.base.objects[cell];
+            stage.before[cell] = self.base.cells[cell].objects;
+        }
+        if !has_changed {
+            return Noted::Known;
         }
         self.packing.pack_situation(&mut self.states, goes, stage);
         self.states.note(parent, letter, limit)

@@ -1,6 +1,6 @@
 //! A level as it is played: keys, messages, again turns and starts.
 
-use crate::board::Board;
+use crate::board::{Board, shorten};
 use crate::masks::Mask;
 use crate::turns::{Done, Outcome, Turner};
 use crate::words::Move;
@@ -43,6 +43,9 @@ pub struct Stage<const N: usize, const M: usize> {
     pub restart_board: Vec<Mask<N>>,
     /// Whether a checkpoint has been set.
     pub has_checkpoint: bool,
+    /// The cells that had a player before the last turn of a key, if they are known.
+    players: Vec<u32>,
+    pub knows_players: bool,
 }
 
 /// A level that is played before somebody.
@@ -54,21 +57,27 @@ pub struct Play<'p, 'g, A, const N: usize, const M: usize> {
 
 impl<const N: usize, const M: usize> Stage<N, M> {
     pub fn new(board: Board<N, M>) -> Stage<N, M> {
-        let objects = board.objects.clone();
-        Stage { board, before: objects.clone(), earlier: Vec::new(), restart_board: objects, has_checkpoint: false }
+        let objects = board.objects();
+        Stage {
+            board,
+            before: objects.clone(),
+            earlier: Vec::new(),
+            restart_board: objects,
+            has_checkpoint: false,
+            players: Vec::new(),
+            knows_players: false,
+        }
     }
-}
 
-impl<const N: usize, const M: usize> Stage<N, M> {
     /// The next turn begins with the board as it is.
     fn settle(&mut self) {
         for &cell in &self.board.touched {
-            self.before[cell as usize] = self.board.objects[cell as usize];
+            self.before[cell as usize] = self.board.cells[cell as usize].objects;
         }
+        self.knows_players = false;
         self.earlier.append(&mut self.board.touched);
         if self.earlier.len() > 8 * self.before.len() {
-            self.earlier.sort_unstable();
-            self.earlier.dedup();
+            shorten(&mut self.earlier);
         }
         self.board.look();
     }
@@ -79,13 +88,18 @@ impl<A: Audience<N, M>, const N: usize, const M: usize> Play<'_, '_, A, N, M> {
         if !self.stage.board.touched.is_empty() {
             self.stage.settle();
         }
-        self.turner.turn(&mut self.stage.board, &self.stage.before, input)
+        let stage = &mut *self.stage;
+        if input.is_some() && !stage.knows_players {
+            self.turner.find_players(&stage.before, &mut stage.players);
+            stage.knows_players = true;
+        }
+        self.turner.turn(&mut stage.board, &stage.before, input.map(|own| (own, &stage.players[..])))
     }
 
     /// The board of a done turn counts, and is shown.
     fn show(&mut self, done: &Done) {
         if done.checkpoint {
-            self.stage.restart_board.copy_from_slice(&self.stage.board.objects);
+            self.stage.restart_board = self.stage.board.objects();
             self.stage.has_checkpoint = true;
         }
         self.audience.frame(&self.stage.board);
@@ -192,7 +206,7 @@ impl<A: Audience<N, M>, const N: usize, const M: usize> Play<'_, '_, A, N, M> {
 
     /// The level restarts; its board is kept for undo.
     pub fn restart(&mut self, message: Option<usize>) -> Goes {
-        self.audience.keep(&self.stage.board.objects);
+        self.audience.keep(&self.stage.board.objects());
         self.go_back();
         self.start(message)
     }

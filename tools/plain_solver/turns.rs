@@ -96,10 +96,11 @@ impl<'g, const N: usize, const M: usize> Turner<'g, N, M> {
     }
 
     /// Takes a turn on a board that is as it was before, and has no touched cells. A turn that isn't done leaves it so.
-    pub fn turn(&mut self, board: &mut Board<N, M>, before: &[Mask<N>], input: Option<Move>) -> Outcome {
+    /// The players of a key's turn are those in these cells.
+    pub fn turn(&mut self, board: &mut Board<N, M>, before: &[Mask<N>], input: Option<(Move, &[u32])>) -> Outcome {
         self.engine.queue = Default::default();
-        if let Some(own) = input {
-            self.give_moves(board, own);
+        if let Some((own, players)) = input {
+            self.give_moves(board, own, players);
         }
         self.engine.run(board, &self.plain);
         if !self.engine.is_ended() {
@@ -108,7 +109,7 @@ impl<'g, const N: usize, const M: usize> Turner<'g, N, M> {
         }
         let queue = self.engine.queue;
         let message = queue.message;
-        if input.is_some() && self.game.options.wants_movement && self.all_stay(board, before) {
+        if input.is_some_and(|(_, players)| self.game.options.wants_movement && self.all_stay(board, players)) {
             self.take_back(board, before);
             return Outcome::Blocked(None);
         }
@@ -116,7 +117,7 @@ impl<'g, const N: usize, const M: usize> Turner<'g, N, M> {
             self.take_back(board, before);
             return if queue.cancel { Outcome::Blocked(message) } else { Outcome::Restart(message) };
         }
-        let has_changed = board.touched.iter().any(|cell| board.objects[*cell as usize] != before[*cell as usize]);
+        let has_changed = board.touched.iter().any(|cell| board.cells[*cell as usize].objects != before[*cell as usize]);
         let wins = queue.win || (!self.conditions.is_empty() && self.holds(board));
         let goes_on = queue.again && has_changed;
         Outcome::Done(Done { has_changed, wins, goes_on, checkpoint: queue.checkpoint, message })
@@ -126,27 +127,26 @@ impl<'g, const N: usize, const M: usize> Turner<'g, N, M> {
         self.ended.clear();
         board.end_moves(&mut self.ended);
         while let Some(cell) = board.touched.pop() {
-            board.objects[cell as usize] = before[cell as usize];
+            board.cells[cell as usize].objects = before[cell as usize];
         }
     }
 
     /// Gives each object of Player the move of a key.
-    fn give_moves(&self, board: &mut Board<N, M>, own: Move) {
-        for row in 0..board.height {
-            if !board.rows.objects[row].meets(self.player) {
-                continue;
+    fn give_moves(&self, board: &mut Board<N, M>, own: Move, players: &[u32]) {
+        for &cell in players {
+            let mut content = board.cells[cell as usize];
+            let mut players = content.objects.and(self.player);
+            while let Some(object) = players.take_first() {
+                content.moves.insert(move_bit(self.game.names.layers[object], own));
             }
-            for cell in row * board.width..(row + 1) * board.width {
-                let mut players = board.objects[cell].and(self.player);
-                let mut content = board.content(cell);
-                while let Some(object) = players.take_first() {
-                    content.moves.insert(move_bit(self.game.names.layers[object], own));
-                }
-                if !content.moves.is_empty() {
-                    board.set(cell, content);
-                }
-            }
+            board.set(cell as usize, content);
         }
+    }
+
+    /// The cells that have a player.
+    pub fn find_players(&self, objects: &[Mask<N>], players: &mut Vec<u32>) {
+        players.clear();
+        players.extend((0..objects.len()).filter(|cell| objects[*cell].meets(self.player)).map(|cell| cell as u32));
     }
 
     /// Moves all objects that can go, as often as one of them makes room for another.
@@ -177,27 +177,37 @@ impl<'g, const N: usize, const M: usize> Turner<'g, N, M> {
         }
     }
 
-    /// Whether each cell that had a player still has one; there was one.
-    fn all_stay(&self, board: &Board<N, M>, before: &[Mask<N>]) -> bool {
-        let mut pairs = board.objects.iter().zip(before);
-        before.iter().any(|cell| cell.meets(self.player))
-            && pairs.all(|(after, before)| after.meets(self.player) || !before.meets(self.player))
+    /// Whether there were players, and each cell that had one still has one.
+    fn all_stay(&self, board: &Board<N, M>, players: &[u32]) -> bool {
+        let has_player = |cell: &u32| board.cells[*cell as usize].objects.meets(self.player);
+        !players.is_empty() && players.iter().all(has_player)
     }
 
     /// Whether all win conditions hold.
     fn holds(&self, board: &Board<N, M>) -> bool {
         self.conditions.iter().all(|condition| {
-            let mut has = board.objects.iter().filter(|cell| condition.what.fits(**cell));
-            match (condition.quantity, condition.on) {
-                (Quantity::No, None) => has.next().is_none(),
-                (Quantity::Some, None) => has.next().is_some(),
-                (Quantity::All, None) => true,
-                (Quantity::No, Some(on)) => !has.any(|cell| on.fits(*cell)),
-                (Quantity::Some, Some(on)) => has.any(|cell| on.fits(*cell)),
-                (Quantity::All, Some(on)) => has.all(|cell| on.fits(*cell)),
+            let what = condition.what;
+            let on = |cell: &Content<N, M>| condition.on.is_none_or(|on| on.fits(cell.objects));
+            match condition.quantity {
+                Quantity::No => !any_cell(board, what, on),
+                Quantity::Some => any_cell(board, what, on),
+                Quantity::All => !any_cell(board, what, |cell| !on(cell)),
             }
         })
     }
+}
+
+/// Whether a cell of these is so.
+#[inline(always)]
+fn any_cell<const N: usize, const M: usize>(
+    board: &Board<N, M>,
+    what: Matcher<N>,
+    is_so: impl Fn(&Content<N, M>) -> bool,
+) -> bool {
+    let mut rows = board.rows.iter().zip(board.cells.chunks_exact(board.width));
+    rows.any(|(row, cells)| {
+        row.objects.meets(what.objects) && cells.iter().any(|cell| what.fits(cell.objects) && is_so(cell))
+    })
 }
 
 /// The cell next to a cell in the direction of a move, if it is one and the cell is on the board.
@@ -205,7 +215,7 @@ impl<'g, const N: usize, const M: usize> Turner<'g, N, M> {
 fn neighbour<const N: usize, const M: usize>(board: &Board<N, M>, cell: usize, own: usize) -> Option<usize> {
     match own {
         0 if cell >= board.width => Some(cell - board.width),
-        1 if cell + board.width < board.objects.len() => Some(cell + board.width),
+        1 if cell + board.width < board.cells.len() => Some(cell + board.width),
         2 if !cell.is_multiple_of(board.width) => Some(cell - 1),
         3 if !(cell + 1).is_multiple_of(board.width) => Some(cell + 1),
         _ => None,
@@ -215,11 +225,11 @@ fn neighbour<const N: usize, const M: usize>(board: &Board<N, M>, cell: usize, o
 /// Moves an object, if there is room for it.
 #[inline(always)]
 fn moves<const N: usize, const M: usize>(board: &mut Board<N, M>, mover: Mover, layer: Mask<N>) -> bool {
-    let target = board.objects[mover.target];
+    let target = board.cells[mover.target].objects;
     if target.meets(layer) {
         return false;
     }
-    let own = board.objects[mover.cell];
+    let own = board.cells[mover.cell].objects;
     board.set(mover.cell, Content { objects: own.without(layer), moves: Mask::EMPTY });
     board.set(mover.target, Content { objects: target.or(own.and(layer)), moves: Mask::EMPTY });
     true
