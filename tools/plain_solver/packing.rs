@@ -25,19 +25,38 @@ impl Hasher for WordHasher {
     }
 }
 
+/// How many numbers are found without a search of the table.
+const LATEST: usize = 64;
+
 /// Things with numbers, in the order in which they are met.
 struct Numbered<T> {
     all: Vec<T>,
     numbers: HashMap<T, u32, BuildHasherDefault<WordHasher>>,
+    /// By the end of its hash, the number of the thing that was asked for last.
+    latest: [u32; LATEST],
 }
 
 impl<T: Clone + Eq + Hash> Numbered<T> {
     fn new() -> Numbered<T> {
-        Numbered { all: Vec::new(), numbers: HashMap::default() }
+        Numbered { all: Vec::new(), numbers: HashMap::default(), latest: [0; LATEST] }
     }
 
     #[inline(always)]
     fn number(&mut self, thing: &T) -> u32 {
+        let mut hasher = WordHasher::default();
+        thing.hash(&mut hasher);
+        let end = hasher.finish() as usize % LATEST;
+        let latest = self.latest[end];
+        if self.all.get(latest as usize) == Some(thing) {
+            return latest;
+        }
+        let number = self.find(thing);
+        self.latest[end] = number;
+        number
+    }
+
+    #[inline(never)]
+    fn find(&mut self, thing: &T) -> u32 {
         match self.numbers.get(thing) {
             Some(number) => *number,
             None => self.add(thing),

@@ -176,7 +176,8 @@ impl<'s, 'g, const N: usize, const M: usize> Search<'s, 'g, N, M> {
     fn note(&mut self, goes: Goes, (parent, letter): (usize, u8), limit: usize) -> Noted {
         self.states.load(parent);
         let stage = &mut self.stage;
-        let mut has_changed = stage.has_checkpoint || goes != self.goes;
+        let is_elsewhere = stage.has_checkpoint || goes != self.goes;
+        let mut has_changed = is_elsewhere;
         while let Some(cell) = stage.board.touched.pop().or_else(|| stage.earlier.pop()) {
             let cell = cell as usize;
             let objects = stage.board.cells[cell].objects;
@@ -190,7 +191,9 @@ impl<'s, 'g, const N: usize, const M: usize> Search<'s, 'g, N, M> {
         if !has_changed {
             return Noted::Known;
         }
-        self.packing.pack_situation(&mut self.states, goes, stage);
+        if is_elsewhere {
+            self.packing.pack_situation(&mut self.states, goes, stage);
+        }
         self.states.note(parent, letter, limit)
     }
 }
