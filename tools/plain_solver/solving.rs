@@ -188,6 +188,7 @@ impl<'s, 'g, const N: usize, const M: usize> Search<'s, 'g, N, M> {
             stage.board.copy_cell(&self.base, cell);
             stage.before[cell] = self.base.cells[cell].objects;
         }
+        stage.board.all = self.base.all;
         if !has_changed {
             return Noted::Known;
         }
