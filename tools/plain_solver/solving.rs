@@ -99,7 +99,15 @@ impl<'s, 'g, const N: usize, const M: usize> Search<'s, 'g, N, M> {
         let base = Board::of_level(level);
         let states = States::new(base.cells.len() + 1);
         let packing = Packing::new(&base.objects());
-        Search { turner, stage: Stage::new(Board::of_level(level)), base, goes: Goes::Playing, packing, states, turns: 0 }
+        Search {
+            turner,
+            stage: Stage::new(Board::of_level(level)),
+            base,
+            goes: Goes::Playing,
+            packing,
+            states,
+            turns: 0,
+        }
     }
 
     fn with<T>(&mut self, act: impl FnOnce(&mut Play<'_, 'g, Nobody, N, M>) -> T) -> T {

@@ -204,12 +204,8 @@ impl Reader {
                 .into_iter()
                 .find(|word| begins(raw, word) && begins_line() && ends_word(&raw[word.len()..]))
                 .map(str::len),
-            Section::Levels => {
-                (begins(raw, "message") && begins_line() && ends_word(&raw[7..])).then_some(7)
-            }
-            Section::Rules => {
-                (begins(raw, "message") && ends_token(&raw[7..]) && is_after_arrow(before)).then_some(7)
-            }
+            Section::Levels => (begins(raw, "message") && begins_line() && ends_word(&raw[7..])).then_some(7),
+            Section::Rules => (begins(raw, "message") && ends_token(&raw[7..]) && is_after_arrow(before)).then_some(7),
             _ => None,
         }
     }

@@ -117,7 +117,8 @@ impl<'g, const N: usize, const M: usize> Turner<'g, N, M> {
             self.take_back(board, before);
             return if queue.cancel { Outcome::Blocked(message) } else { Outcome::Restart(message) };
         }
-        let has_changed = board.touched.iter().any(|cell| board.cells[*cell as usize].objects != before[*cell as usize]);
+        let has_changed =
+            board.touched.iter().any(|cell| board.cells[*cell as usize].objects != before[*cell as usize]);
         let wins = queue.win || (!self.conditions.is_empty() && self.holds(board));
         let goes_on = queue.again && has_changed;
         Outcome::Done(Done { has_changed, wins, goes_on, checkpoint: queue.checkpoint, message })

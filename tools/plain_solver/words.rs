@@ -134,9 +134,7 @@ pub fn directions_of(word: &str) -> Option<&'static [Move]> {
     })
 }
 
-const OTHER_KEY_WORDS: [&str; 8] = [
-    "late", "no", "...", "startloop", "endloop", "random", "randomdir", "rigid",
-];
+const OTHER_KEY_WORDS: [&str; 8] = ["late", "no", "...", "startloop", "endloop", "random", "randomdir", "rigid"];
 
 /// Whether a folded word is a key word of rules.
 pub fn is_key_word(word: &str) -> bool {
