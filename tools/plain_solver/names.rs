@@ -146,12 +146,12 @@ impl<'t> Reader<'t> {
 
     fn read_legend_line(&mut self, line: &'t Line) -> Result<(), Fault> {
         let parts = legend_words(&line.text);
-        let joined = |word: &str| parts.iter().skip(3).step_by(2).any(|part| part.eq_ignore_ascii_case(word));
+        let has = |word: &str| parts.iter().any(|part| part.eq_ignore_ascii_case(word));
         let has_name = parts.len() > 1 && parts[0] != "=" && parts[1] == "=";
         if has_name && self.declared.contains_key(&folded(parts[0])) {
             return fault(line.number, "NA2 Twice");
         }
-        if joined("and") && joined("or") {
+        if has("and") && has("or") {
             return fault(line.number, "NA3 MixedAndOr");
         }
         let joins = parts.iter().skip(3).step_by(2);
@@ -163,7 +163,7 @@ impl<'t> Reader<'t> {
         }
         let form = match parts.len() {
             3 => Form::Synonym,
-            _ if joined("and") => Form::Aggregate,
+            _ if parts[3].eq_ignore_ascii_case("and") => Form::Aggregate,
             _ => Form::Property,
         };
         self.declare(line.number, parts[0], Declared::Legend(self.legend.len()))?;

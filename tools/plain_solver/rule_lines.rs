@@ -81,7 +81,7 @@ pub fn read_rules(lines: &[Line], names: &Names) -> Result<Rules, Fault> {
         let is_left_out = |word: &String| matches!(word.as_str(), "random" | "randomdir" | "rigid");
         let read: Vec<&str> = tokens.iter().filter(|word| !is_left_out(word)).map(String::as_str).collect();
         let result = match read[..] {
-            [] => Ok(()),
+            [] if tokens.is_empty() => Ok(()),
             ["startloop"] => reader.start_loop(line.number),
             ["endloop"] => reader.end_loop(),
             _ => reader.read_rule(line, &read),
