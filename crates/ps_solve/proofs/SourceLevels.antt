@@ -16,6 +16,8 @@ use Rattle.ps_rulebook.specs.PlayedGames.{AreCompiled, meant_of, parts_at}
 use Rattle.ps_rulebook.proofs.PlayedGames.{games-play_as_written}
 use Rattle.ps_rulebook.proofs.RowRooms.{rows_give_room}
 use Rattle.ps_run.specs.GamesInPlay.{GameInPlay, script_in, script_on}
+use Rattle.ps_run.specs.SizedPlays.{play_in}
+use Rattle.ps_run.specs.declared.sized_play.SizedPlay.{SizedPlay}
 use Rattle.ps_stage.specs.Standings.{SessionParts, script_for}
 use Rattle.ps_trial.specs.Scripts.{PlaysAs}
 use Rattle.ps_run.proofs.Scripts.{own_table, script_is}
@@ -93,3 +95,18 @@ plays_there play row game plain late same own p l =
           ∙ ap (λ (s : List CompiledSection). meant_of s (own_table game.names.layers)) (sym l);
       wins = sym (ap (λ (s : Script). s.wins) same) ∙ sym (ap (λ (g : SessionParts). g.wins) own);
     }
+
+-- what is found in the session of a game in play is so of the game in play
+pub found_there :
+    (play row : GameInPlay) (sized : SizedPlay) (game : SessionParts) (session : Session)
+    (plain late : List CompiledSection) (limit : ℕ) (found : Option SolvedHere) → play_in sized ≡ row →
+    script_in (play_in sized) ≡ script_in play → (play_in sized).session ≡ play.session → game ≡ row.game →
+    session ≡ row.session → plain ≡ play.plain → late ≡ play.late →
+    ((script : Script) → PlaysAs script (script_for own_table game (meant_of plain) (meant_of late)) →
+    IsSolvedHere script session limit found) →
+    IsSolvedHere (script_in play) play.session limit found
+found_there play row sized game session plain late limit found is same there own at p l told =
+    let script : script_in row ≡ script_in play = ap (λ (r : GameInPlay). script_in r) (sym is) ∙ same in
+    let here : session ≡ play.session = at ∙ ap (λ (r : GameInPlay). r.session) (sym is) ∙ there in
+    subst (λ (s : Session). IsSolvedHere (script_in play) s limit found) here
+    (told (script_in play) (plays_there play row game plain late script own p l))

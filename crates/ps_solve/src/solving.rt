@@ -2,11 +2,12 @@
 
 ghost use Rattle.std.specs.Prelude.{◌≡◌, ℕ, Err, false, List, Some, slice_get};
 ghost use Rattle.ps_laws.specs.Fronts.{session_after};
-ghost use Rattle.ps_model.specs.board.Turns.{script_at};
+ghost use Rattle.ps_model.specs.board.Turns.{Script, script_at};
 ghost use Rattle.ps_model.specs.game.Games.{game as game_in};
 ghost use Rattle.ps_model.specs.game.LevelRuns.{is_level_found};
 ghost use Rattle.ps_model.specs.game.Outputs.{opening_step};
 ghost use Rattle.ps_model.specs.session.RoomSizes.{HasRoomSize};
+ghost use Rattle.ps_model.specs.session.Sessions.{Session};
 ghost use Rattle.ps_run.specs.GamesInPlay.{script_in};
 ghost use Rattle.ps_stage.specs.Playable.{ArePlayable};
 ghost use Rattle.ps_solve.specs.SolvedLevels.{IsSolvedAfter, IsSolvedAt, IsSolvedHere};
@@ -50,6 +51,17 @@ fn solve_play<T: Watcher>(
     }
 }
 
+/// What is found where a level is searched; or that there is none.
+fn searched(found: Option<SolvedHere>) -> Result<SolvedHere, NotSearched>
+    ensures { (script : Script) (session : Session) (limit : ℕ) → IsSolvedHere script session limit found
+        → IsSolvedAfter script session limit result }
+{
+    match found {
+        Some(here) => Ok(here),
+        None => Err(NotSearched::NoLevel),
+    }
+}
+
 /// Whether a level can be won from where keys lead, and by how few directions and `x`: the level in which the player is
 /// after these keys. At most `limit` states are kept.
 ///
@@ -86,10 +98,7 @@ pub fn solve_after<T: Watcher>(
     };
     let found = solve_play(alloc, &play, limit, watcher);
     play.end();
-    match found {
-        Some(here) => Ok(here),
-        None => Err(NotSearched::NoLevel),
-    }
+    searched(found)
 }
 
 /// Whether the level of an entry can be won from its start, and by how few directions and `x`. At most `limit` states are
