@@ -1,6 +1,6 @@
 -- The levels of a text whose game was read: each number that the game has is that of a level, in which a run begins.
 use Rattle.std.proofs.Common.{◌≡◌, ◌≢◌, ◌∙◌, ◌⊎◌, inl, inr, ℕ, ◌<◌, ◌≤◌, Bool, true, false, List, Some, None, Ok, Err, Result, refl}
-use Rattle.std.proofs.Common.{filter, length, subst}
+use Rattle.std.proofs.Common.{subst}
 use Rattle.std.proofs.Common.{sym, ap, arith}
 use Rattle.std.specs.Prelude.{All, slice_get}
 use Rattle.std.proofs.lemmas.Bool.{true≢false}
@@ -10,7 +10,6 @@ use Rattle.ps_model.specs.game.Games.{Game, game}
 use Rattle.ps_model.specs.game.LevelRuns.{is_level_found, level_count, level_entry}
 use Rattle.ps_model.specs.game.Outputs.{opening_step}
 use Rattle.ps_model.specs.session.LevelLines.{Entry}
-use Rattle.ps_model.specs.session.Sessions.{is_level}
 use Rattle.ps_model.specs.session.Solving.{spot}
 use Rattle.ps_laws.proofs.sessions.LevelNumbers.{found_numbered, lacked_levels_are_beyond}
 use Rattle.ps_levels.specs.Sized.{IsSizedEntry}
@@ -96,15 +95,6 @@ module _ (now : ReadText) (text : List ℕ) (read : Game) (entries : List Entry)
   Opened =
       let value : ReadText = record { text = text; read = read } in
       (value ≡ now) × IsGameOf text read × (entries ≡ read.entries)
-
-  pub has_levels : (levels : ℕ) → Opened → levels ≡ length (filter is_level entries) → HasLevels now.text levels
-  has_levels levels opened counted =
-      subst (λ (t : ReadText). HasLevels t.text levels) opened.0
-      (record {
-        read = read;
-        is = opened.1.is;
-        counted = sym (counted ∙ ap (λ (es : List Entry). length (filter is_level es)) opened.2);
-      })
 
   pub has_entry : (level : ℕ) → Opened → HasLevelOf now.text level → level_entry entries level ≢ None
   has_entry level opened has none =
