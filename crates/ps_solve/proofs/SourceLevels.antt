@@ -57,7 +57,8 @@ pub played_as_written :
     script_in play ≡ script_on parts plain late → play.session ≡ played (script_in play) keys →
     IsSolvedHere (script_in play) play.session limit found →
     IsSolvedHere (script_at read entry) (played (script_at read entry) keys) limit found
-played_as_written text read entry keys limit parts plain late plain_made late_made play found is made p l own plays came solved =
+played_as_written text read entry keys limit parts plain late plain_made late_made play found is made p l own plays came
+    solved =
     let plain_is : AreCompiled read.names read.rules (sections_shown plain) late_made =
     subst (λ (s : List model.CompiledSection). AreCompiled read.names read.rules s late_made) (sym p) made in
     let both : AreCompiled read.names read.rules (sections_shown plain) (sections_shown late) =

@@ -62,16 +62,16 @@ fn searched(found: Option<SolvedHere>) -> Result<SolvedHere, NotSearched>
     }
 }
 
-/// Whether a level can be won from where keys lead, and by how few directions and `x`: the level in which the player is
-/// after these keys. At most `limit` states are kept.
+/// Whether a level can be won from where keys lead, and by how few directions and `x`: the level in which the player
+/// is after these keys. At most `limit` states are kept.
 ///
-/// What is told is true of the game as its text means it. Out of memory or stopped by the watcher, the answer says up to
-/// which length no list of inputs wins.
+/// What is told is true of the game as its text means it. Out of memory or stopped by the watcher, the answer says up
+/// to which length no list of inputs wins.
 ///
 /// # Errors
 ///
-/// `NoLevel`, where the keys lead to a message entry or to the end of the game; `Memory`, where memory runs out before the
-/// search begins.
+/// `NoLevel`, where the keys lead to a message entry or to the end of the game; `Memory`, where memory runs out before
+/// the search begins.
 pub fn solve_after<T: Watcher>(
     alloc: Global,
     game: &Game,
@@ -101,16 +101,16 @@ pub fn solve_after<T: Watcher>(
     searched(found)
 }
 
-/// Whether the level of an entry can be won from its start, and by how few directions and `x`. At most `limit` states are
-/// kept.
+/// Whether the level of an entry can be won from its start, and by how few directions and `x`. At most `limit` states
+/// are kept.
 ///
-/// What is told is true of the game as its text means it, of a run that begins at that entry. Out of memory or stopped by
-/// the watcher, the answer says up to which length no list of inputs wins.
+/// What is told is true of the game as its text means it, of a run that begins at that entry. Out of memory or stopped
+/// by the watcher, the answer says up to which length no list of inputs wins.
 ///
 /// # Errors
 ///
-/// `NoLevel`, where the entry is a message, or there is no such entry; `Memory`, where memory runs out before the search
-/// begins.
+/// `NoLevel`, where the entry is a message, or there is no such entry; `Memory`, where memory runs out before the
+/// search begins.
 pub fn solve_level<T: Watcher>(
     alloc: Global,
     game: &Game,
