@@ -16,6 +16,8 @@ use Rattle.ps_rulebook.specs.PlayedGames.{AreCompiled, meant_of, parts_at}
 use Rattle.ps_rulebook.proofs.PlayedGames.{games-play_as_written}
 use Rattle.ps_rulebook.proofs.RowRooms.{rows_give_room}
 use Rattle.ps_run.specs.GamesInPlay.{GameInPlay, script_in, script_on}
+use Rattle.ps_run.specs.SizedPlays.{play_in}
+use Rattle.ps_run.specs.declared.sized_play.SizedPlay.{SizedPlay}
 use Rattle.ps_stage.specs.Standings.{SessionParts, script_for}
 use Rattle.ps_trial.specs.Scripts.{PlaysAs}
 use Rattle.ps_run.proofs.Scripts.{own_table, script_is}
@@ -55,7 +57,8 @@ pub played_as_written :
     script_in play ≡ script_on parts plain late → play.session ≡ played (script_in play) keys →
     IsSolvedHere (script_in play) play.session limit found →
     IsSolvedHere (script_at read entry) (played (script_at read entry) keys) limit found
-played_as_written text read entry keys limit parts plain late plain_made late_made play found is made p l own plays came solved =
+played_as_written text read entry keys limit parts plain late plain_made late_made play found is made p l own plays came
+    solved =
     let plain_is : AreCompiled read.names read.rules (sections_shown plain) late_made =
     subst (λ (s : List model.CompiledSection). AreCompiled read.names read.rules s late_made) (sym p) made in
     let both : AreCompiled read.names read.rules (sections_shown plain) (sections_shown late) =
@@ -93,3 +96,18 @@ plays_there play row game plain late same own p l =
           ∙ ap (λ (s : List CompiledSection). meant_of s (own_table game.names.layers)) (sym l);
       wins = sym (ap (λ (s : Script). s.wins) same) ∙ sym (ap (λ (g : SessionParts). g.wins) own);
     }
+
+-- what is found in the session of a game in play is so of the game in play
+pub found_there :
+    (play row : GameInPlay) (sized : SizedPlay) (game : SessionParts) (session : Session)
+    (plain late : List CompiledSection) (limit : ℕ) (found : Option SolvedHere) → play_in sized ≡ row →
+    script_in (play_in sized) ≡ script_in play → (play_in sized).session ≡ play.session → game ≡ row.game →
+    session ≡ row.session → plain ≡ play.plain → late ≡ play.late →
+    ((script : Script) → PlaysAs script (script_for own_table game (meant_of plain) (meant_of late)) →
+    IsSolvedHere script session limit found) →
+    IsSolvedHere (script_in play) play.session limit found
+found_there play row sized game session plain late limit found is same there own at p l told =
+    let script : script_in row ≡ script_in play = ap (λ (r : GameInPlay). script_in r) (sym is) ∙ same in
+    let here : session ≡ play.session = at ∙ ap (λ (r : GameInPlay). r.session) (sym is) ∙ there in
+    subst (λ (s : Session). IsSolvedHere (script_in play) s limit found) here
+    (told (script_in play) (plays_there play row game plain late script own p l))

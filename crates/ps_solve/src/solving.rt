@@ -2,11 +2,12 @@
 
 ghost use Rattle.std.specs.Prelude.{◌≡◌, ℕ, Err, false, List, Some, slice_get};
 ghost use Rattle.ps_laws.specs.Fronts.{session_after};
-ghost use Rattle.ps_model.specs.board.Turns.{script_at};
+ghost use Rattle.ps_model.specs.board.Turns.{Script, script_at};
 ghost use Rattle.ps_model.specs.game.Games.{game as game_in};
 ghost use Rattle.ps_model.specs.game.LevelRuns.{is_level_found};
 ghost use Rattle.ps_model.specs.game.Outputs.{opening_step};
 ghost use Rattle.ps_model.specs.session.RoomSizes.{HasRoomSize};
+ghost use Rattle.ps_model.specs.session.Sessions.{Session};
 ghost use Rattle.ps_run.specs.GamesInPlay.{script_in};
 ghost use Rattle.ps_stage.specs.Playable.{ArePlayable};
 ghost use Rattle.ps_solve.specs.SolvedLevels.{IsSolvedAfter, IsSolvedAt, IsSolvedHere};
@@ -50,16 +51,27 @@ fn solve_play<T: Watcher>(
     }
 }
 
-/// Whether a level can be won from where keys lead, and by how few directions and `x`: the level in which the player is
-/// after these keys. At most `limit` states are kept.
+/// What is found where a level is searched; or that there is none.
+fn searched(found: Option<SolvedHere>) -> Result<SolvedHere, NotSearched>
+    ensures { (script : Script) (session : Session) (limit : ℕ) → IsSolvedHere script session limit found
+        → IsSolvedAfter script session limit result }
+{
+    match found {
+        Some(here) => Ok(here),
+        None => Err(NotSearched::NoLevel),
+    }
+}
+
+/// Whether a level can be won from where keys lead, and by how few directions and `x`: the level in which the player
+/// is after these keys. At most `limit` states are kept.
 ///
-/// What is told is true of the game as its text means it. Out of memory or stopped by the watcher, the answer says up to
-/// which length no list of inputs wins.
+/// What is told is true of the game as its text means it. Out of memory or stopped by the watcher, the answer says up
+/// to which length no list of inputs wins.
 ///
 /// # Errors
 ///
-/// `NoLevel`, where the keys lead to a message entry or to the end of the game; `Memory`, where memory runs out before the
-/// search begins.
+/// `NoLevel`, where the keys lead to a message entry or to the end of the game; `Memory`, where memory runs out before
+/// the search begins.
 pub fn solve_after<T: Watcher>(
     alloc: Global,
     game: &Game,
@@ -86,22 +98,19 @@ pub fn solve_after<T: Watcher>(
     };
     let found = solve_play(alloc, &play, limit, watcher);
     play.end();
-    match found {
-        Some(here) => Ok(here),
-        None => Err(NotSearched::NoLevel),
-    }
+    searched(found)
 }
 
-/// Whether the level of an entry can be won from its start, and by how few directions and `x`. At most `limit` states are
-/// kept.
+/// Whether the level of an entry can be won from its start, and by how few directions and `x`. At most `limit` states
+/// are kept.
 ///
-/// What is told is true of the game as its text means it, of a run that begins at that entry. Out of memory or stopped by
-/// the watcher, the answer says up to which length no list of inputs wins.
+/// What is told is true of the game as its text means it, of a run that begins at that entry. Out of memory or stopped
+/// by the watcher, the answer says up to which length no list of inputs wins.
 ///
 /// # Errors
 ///
-/// `NoLevel`, where the entry is a message, or there is no such entry; `Memory`, where memory runs out before the search
-/// begins.
+/// `NoLevel`, where the entry is a message, or there is no such entry; `Memory`, where memory runs out before the
+/// search begins.
 pub fn solve_level<T: Watcher>(
     alloc: Global,
     game: &Game,

@@ -1,13 +1,16 @@
 use Rattle.std.proofs.Common.{◌≡◌, ap}
+use Rattle.ps_model.specs.board.Turns.{Script, script_at}
 use Rattle.ps_model.specs.game.Games.{Game}
 use Rattle.ps_rulebook.specs.PlayedGames.{AreCompiled}
 use Rattle.ps_run.proofs.Scripts.{made_of}
+use Rattle.ps_solve.proofs.PlayedKeys.{played}
 use Rattle.ps_solve.proofs.SourceLevels.{played_as_written}
 use Rattle.ps_solve.proofs.solving.solve_after.Goals as goal
 
-pub returns-in-Some : goal.returns-in-Some
-returns-in-Some g c = λ text is.
+pub returns : goal.returns
+returns g c = λ text is.
     let read : Game = c.args.game.now in
+    let source : Script = script_at read c.args.played.entry in
     let made : AreCompiled read.names read.rules c.in-Ok.compiled.plain c.in-Ok.compiled.late =
     made_of c.game.inside.names read.names c.game.inside.rules read.rules c.in-Ok.compiled.plain c.in-Ok.compiled.late
     (ap (λ (r : Game). r.names) c.game.view_is) (ap (λ (r : Game). r.rules) c.game.view_is)
@@ -17,7 +20,9 @@ returns-in-Some g c = λ text is.
       plain_runs = c.in-Ok.ensures.plain_runs;
       late_runs = c.in-Ok.ensures.late_runs;
     }) in
-    played_as_written text read c.args.played.entry c.args.played.keys.now c.args.limit c.parts_of_game.result
-    c.sections.result.now c.sections-2.result.now c.in-Ok.compiled.plain c.in-Ok.compiled.late c.play _ is made
-    c.sections.ensures c.sections-2.ensures c.parts_of_game.ensures.parts c.play_keys.ensures.script
-    c.play_keys.ensures.session c.solve_play.ensures
+    c.searched.ensures source (played source c.args.played.keys.now) c.args.limit
+    (played_as_written text read c.args.played.entry c.args.played.keys.now c.args.limit c.parts_of_game-parts.result
+    c.sections.result.now c.sections-2.result.now c.in-Ok.compiled.plain c.in-Ok.compiled.late
+    c.in-Ok-play_keys.play c.solve_play-found.result is made c.sections.ensures c.sections-2.ensures
+    c.parts_of_game-parts.ensures.parts c.in-Ok-play_keys.ensures.script c.in-Ok-play_keys.ensures.session
+    c.solve_play-found.ensures)
