@@ -17,7 +17,7 @@ use Rattle.ps_causes.specs.declared.causes.Blank.{Blank}
 use Rattle.ps_causes.specs.declared.causes.Blank.TheVariants.{Space, Tab, CarriageReturn, Comment}
 use Rattle.ps_causes.specs.declared.causes.Clue.{Clue}
 use Rattle.ps_causes.specs.declared.causes.Hint.{Hint}
-use Rattle.ps_causes.specs.declared.causes.Hint.TheVariants.{Nothing, Near, Strange, Joins}
+use Rattle.ps_causes.specs.declared.causes.Hint.TheVariants.{Nothing, Near, Strange, KeyWord, Joins}
 use Rattle.ps_causes.specs.declared.causes.Cause.{Cause}
 use Rattle.ps_causes.specs.declared.causes.Cause.TheVariants.{Untold, Undeclared, Meaningless, Unlayered, UnknownGlyph}
 use Rattle.ps_causes.specs.declared.causes.Cause.TheVariants.{BrokenRow, LateHeader, MissingSection, Twice, Slip}
@@ -28,7 +28,7 @@ use Rattle.ps_facts.specs.declared.slips.Slip as slips
 use Rattle.ps_causes.specs.Clues.{IsClue}
 use Rattle.ps_causes.specs.LikeHeaders.{header_word, IsLikeHeaderOf}
 use Rattle.ps_facts.specs.Declarations.{Declared, declared, is_declared, is_one_of, IsDeclaredAt}
-use Rattle.ps_facts.specs.KeyWords.{is_key_word}
+use Rattle.ps_facts.specs.KeyWords.{is_key_word, is_plain_key_word}
 use Rattle.ps_facts.specs.LayerWords.{is_in_layers}
 use Rattle.ps_facts.specs.LineWords.{IsWordOf, texts_of}
 use Rattle.ps_facts.specs.NamesShown.{is_own}
@@ -52,6 +52,7 @@ abbrev pub IsHint : List ℕ → List ℕ → Hint → Type 0
 IsHint text word Nothing = ⊤
 IsHint text word (Near named) = IsDeclaredAt text named.line named.name.now × IsNear word named.name.now
 IsHint text word (Strange character like) = IsAmong (chars word) character × (128 ≤ character)
+IsHint text word (KeyWord key) = (is_plain_key_word key.now ≡ true) × IsNear word key.now
 IsHint text word Joins = joins_names word ≡ true
 
 -- causes --------------------------------------------------------------------------------------------------------------

@@ -13,6 +13,8 @@ pub enum Hint<'a> {
     Near(Named<'a>),
     /// A character of the word that isn't ASCII, and what it looks like, in words.
     Strange { character: char, like: &'static str },
+    /// A key word of rules, which is written much like the word.
+    KeyWord(&'a str),
     /// The word is `and` or `or`, which join names on the right of a line of LEGEND.
     Joins,
 }

@@ -10,7 +10,7 @@ use crate::counts::counts_cause;
 use crate::glyphs::glyph_cause;
 use crate::going_on::going_on_cause;
 use crate::headers::{late_cause, like_header_cause, missing_cause};
-use crate::looked_for::{MISPLACED, slips_of};
+use crate::looked_for::{LIKE_COMMENTS, MISPLACED, slips_of};
 use crate::loops::loop_cause;
 use crate::object_causes::{object_cause, row_name_cause};
 use crate::only_commas::commas_cause;
@@ -168,6 +168,10 @@ fn other_line_cause<'a>(
     }
     let cause = slashes_cause(alloc, source, fault.line)?;
     if cause.is_told() || fault.kind == FaultKind::BadObject {
+        return Ok(cause);
+    }
+    let cause = slip_cause(alloc, source, fault.line, &LIKE_COMMENTS)?;
+    if cause.is_told() {
         return Ok(cause);
     }
     like_header_cause(alloc, source, fault.line)

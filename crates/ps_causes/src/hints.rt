@@ -6,7 +6,7 @@ ghost use Rattle.ps_facts.specs.Declarations.{declared};
 ghost use Rattle.ps_facts.specs.NamesShown.{names_shown};
 
 use crate::causes::Hint;
-use ps_facts::{Named, characters_in, first_strange, nearest};
+use ps_facts::{Named, characters_in, first_strange, nearest, nearest_key_word};
 use ps_model::Memory;
 use ps_text::same_name;
 use std::alloc::Global;
@@ -45,4 +45,26 @@ pub fn hint_of<'a>(alloc: Global, names: &[Named<'a>], word: &str) -> Result<Hin
         });
     }
     Ok(hint_by_letters(names, word))
+}
+
+/// A key word of rules that is written much like a word, if there is one.
+fn hint_by_key_words<'a>(word: &str) -> Hint<'a>
+    ensures { (text : List ℕ) → IsHint text word.now result }
+{
+    match nearest_key_word(word) {
+        Some(key) => Hint::KeyWord(key),
+        None => Hint::Nothing,
+    }
+}
+
+/// What is said about a word of a rule among these names: the same, or else a key word that is written much like it.
+pub fn hint_in_rule<'a>(alloc: Global, names: &[Named<'a>], word: &str) -> Result<Hint<'a>, Memory>
+    ensures { (text : List ℕ) → names_shown names.now ≡ declared text →
+        IfOk result (λ hint. IsHint text word.now hint) }
+{
+    let hint = hint_of(alloc, names, word)?;
+    if let Hint::Nothing = hint {
+        return Ok(hint_by_key_words(word));
+    }
+    Ok(hint)
 }

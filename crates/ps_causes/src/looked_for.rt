@@ -50,6 +50,12 @@ pub const MISPLACED: [Slip; 7] = [
     Slip::Place(PlaceSlip::NoCommand),
 ];
 
+/// Those of a line that is meant as a comment.
+pub const LIKE_COMMENTS: [Slip; 2] = [
+    Slip::Rule(RuleSlip::RuleComment),
+    Slip::Form(FormSlip::WinComment),
+];
+
 /// The slips that are looked for at a fault, in this order.
 pub fn slips_of(kind: FaultKind) -> &'static [Slip] {
     match kind {

@@ -9,7 +9,7 @@ ghost use Rattle.ps_facts.specs.Declarations.{is_one_of};
 ghost use Rattle.ps_facts.specs.NamesShown.{names_shown};
 
 use crate::causes::Cause;
-use crate::hints::hint_of;
+use crate::hints::hint_in_rule;
 use ps_facts::{MOST_WORDS, Named, declared_names, is_among, is_key_word, words_of};
 use ps_model::Memory;
 use ps_text::{Source, Word};
@@ -62,6 +62,6 @@ pub fn meaningless_cause<'a>(
     let Some(word) = first_meaningless(alloc, &names, &words)? else {
         return Ok(Cause::Untold);
     };
-    let hint = hint_of(alloc, &names, word.text())?;
+    let hint = hint_in_rule(alloc, &names, word.text())?;
     Ok(Cause::Meaningless { word, hint })
 }

@@ -1,6 +1,6 @@
 -- The words that give a line its form: brackets and arrow of a rule, and key words. Letters are in either case.
-use Rattle.std.specs.Prelude.{ℕ, Bool, ◌||◌, List, [], ◌∷◌, codes}
-use Rattle.std.specs.List.{list_any}
+use Rattle.std.specs.Prelude.{ℕ, nat_eq, Bool, ◌||◌, List, [], ◌∷◌, codes}
+use Rattle.std.specs.List.{list_any, starts_with}
 use Rattle.std.specs.Str.{bytes_eq}
 use Rattle.ps_model.specs.text.Lines.{folded}
 use Rattle.ps_facts.specs.declared.signs.Sign.{Sign}
@@ -73,3 +73,7 @@ is_command word =
     is_any (codes "cancel" ∷ codes "restart" ∷ codes "again" ∷ codes "checkpoint" ∷ codes "win" ∷ codes "message"
     ∷ codes "sfx0" ∷ codes "sfx1" ∷ codes "sfx2" ∷ codes "sfx3" ∷ codes "sfx4" ∷ codes "sfx5" ∷ codes "sfx6"
     ∷ codes "sfx7" ∷ codes "sfx8" ∷ codes "sfx9" ∷ codes "sfx10" ∷ []) word
+
+-- the word begins with `;` or `#`, as comments of other languages do
+abbrev pub begins_comment : List ℕ → Bool
+begins_comment word = starts_with nat_eq word (59 ∷ []) || starts_with nat_eq word (35 ∷ [])

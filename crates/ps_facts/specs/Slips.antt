@@ -12,7 +12,7 @@ use Rattle.ps_facts.specs.declared.slips.ShapeSlip.TheVariants.{DirectionOutside
 use Rattle.ps_facts.specs.declared.slips.RuleSlip.{RuleSlip}
 use Rattle.ps_facts.specs.declared.slips.RuleSlip.TheVariants.{LoopWords, MessageAlone, LateMove, Chance}
 use Rattle.ps_facts.specs.declared.slips.RuleSlip.TheVariants.{Rigid}
-use Rattle.ps_facts.specs.declared.slips.RuleSlip.TheVariants.{TwiceInCell}
+use Rattle.ps_facts.specs.declared.slips.RuleSlip.TheVariants.{TwiceInCell, RuleComment}
 use Rattle.ps_facts.specs.declared.slips.PlaceSlip.{PlaceSlip}
 use Rattle.ps_facts.specs.declared.slips.PlaceSlip.TheVariants.{Ahead, CommandInCell, KeyWordInCell, Nameless}
 use Rattle.ps_facts.specs.declared.slips.PlaceSlip.TheVariants.{OutsideLeft, BeforeRow, NoCommand}
@@ -20,12 +20,12 @@ use Rattle.ps_facts.specs.declared.slips.FormSlip.{FormSlip}
 use Rattle.ps_facts.specs.declared.slips.FormSlip.TheVariants.{NoEquals, NoJoiner, EqualsAsName, LegendEnds}
 use Rattle.ps_facts.specs.declared.slips.FormSlip.TheVariants.{NoQuantifier}
 use Rattle.ps_facts.specs.declared.slips.FormSlip.TheVariants.{NoOn, FurtherWord, WinEnds, SecondName, ThirdName}
-use Rattle.ps_facts.specs.declared.slips.FormSlip.TheVariants.{NameAgain, RealTime}
+use Rattle.ps_facts.specs.declared.slips.FormSlip.TheVariants.{NameAgain, RealTime, WinComment}
 use Rattle.ps_facts.specs.declared.slips.Slip.{Slip}
 use Rattle.ps_facts.specs.declared.slips.Slip.TheVariants.{Shape, Rule, Place, Form}
 use Rattle.ps_facts.specs.Places.{is_inside, comes_first, is_in_cell, parts_cells}
 use Rattle.ps_facts.specs.Signs.{is_sign, has_sign, is_edge, is_direction, is_movement, is_quantifier, is_by_chance}
-use Rattle.ps_facts.specs.Signs.{is_any, is_command}
+use Rattle.ps_facts.specs.Signs.{is_any, is_command, begins_comment}
 
 -- the section whose lines have the slip
 abbrev pub section_of : Slip → Section
@@ -40,6 +40,7 @@ section_of (Form NoQuantifier) = Wins
 section_of (Form NoOn) = Wins
 section_of (Form FurtherWord) = Wins
 section_of (Form WinEnds) = Wins
+section_of (Form WinComment) = Wins
 section_of (Form SecondName) = Objects
 section_of (Form ThirdName) = Objects
 section_of (Form NameAgain) = Objects
@@ -87,6 +88,7 @@ has_rule_slip LateMove before word behind = is_movement word && (has_sign sign.L
 has_rule_slip Chance before word behind = is_by_chance word
 has_rule_slip Rigid before word behind = is_sign sign.Rigid word
 has_rule_slip TwiceInCell before word behind = is_in_cell word before && is_inside before
+has_rule_slip RuleComment before word behind = are_so_many 0 before && begins_comment word
 
 -- among these words, which stand after a movement word or `no`, no name comes first
 abbrev pub begins_nameless : List (List ℕ) → Bool
@@ -136,6 +138,7 @@ has_form_slip SecondName before word behind = are_so_many 1 before
 has_form_slip ThirdName before word behind = are_so_many 2 before
 has_form_slip NameAgain before word behind = is_any before word
 has_form_slip RealTime before word behind = are_so_many 0 before && is_sign sign.RealTime word
+has_form_slip WinComment before word behind = are_so_many 0 before && begins_comment word
 
 -- what is wrong with a word, with these words before it and after it in its line
 abbrev pub has_slip : Slip → List (List ℕ) → List ℕ → List (List ℕ) → Bool

@@ -4,7 +4,7 @@ ghost use Rattle.std.specs.Prelude.{◌≡◌, true, map};
 ghost use Rattle.ps_text.specs.WordViews.{text_of};
 ghost use Rattle.ps_facts.specs.Slips.{are_odd, has_form_slip};
 
-use crate::signs::{Sign, is_any, is_quantifier, is_sign};
+use crate::signs::{Sign, begins_comment, is_any, is_quantifier, is_sign};
 use crate::slips::FormSlip;
 use ps_text::Word;
 
@@ -44,6 +44,7 @@ pub fn has_form_slip(slip: FormSlip, before: &[Word<'_>], word: &str, behind: &[
         FormSlip::ThirdName => before.len() == 2,
         FormSlip::NameAgain => is_any(before, word),
         FormSlip::RealTime => before.is_empty() && is_sign(Sign::RealTime, word),
+        FormSlip::WinComment => before.is_empty() && begins_comment(word),
         _ => has_legend_slip(slip, before, word, behind),
     }
 }

@@ -5,7 +5,7 @@ ghost use Rattle.std.specs.List.{list_any};
 ghost use Rattle.std.specs.Str.{bytes_eq};
 ghost use Rattle.std.specs.Map.{lookup};
 ghost use Rattle.ps_model.specs.rules.RuleSymbols.{key_words};
-ghost use Rattle.ps_facts.specs.KeyWords.{is_key_word};
+ghost use Rattle.ps_facts.specs.KeyWords.{is_key_word, is_plain_key_word};
 
 use ps_model::Memory;
 use ps_text::Text;
@@ -73,6 +73,19 @@ fn is_folded_key_word(word: &str) -> bool
     ensures { result ≡ is_some (lookup (bytes_eq word.now) key_words) }
 {
     is_one_of(&KEY_WORDS, word)
+}
+
+/// Whether a word is a key word of rules, as it stands.
+#[tactic(auto, unfolding(crate::specs::KeyWords::is_plain_key_word))]
+pub fn is_plain_key_word(word: &str) -> bool
+    ensures { result ≡ is_plain_key_word word.now }
+{
+    is_folded_key_word(word)
+}
+
+/// The key words of rules. The table is lent here alone to those who look through it.
+pub fn key_words() -> &'static [&'static str] {
+    &KEY_WORDS
 }
 
 /// Whether a word is a key word of rules, its letters in either case.

@@ -1,10 +1,12 @@
-//! Names that are written much like a word.
+//! Names and key words that are written much like a word.
 
 ghost use Rattle.std.specs.Prelude.{◌≡◌, ◌≤◌, drop, length, take, true, IfSome};
 ghost use Rattle.std.specs.List.{IsAmong};
 ghost use Rattle.ps_model.specs.text.Lines.{folded};
+ghost use Rattle.ps_facts.specs.KeyWords.{is_plain_key_word};
 ghost use Rattle.ps_facts.specs.Near.{AreWithinOne, AreWithinTwo, IsNear};
 
+use crate::key_words::{is_plain_key_word, key_words};
 use crate::names::Named;
 
 /// How far two words may be apart that are much alike, by edits: a byte put in, left out or changed.
@@ -138,4 +140,30 @@ pub fn nearest<'a>(names: &[Named<'a>], word: &str) -> Option<Named<'a>>
         return nearest;
     }
     first_within(Distance::Two, names, word)
+}
+
+/// The first of the key words of rules that is so near to a word.
+fn key_word_within(distance: Distance, word: &str) -> Option<&'static str>
+    ensures key { IfSome result (λ key. is_plain_key_word key.now ≡ true) }
+    ensures near { IfSome result (λ key. IsNear word.now key.now) }
+{
+    for key in key_words() {
+        if is_plain_key_word(key) && is_within(distance, word, key) {
+            return Some(key);
+        }
+    }
+    None
+}
+
+/// The first of the key words of rules that one edit makes of a word of three bytes at least. If there is none, the first
+/// that two edits make of one of five.
+pub fn nearest_key_word(word: &str) -> Option<&'static str>
+    ensures key { IfSome result (λ key. is_plain_key_word key.now ≡ true) }
+    ensures near { IfSome result (λ key. IsNear word.now key.now) }
+{
+    let nearest = key_word_within(Distance::One, word);
+    if nearest.is_some() {
+        return nearest;
+    }
+    key_word_within(Distance::Two, word)
 }

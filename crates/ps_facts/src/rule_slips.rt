@@ -6,7 +6,7 @@ ghost use Rattle.ps_facts.specs.Slips.{has_rule_slip, is_loop_word};
 
 use crate::places::{is_in_cell, is_inside};
 use crate::shape_slips::lacks;
-use crate::signs::{Sign, has_sign, is_by_chance, is_movement, is_sign};
+use crate::signs::{Sign, begins_comment, has_sign, is_by_chance, is_movement, is_sign};
 use crate::slips::RuleSlip;
 use ps_text::Word;
 
@@ -41,5 +41,6 @@ pub fn has_rule_slip(slip: RuleSlip, before: &[Word<'_>], word: &str, behind: &[
         RuleSlip::TwiceInCell => is_name(before, word)
             && is_in_cell(word, before)
             && is_inside(before),
+        RuleSlip::RuleComment => before.is_empty() && begins_comment(word),
     }
 }

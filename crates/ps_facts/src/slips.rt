@@ -49,6 +49,8 @@ pub enum RuleSlip {
     Rigid,
     /// A word that stands in its cell before too.
     TwiceInCell,
+    /// The first word begins with `;` or `#`, as comments do elsewhere.
+    RuleComment,
 }
 
 /// Where a word of a rule may stand that can't stand there.
@@ -97,6 +99,8 @@ pub enum FormSlip {
     NameAgain,
     /// `realtime_interval` begins a line of the prelude.
     RealTime,
+    /// The first word of a win condition begins with `;` or `#`, as comments do elsewhere.
+    WinComment,
 }
 
 /// What may be wrong with a word by its place in its line.
@@ -119,8 +123,11 @@ pub fn section_of(slip: Slip) -> Section
             | FormSlip::NoJoiner
             | FormSlip::EqualsAsName
             | FormSlip::LegendEnds => Section::Legend,
-            FormSlip::NoQuantifier | FormSlip::NoOn | FormSlip::FurtherWord | FormSlip::WinEnds =>
-                Section::Wins,
+            FormSlip::NoQuantifier
+            | FormSlip::NoOn
+            | FormSlip::FurtherWord
+            | FormSlip::WinEnds
+            | FormSlip::WinComment => Section::Wins,
             FormSlip::SecondName | FormSlip::ThirdName | FormSlip::NameAgain => Section::Objects,
             FormSlip::RealTime => Section::Prelude,
         },

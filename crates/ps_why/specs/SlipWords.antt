@@ -8,7 +8,7 @@ use Rattle.ps_facts.specs.declared.slips.ShapeSlip.TheVariants.{DirectionOutside
 use Rattle.ps_facts.specs.declared.slips.RuleSlip.{RuleSlip}
 use Rattle.ps_facts.specs.declared.slips.RuleSlip.TheVariants.{LoopWords, MessageAlone, LateMove, Chance}
 use Rattle.ps_facts.specs.declared.slips.RuleSlip.TheVariants.{Rigid}
-use Rattle.ps_facts.specs.declared.slips.RuleSlip.TheVariants.{TwiceInCell}
+use Rattle.ps_facts.specs.declared.slips.RuleSlip.TheVariants.{TwiceInCell, RuleComment}
 use Rattle.ps_facts.specs.declared.slips.PlaceSlip.{PlaceSlip}
 use Rattle.ps_facts.specs.declared.slips.PlaceSlip.TheVariants.{Ahead, CommandInCell, KeyWordInCell, Nameless}
 use Rattle.ps_facts.specs.declared.slips.PlaceSlip.TheVariants.{OutsideLeft, BeforeRow, NoCommand}
@@ -16,7 +16,7 @@ use Rattle.ps_facts.specs.declared.slips.FormSlip.{FormSlip}
 use Rattle.ps_facts.specs.declared.slips.FormSlip.TheVariants.{NoEquals, NoJoiner, EqualsAsName, LegendEnds}
 use Rattle.ps_facts.specs.declared.slips.FormSlip.TheVariants.{NoQuantifier}
 use Rattle.ps_facts.specs.declared.slips.FormSlip.TheVariants.{NoOn, FurtherWord, WinEnds, SecondName, ThirdName}
-use Rattle.ps_facts.specs.declared.slips.FormSlip.TheVariants.{NameAgain, RealTime}
+use Rattle.ps_facts.specs.declared.slips.FormSlip.TheVariants.{NameAgain, RealTime, WinComment}
 use Rattle.ps_facts.specs.declared.slips.Slip.{Slip}
 use Rattle.ps_facts.specs.declared.slips.Slip.TheVariants.{Shape, Rule, Place, Form}
 
@@ -58,6 +58,7 @@ rule_front LateMove = codes "`"
 rule_front Chance = codes "`"
 rule_front Rigid = codes "`"
 rule_front TwiceInCell = codes "`"
+rule_front RuleComment = codes "A comment stands between `(` and `)`, and doesn't begin as `"
 
 -- what stands after it
 abbrev pub rule_back : RuleSlip → List ℕ
@@ -69,6 +70,7 @@ rule_back Chance =
 rule_back Rigid =
     codes "` is left out here: a late rule with `cancel` can take back a turn in which only a part has moved."
 rule_back TwiceInCell = codes "` stands in this cell a second time."
+rule_back RuleComment = codes "`."
 
 -- what stands before a word that can't stand where it stands
 abbrev pub place_front : PlaceSlip → List ℕ
@@ -105,6 +107,7 @@ form_front SecondName = codes "An object's line has its name, and perhaps a seco
 form_front ThirdName = codes "An object's line has its name, and perhaps a second one of one character: `"
 form_front NameAgain = codes "`"
 form_front RealTime = codes "`"
+form_front WinComment = codes "A comment stands between `(` and `)`, and doesn't begin as `"
 
 -- what stands after it
 abbrev pub form_back : FormSlip → List ℕ
@@ -121,6 +124,7 @@ form_back ThirdName = codes "` is its third word."
 form_back NameAgain = codes "` is a name of this line already: upper and lower case are one."
 form_back RealTime =
     codes "` is left out here, where all that happens follows a key: a rule with `again` goes on by itself."
+form_back WinComment = codes "`."
 
 -- what stands before the word that has a slip
 abbrev pub slip_front : Slip → List ℕ

@@ -7,7 +7,7 @@ use Rattle.ps_causes.specs.declared.causes.Blank.TheVariants.{Space, Tab, Carria
 use Rattle.ps_causes.specs.declared.causes.Clue.{Clue}
 use Rattle.ps_causes.specs.declared.causes.Clue.TheVariants as clues
 use Rattle.ps_causes.specs.declared.causes.Hint.{Hint}
-use Rattle.ps_causes.specs.declared.causes.Hint.TheVariants.{Nothing, Near, Strange, Joins}
+use Rattle.ps_causes.specs.declared.causes.Hint.TheVariants.{Nothing, Near, Strange, KeyWord, Joins}
 use Rattle.ps_causes.specs.declared.causes.Cause.{Cause}
 use Rattle.ps_causes.specs.declared.causes.Cause.TheVariants.{Untold, Undeclared, Meaningless, Unlayered, UnknownGlyph}
 use Rattle.ps_causes.specs.declared.causes.Cause.TheVariants.{BrokenRow, LateHeader, MissingSection, Twice, Slip}
@@ -47,11 +47,16 @@ abbrev pub strange_words : ℕ → List ℕ → List ℕ
 strange_words character like =
     codes " Its character " ++ (code_words character ++ (codes " looks like " ++ (like ++ codes ".")))
 
+-- that a word is a key word
+abbrev pub key_word_words : List ℕ → List ℕ
+key_word_words key = codes " `" ++ (key ++ codes "` is a key word.")
+
 -- what is said about a word, after a blank
 abbrev pub hint_words : Hint → List ℕ
 hint_words Nothing = []
 hint_words (Near named) = near_words named.line named.name.now
 hint_words (Strange character like) = strange_words character like.now
+hint_words (KeyWord key) = key_word_words key.now
 hint_words Joins = codes " `and` and `or` join names in LEGEND alone."
 
 -- that a word is declared nowhere

@@ -61,6 +61,7 @@ fn rule_front(slip: RuleSlip) -> &'static str
         | RuleSlip::Chance
         | RuleSlip::Rigid
         | RuleSlip::TwiceInCell => "`",
+        RuleSlip::RuleComment => "A comment stands between `(` and `)`, and doesn't begin as `",
     }
 }
 
@@ -79,6 +80,7 @@ fn rule_back(slip: RuleSlip) -> &'static str
         RuleSlip::Rigid =>
             "` is left out here: a late rule with `cancel` can take back a turn in which only a part has moved.",
         RuleSlip::TwiceInCell => "` stands in this cell a second time.",
+        RuleSlip::RuleComment => "`.",
     }
 }
 
@@ -133,6 +135,7 @@ fn form_front(slip: FormSlip) -> &'static str
             "A win condition is `No X`, `Some X`, `Any X` or `All X`, or that with `on Y`, and doesn't end behind `",
         FormSlip::SecondName | FormSlip::ThirdName =>
             "An object's line has its name, and perhaps a second one of one character: `",
+        FormSlip::WinComment => "A comment stands between `(` and `)`, and doesn't begin as `",
         FormSlip::NameAgain | FormSlip::RealTime => "`",
     }
 }
@@ -150,7 +153,7 @@ fn form_back(slip: FormSlip) -> &'static str
         FormSlip::FurtherWord => "` is one word too many.",
         FormSlip::SecondName => "` is its second word.",
         FormSlip::ThirdName => "` is its third word.",
-        FormSlip::LegendEnds | FormSlip::WinEnds => "`.",
+        FormSlip::LegendEnds | FormSlip::WinEnds | FormSlip::WinComment => "`.",
         FormSlip::NameAgain => "` is a name of this line already: upper and lower case are one.",
         FormSlip::RealTime =>
             "` is left out here, where all that happens follows a key: a rule with `again` goes on by itself.",

@@ -5,7 +5,7 @@ ghost use Rattle.ps_why.specs.Wording.{zeros, code_words, sentence, hint_words, 
 ghost use Rattle.ps_why.specs.Wording.{undeclared_words, meaningless_words, unlayered_words, glyph_words, broken_words};
 ghost use Rattle.ps_why.specs.Wording.{late_words, like_words, open_words, returns_words, clue_words, missing_words};
 ghost use Rattle.ps_why.specs.Wording.{case_words, twice_words, broken_byte_words, commas_words, slashes_words};
-ghost use Rattle.ps_why.specs.Wording.{like_header_words};
+ghost use Rattle.ps_why.specs.Wording.{key_word_words, like_header_words};
 
 use crate::game_wording::{loop_sentence, whole_sentence};
 use crate::object_wording::object_sentence;
@@ -72,6 +72,14 @@ fn strange_words(alloc: Global, character: char, like: &str) -> Result<String, M
     Ok(words)
 }
 
+/// That a word is a key word.
+fn key_word_words(alloc: Global, key: &str) -> Result<String, Memory>
+    ensures { IfOk result (λ words. string_bytes words ≡ key_word_words key.now) }
+{
+    let words = format!(in alloc; " `{key}` is a key word.")?;
+    Ok(words)
+}
+
 /// What is said about a word, after a blank.
 fn hint_words(alloc: Global, hint: Hint<'_>) -> Result<String, Memory>
     ensures { IfOk result (λ words. string_bytes words ≡ hint_words hint.entry) }
@@ -80,6 +88,7 @@ fn hint_words(alloc: Global, hint: Hint<'_>) -> Result<String, Memory>
         Hint::Nothing => Ok(String::new(alloc)),
         Hint::Near(named) => near_words(alloc, named.line, named.name),
         Hint::Strange { character, like } => strange_words(alloc, character, like),
+        Hint::KeyWord(key) => key_word_words(alloc, key),
         Hint::Joins => {
             let words = String::from_str(alloc, " `and` and `or` join names in LEGEND alone.")?;
             Ok(words)
