@@ -23,7 +23,7 @@ IsCutOffOutput text keys wrote =
 -- a run of the text on the keys that wrote those bytes, with room for `room` of them, may come out so
 abbrev pub IsPlayed : List ℕ → List ℕ → ℕ → List ℕ → Played → Type 0
 IsPlayed text keys room wrote (Ended ending) = (script : Script) × (script_of_text text ≡ Some script) ×
-    (output script keys ≡ record { written = wrote; ending = ending })
+    ((output script keys).ending ≡ ending) × (wrote ≡ (output script keys).written)
 IsPlayed text keys room wrote (Refused first) = (first_fault (faults text) ≡ Some first) × (wrote ≡ [])
 IsPlayed text keys room wrote Memory = (wrote ≡ []) ⊎ IsCutOffOutput text keys wrote
 IsPlayed text keys room wrote NoRoom = (length wrote ≡ room) × IsCutOffOutput text keys wrote

@@ -14,7 +14,7 @@ mod version;
 
 pub use checking::{Finding, lzk_check};
 pub use faults::TextFault;
-pub use playing::{Played, Run, play};
+pub use playing::{Played, PlayedRun, play};
 pub use running::{Outcome, lzk_run};
 pub use sizes::GameSize;
 pub use statuses::Status;

@@ -27,13 +27,13 @@ pub enum Played {
 
 /// A run in memory: how it came out, and how many bytes it has written.
 #[derive(Clone, Copy)]
-pub struct Run {
+pub struct PlayedRun {
     pub played: Played,
     pub length: usize,
 }
 
 /// How a run came out that gave this answer when its writer had taken that many bytes, by the room that there is for them.
-fn played(answer: Result<Ending, RunFault>, written: usize, room: usize) -> Played
+fn how_played(answer: Result<Ending, RunFault>, written: usize, room: usize) -> Played
     ensures { result ≡ played_of answer written room }
 {
     if room < written {
@@ -55,7 +55,7 @@ fn played(answer: Result<Ending, RunFault>, written: usize, room: usize) -> Play
 /// A run that `Ended` has written exactly the output of the game on the keys. `NoRoom`, `Memory` and `TooManyKeys` have
 /// written a front of it, and never all of it: with `NoRoom` as much as there is room for, with `Memory` perhaps nothing.
 /// `Refused` has written nothing.
-pub fn play(alloc: Global, text: &[u8], keys: &[u8], output: &mut [u8]) -> Run
+pub fn play(alloc: Global, text: &[u8], keys: &[u8], output: &mut [u8]) -> PlayedRun
     ensures within { result.length ≤ length output.old }
     ensures room { length output.new ≡ length output.old }
     ensures rest { drop result.length output.new ≡ drop result.length output.old }
@@ -67,8 +67,8 @@ pub fn play(alloc: Global, text: &[u8], keys: &[u8], output: &mut [u8]) -> Run
     let written = writer.bytes();
     let length = written.len().min(output.len());
     output[..length].copy_from_slice(&written[..length]);
-    Run {
-        played: played(answer, written.len(), output.len()),
+    PlayedRun {
+        played: how_played(answer, written.len(), output.len()),
         length,
     }
 }

@@ -4,7 +4,7 @@ ghost use Rattle.std.specs.Prelude.{◌≡◌};
 ghost use Rattle.lizhakoven.specs.Outcomes.{HasRun, ending_number, fault_told, status_of};
 
 use crate::faults::TextFault;
-use crate::playing::{Played, Run, play};
+use crate::playing::{Played, PlayedRun, play};
 use crate::statuses::Status;
 use std::alloc::Global;
 
@@ -65,7 +65,7 @@ pub extern "C" fn lzk_run(
 ) -> u32
     ensures { HasRun text.now keys.now output.old output.new outcome.new result }
 {
-    let Run { played, length } = play(alloc, text, keys, output);
+    let PlayedRun { played, length } = play(alloc, text, keys, output);
     *outcome = Outcome {
         length,
         ending: ending(played),

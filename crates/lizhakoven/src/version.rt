@@ -5,7 +5,9 @@ ghost use Rattle.lizhakoven.specs.declared.version.TheConstants.{MAJOR, MINOR, P
 
 /// The version is 0.3.0.
 pub const MAJOR: u32 = 0;
+
 pub const MINOR: u32 = 3;
+
 pub const PATCH: u32 = 0;
 
 /// Tells the three numbers of the library's version.

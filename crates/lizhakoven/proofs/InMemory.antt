@@ -1,20 +1,22 @@
 -- From what a run may answer, by what its devices tell, to what it has written for its caller.
-use Rattle.std.proofs.Common.{◌≡◌, ◌≢◌, ◌∙◌, ◌⊎◌, ⊤, ℕ, ◌+◌, ◌<◌, ◌≤◌, ◌==◌, inl, inr, Bool, true, false, refl, sym, ap, arith}
+use Rattle.std.proofs.Common.{◌≡◌, ◌≢◌, ◌∙◌, ◌⊎◌, ℕ, ◌+◌, ◌<◌, ◌≤◌, ◌==◌, inl, inr, Bool, true, false, refl, sym, ap, arith}
 use Rattle.std.proofs.Common.{List, [], ◌∷◌, ◌++◌, length, take, drop, Option, Some, None, option_map, Result, Ok, Err}
 use Rattle.std.proofs.Common.{◌-◌, append_assoc, append-nil, min}
 use Rattle.std.specs.Prelude.{nat_lt, if◌then◌else◌}
 use Rattle.std.specs.List.{All, concat}
 use Rattle.std.proofs.lemmas.Bool.{eqb-true, ltb-false, ltb-true}
-use Rattle.std.proofs.lemmas.List.{length-append, length-drop, length-take-le, take-append-drop, take_all}
+use Rattle.std.proofs.lemmas.List.{length-append, length-drop, length-take-le, take-append-drop, take_all, take_at}
 use Rattle.std.proofs.lemmas.List.Elements.{All-head, All-tail}
 use Rattle.ps_model.specs.declared.limits.TheConstants.{READ_LIMIT}
 use Rattle.ps_model.specs.declared.play.Ending.{Ending}
 use Rattle.ps_model.specs.declared.play.Ending.TheVariants.{EndOfKeys}
+use Rattle.ps_model.specs.declared.play.Key.{Key}
 use Rattle.ps_model.specs.board.Turns.{Script}
 use Rattle.ps_model.specs.session.Keys.{keys_of}
 use Rattle.ps_model.specs.text.Faults.{first_fault}
 use Rattle.ps_model.specs.game.Games.{faults}
-use Rattle.ps_model.specs.game.Outputs.{output}
+use Rattle.ps_model.specs.session.Sessions.{Step}
+use Rattle.ps_model.specs.game.Outputs.{ending_of, opening_step, output, output_of_keys}
 use Rattle.ps_model.specs.game.Tellings.{ReaderState, WriterState, Gives, Fails, ReaderCalls, Unasked, Asked, Told}
 use Rattle.ps_model.specs.game.Tellings.{CountsCalls, IsLeft, all_bytes, has_failing_call, most_calls, read}
 use Rattle.ps_model.specs.game.Headline.{Answers, GaveNothing, GoesOn, IsCutOff, IsFront, IsPiece, ReadsInTurn}
@@ -24,7 +26,7 @@ use Rattle.ps_laws.proofs.runs.LeftToWrite.{left_to_write}
 use Rattle.ps_devices.specs.Answers.{answer_of}
 use Rattle.ps_devices.specs.declared.players.RunFault.{RunFault}
 use Rattle.ps_devices.specs.declared.players.RunFault.TheVariants as fault
-use Rattle.ps_run.proofs.Telling.{whole_is}
+use Rattle.ps_laws.specs.Fronts.{whole_front}
 use Rattle.lizhakoven.specs.declared.playing.Played.TheVariants.{NoRoom}
 use Rattle.lizhakoven.specs.FreshDevices.{fresh_reader, fresh_writer}
 use Rattle.lizhakoven.specs.Runs.{IsCutOffOutput, IsPlayed, played_of, played_within}
@@ -113,12 +115,16 @@ cut_by_length count bytes whole short front = record {
 -- the texts of the keys that were read are a front of the output
 texts_are_front : (script : Script) (bytes more : List ℕ) →
     IsFront (texts_of script bytes) (output script (bytes ++ more)).written
-texts_are_front script bytes more = rw (← whole_is script bytes) (front_of_more script bytes more)
+unfolding whole_front
+texts_are_front script bytes more = front_of_more script bytes more
 
 -- a game that goes on after all keys goes on after that number of them
 on_after_all : (script : Script) (bytes : List ℕ) → GoesOn script bytes →
     ending_behind script bytes (length (keys_of bytes)) ≡ EndOfKeys
-on_after_all script bytes on = rw (take_all (length (keys_of bytes)) (keys_of bytes) (omega arith)) on
+on_after_all script bytes on =
+    let start : Step = opening_step script in
+    ap (λ (keys : List Key). (output_of_keys script start.session (ending_of start.session) keys).ending)
+    (take_all (length (keys_of bytes)) (keys_of bytes) (omega arith)) ∙ on
 
 -- answers -------------------------------------------------------------------------------------------------------------
 
@@ -133,18 +139,25 @@ is_written text keys told calls (Err (fault.Refused first)) all counts worn righ
     (right.is_first, right.wrote_nothing)
 is_written text keys told calls (Err fault.Memory) all counts worn (inl right) = inl right.wrote_nothing
 is_written text keys told calls (Err fault.Memory) all counts worn (inr (script, found, right)) =
-    inr (script, found, rw (all, right.wrote)
-    (left_to_write script (read told.reading) told.left right.keys right.goes_on))
+    inr (
+      script,
+      found,
+      rw (all, right.wrote)
+          (left_to_write script (read told.reading) told.left right.keys right.goes_on),
+    )
 is_written text keys told calls (Err fault.Read) all counts worn (script, found, right) =
     let many : READ_LIMIT ≤ length (read told.reading) =
     many_keys script told.reading told.left calls right.reads right.cause counts worn in
     let sum : length (read told.reading ++ told.left) ≡ length (read told.reading) + length told.left =
     length-append (read told.reading) told.left in (
       rw all (omega (arith, many, sum)),
-      script,
-      found,
-      rw (all, right.wrote) (left_to_write script (read told.reading) told.left (length (keys_of (read told.reading)))
-      (on_after_all script (read told.reading) right.goes_on)),
+      (
+        script,
+        found,
+        rw (all, right.wrote)
+            (left_to_write script (read told.reading) told.left (length (keys_of (read told.reading)))
+            (on_after_all script (read told.reading) right.goes_on)),
+      ),
     )
 is_written text keys told calls (Err fault.Write) all counts worn (script, found, right) =
     (script, found, cut_off script told keys all right.reads right.wrote) where
@@ -167,14 +180,14 @@ some_front : (text keys wrote : List ℕ) (answer : Result Ending RunFault) → 
     IsWritten text keys wrote answer →
     (script : Script) × (script_of_text text ≡ Some script) × IsFront wrote (output script keys).written
 some_front text keys wrote (Ok ending) some (script, found, ends, is) =
-    (script, found, [], sym is ∙ sym (append-nil wrote))
+    (script, found, ([], sym is ∙ sym (append-nil wrote)))
 some_front text keys wrote (Err (fault.Refused first)) some (is, none) =
     let long : length wrote ≡ 0 = ap length none in absurd (omega (arith, some, long))
 some_front text keys wrote (Err fault.Memory) some (inl none) =
     let long : length wrote ≡ 0 = ap length none in absurd (omega (arith, some, long))
-some_front text keys wrote (Err fault.Memory) some (inr (script, found, cut)) = (script, found, cut.rest, cut.is)
-some_front text keys wrote (Err fault.Read) some (many, script, found, cut) = (script, found, cut.rest, cut.is)
-some_front text keys wrote (Err fault.Write) some (script, found, cut) = (script, found, cut.rest, cut.is)
+some_front text keys wrote (Err fault.Memory) some (inr (script, found, cut)) = (script, found, (cut.rest, cut.is))
+some_front text keys wrote (Err fault.Read) some (many, (script, found, cut)) = (script, found, (cut.rest, cut.is))
+some_front text keys wrote (Err fault.Write) some (script, found, cut) = (script, found, (cut.rest, cut.is))
 
 -- all that was written has room
 all_in_room : (text keys wrote : List ℕ) (room : ℕ) (answer : Result Ending RunFault) (is_full : Bool) →
@@ -196,8 +209,10 @@ kept_in_room text keys wrote room answer true is_full over full written =
     let above : room < length wrote = ltb-true room (length wrote) over in
     let kept : min (length wrote) room ≡ room = omega (arith, above) in
     let whole = some_front text keys wrote answer (omega (arith, above)) written in
-    rw kept (length-take-le room wrote (omega (arith, above)), whole.0, whole.1,
-    cut_by_length room wrote (output whole.0 keys).written above whole.2)
+    rw kept (
+      length-take-le room wrote (omega (arith, above)),
+      (whole.0, whole.1, cut_by_length room wrote (output whole.0 keys).written above whole.2),
+    )
 kept_in_room text keys wrote room answer false is_full over full written =
     let within : length wrote ≤ room = ltb-false room (length wrote) over in
     let kept : min (length wrote) room ≡ length wrote = omega (arith, within) in
@@ -206,11 +221,14 @@ kept_in_room text keys wrote room answer false is_full over full written =
 
 -- a run in memory has written what it may
 pub plays_rightly :
-    (text keys wrote : List ℕ) (room : ℕ) (has : ReaderState) (now : WriterState) (answer : Result Ending RunFault) →
-    RunsRightly text (fresh_reader keys) has fresh_writer now (answer_of answer) →
+    (text keys wrote : List ℕ) (room : ℕ) (had has : ReaderState) (before now : WriterState)
+    (answer : Result Ending RunFault) → had ≡ fresh_reader keys → before ≡ fresh_writer →
+    RunsRightly text had has before now (answer_of answer) →
     (has.has_failed ≡ true → most_calls ≤ has.calls) → now.contents ≡ Some wrote →
     IsPlayed text keys room (take (min (length wrote) room) wrote) (played_of answer (length wrote) room)
-plays_rightly text keys wrote room has now answer right worn contents =
+plays_rightly text keys wrote room had has before now answer unread unwritten runs worn contents =
+    let right : RunsRightly text (fresh_reader keys) has fresh_writer now (answer_of answer) =
+    rw (unread, unwritten) at runs in
     let told : Told = right.told in
     let all : keys ≡ all_bytes told =
     all_given has.remaining (read told.reading) keys told.left right.tells.read right.tells.left in
@@ -221,3 +239,9 @@ plays_rightly text keys wrote room has now answer right worn contents =
     (λ failed. worn (right.tells.reader_failed ∙ failed)) right.answers in
     rw same (kept_in_room text keys told.wrote room answer (nat_lt room (length told.wrote)) (length told.wrote == room)
     refl refl written)
+
+-- what is copied to the front of other memory stands there
+pub copied_front : (wrote copied memory : List ℕ) (count : ℕ) → count ≤ length wrote → copied ≡ take count wrote →
+    take count (copied ++ memory) ≡ take count wrote
+copied_front wrote copied memory count within is =
+    rw is (take_at (take count wrote) memory count (length-take-le count wrote within))
