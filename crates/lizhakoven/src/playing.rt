@@ -61,14 +61,15 @@ pub fn play(alloc: Global, text: &[u8], keys: &[u8], output: &mut [u8]) -> Playe
     ensures rest { drop result.length output.new ≡ drop result.length output.old }
     ensures played { IsPlayed text.now keys.now (length output.old) (take result.length output.new) result.played }
 {
+    let room = output.len();
     let mut reader = KeyReader::new(keys);
-    let mut writer = RoomWriter::new(alloc, output.len());
+    let mut writer = RoomWriter::new(alloc, room);
     let answer = run(alloc, text, &mut reader, &mut writer);
     let written = writer.bytes();
-    let length = written.len().min(output.len());
+    let length = written.len().min(room);
     output[..length].copy_from_slice(&written[..length]);
     PlayedRun {
-        played: how_played(answer, written.len(), output.len()),
+        played: how_played(answer, written.len(), room),
         length,
     }
 }
