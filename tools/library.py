@@ -83,7 +83,8 @@ def parts_of_library(kit, room):
     """The parts of the library's module."""
     source = room / "src"
     shutil.copytree(TOP / f"crates/{CRATE}/src", source)
-    (source / "main.rt").write_text((source / "lib.rt").read_text() + MAIN)
+    with open((source / "lib.rt").rename(source / "main.rt"), "a") as root:
+        root.write(MAIN)
     parts = cut(list(exported(lines_of(kit, TOP, CRATE, [source / "main.rt"], room, False), calls())))
     for part in parts:
         part.lines = list(without_main(part.lines))

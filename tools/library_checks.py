@@ -124,7 +124,7 @@ def compiled_by_c(text, made, *words):
     """Compiles a text of C into a file. What the compiler complains of, or nothing."""
     source = made.with_suffix(".c")
     source.write_text(text)
-    words = ["-std=c99", "-Wall", "-Wextra", "-Werror", "-I", HEADER.parent, source, "-o", made, *words]
+    words = ["-std=c99", "-fPIC", "-Wall", "-Wextra", "-Werror", "-I", HEADER.parent, source, "-o", made, *words]
     return subprocess.run(["cc", *words], capture_output=True, text=True).stderr
 
 
