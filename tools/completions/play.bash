@@ -32,7 +32,7 @@ _play() {
         COMPREPLY=()
         return
         ;;
-    --install | --engine)
+    --install | --library | --engine)
         mapfile -t COMPREPLY < <(compgen -d -- "$word")
         compopt -o filenames 2>/dev/null
         return
@@ -41,7 +41,7 @@ _play() {
     options='--level --fresh --plain --check --why --all --limit --format --solve --states --stop-file --help --version'
     case ${COMP_WORDS[0]##*/} in
     ps_play) options+=' --keys --view --sizes --show --describe --explain' ;;
-    *) options+=' --page --title --engine --prove --keep --install' ;;
+    *) options+=' --page --title --engine --prove --keep --install --library' ;;
     esac
     case $word in
     -*) mapfile -t COMPREPLY < <(compgen -W "$options" -- "$word") ;;

@@ -1,0 +1,12 @@
+-- The numbers by which C knows what a call came to.
+use Rattle.std.specs.Prelude.{ℕ}
+use Rattle.lizhakoven.specs.declared.statuses.Status.{Status}
+use Rattle.lizhakoven.specs.declared.statuses.Status.TheVariants.{Done, Refused, Memory, NoRoom, TooManyKeys}
+
+-- the number of a status
+abbrev pub number_of_status : Status → ℕ
+number_of_status Done = 0
+number_of_status Refused = 1
+number_of_status Memory = 2
+number_of_status NoRoom = 3
+number_of_status TooManyKeys = 4
