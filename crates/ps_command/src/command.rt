@@ -1,7 +1,9 @@
 //! The command line.
 
 use crate::files::STANDARD_INPUT;
-use crate::report_options::{all_option, asked_report, format_option, limit_option, wants_report};
+use crate::report_options::{
+    all_option, asked_report, format_option, limit_option, strict_option, wants_report, warn_option,
+};
 use crate::sizes::size_of;
 use crate::stops::Stop;
 use clap::{Arg, ArgAction, ArgMatches, Command};
@@ -85,6 +87,8 @@ pub fn read_command<'w, S: AsStr>(alloc: Global, words: &'w [S]) -> Result<Asked
         .arg(all_option(alloc)?)?
         .arg(limit_option(alloc)?)?
         .arg(format_option(alloc)?)?
+        .arg(warn_option(alloc)?)?
+        .arg(strict_option(alloc)?)?
         .arg(level_option(alloc)?)?
         .arg(keys_option(alloc))?
         .arg(view_option(alloc))?
@@ -333,7 +337,7 @@ fn explain_option(alloc: Global) -> Result<Arg<'static>, AllocError> {
         .help("Says in a sentence what the fault of this code is, as RU7")
         .action(ArgAction::Set)
         .conflicts_with_all(&[
-            "GAME", "FURTHER", "check", "why", "all", "limit", "format", "level", "keys", "view",
-            "sizes", "show", "describe",
+            "GAME", "FURTHER", "check", "why", "all", "limit", "format", "warn", "strict", "level",
+            "keys", "view", "sizes", "show", "describe",
         ])
 }

@@ -25,6 +25,12 @@ pub const TWO_LEVELS: &[u8] =
 Background\nTarget\nPlayer\nRULES\nWINCONDITIONS\nSome Player on Target\nLEVELS\n\
 message Hello\nPO\n\nmessage Now\n.PO\n";
 
+/// A game with a misspelt option, a rule that can do nothing, and a second level without a Player.
+pub const WARNED: &[u8] =
+    b"title T\nnoudno\nOBJECTS\nBackground .\ngreen\nPlayer P\nwhite\nTarget O\nblue\nLEGEND\nCOLLISIONLAYERS\n\
+Background\nTarget\nPlayer\nRULES\n[ Player no Player ] -> win\nWINCONDITIONS\nSome Player on Target\nLEVELS\n\
+PO\n\n.O\n";
+
 /// A text that ends before its levels.
 pub const CUT_SHORT: &[u8] =
     b"OBJECTS\nBackground .\ngreen\nPlayer P\nwhite\nLEGEND\nCOLLISIONLAYERS\nBackground\nPlayer\n\

@@ -2,7 +2,7 @@
 
 ghost use Rattle.std.specs.Prelude.{IsErr};
 
-use crate::games::{CUT_SHORT, PUSHING, TWO_LEVELS};
+use crate::games::{CUT_SHORT, PUSHING, TWO_LEVELS, WARNED};
 use ps_model::TEXT_LIMIT;
 use std::alloc::{Allocator, Global};
 use std::cell::RefCell;
@@ -20,8 +20,8 @@ const KEYS: &[u8] = b"q";
 const SIZE: &[u8] = b"10x20\n";
 
 /// A machine with the words of a command line. Each file whose name ends with `.keys` has the same keys, and one with
-/// `.size` the same size; `cut.game` has a text that ends before its levels, `two.game` the game [`TWO_LEVELS`], and
-/// each other one the game [`PUSHING`]. In `long.game` and `too-long.game` line feeds stand before it. With them it has
+/// `.size` the same size; `cut.game` has a text that ends before its levels, `two.game` the game [`TWO_LEVELS`],
+/// `warned.game` the game [`WARNED`], and each other one the game [`PUSHING`]. In `long.game` and `too-long.game` line feeds stand before it. With them it has
 /// as many bytes as a text may have, and one more. There is neither a `lost.game` nor a `lost.size`.
 #[derive(Drop)]
 pub struct Machine<'w> {
@@ -182,6 +182,7 @@ fn file_of(name: &str) -> OpenedFile {
     let (feeds, rest) = match name {
         "cut.game" => (0, CUT_SHORT),
         "two.game" => (0, TWO_LEVELS),
+        "warned.game" => (0, WARNED),
         "long.game" => (room, PUSHING),
         "too-long.game" => (room.saturating_add(1), PUSHING),
         _ if name.ends_with(".keys") => (0, KEYS),
