@@ -1,11 +1,12 @@
 -- The levels of a text whose game was read: each number that the game has is that of a level, in which a run begins.
-use Rattle.std.proofs.Common.{◌≡◌, ◌≢◌, ◌∙◌, ◌⊎◌, inl, inr, ℕ, ◌<◌, ◌≤◌, Bool, true, false, List, Some, None, Ok, Err, Result, refl}
+use Rattle.std.proofs.Common.{◌≡◌, ◌≢◌, ◌∙◌, ◌⊎◌, inl, inr, ℕ, ◌<◌, ◌≤◌, Bool, true, false, List, Some, None, Ok, Err}
+use Rattle.std.proofs.Common.{Result, refl}
 use Rattle.std.proofs.Common.{subst}
 use Rattle.std.proofs.Common.{sym, ap, arith}
 use Rattle.std.specs.Prelude.{All, slice_get}
 use Rattle.std.proofs.lemmas.Bool.{true≢false}
 use Rattle.std.proofs.lemmas.Option.{same_Some}
-use Rattle.ps_model.specs.board.Turns.{Script, script_at}
+use Rattle.ps_model.specs.board.Turns.{script_at}
 use Rattle.ps_model.specs.game.Games.{Game, game}
 use Rattle.ps_model.specs.game.LevelRuns.{is_level_found, level_count, level_entry}
 use Rattle.ps_model.specs.game.Outputs.{opening_step}
@@ -87,7 +88,7 @@ pub game_kept : (text kept : List ℕ) (read : Game) → kept ≡ text → game 
     All (IsSizedEntry read.names) read.entries → IsGameOf kept read
 game_kept text kept read same is sized = record { is = ap game same ∙ is; playable = game_playable text read is sized }
 
--- a value with its game ------------------------------------------------------------------------------------------------
+-- a value with its game ----------------------------------------------------------------------------------------------
 
 module _ (now : ReadText) (text : List ℕ) (read : Game) (entries : List Entry) where
   -- the value is of this text and its game, which has these entries

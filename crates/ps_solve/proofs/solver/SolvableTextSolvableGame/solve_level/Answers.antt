@@ -10,8 +10,8 @@ pub unreachable-requires : goal.unreachable-requires
 unreachable-requires g c =
     let entries : entries_shown c.deref.result.now ≡ c.self.inside.game.entries =
     ap entries_shown c.deref.ensures.value ∙ ap (λ (t : Inside). t.game.entries) c.self-inside.view_is in
-    has_entry c.args.self.now c.self.inside.text.value.items c.self.inside.game (entries_shown c.deref.result.now) c.args.level
-    (c.self.view_is, c.self.invariant, entries) c.requires (sym c.in_default.ensures)
+    has_entry c.args.self.now c.self.inside.text.value.items c.self.inside.game (entries_shown c.deref.result.now)
+    c.args.level (c.self.view_is, c.self.invariant, entries) c.requires (sym c.in_default.ensures)
 
 pub solve_level-requires-clause-rooms : goal.solve_level-requires-clause-rooms
 solve_level-requires-clause-rooms g c =
@@ -21,14 +21,15 @@ pub unreachable-requires-in-Err-NoLevel : goal.unreachable-requires-in-Err-NoLev
 unreachable-requires-in-Err-NoLevel g c =
     let entries : entries_shown c.deref.result.now ≡ c.self.inside.game.entries =
     ap entries_shown c.deref.ensures.value ∙ ap (λ (t : Inside). t.game.entries) c.self-inside.view_is in
-    has_no_other c.args.self.now c.self.inside.text.value.items c.self.inside.game (entries_shown c.deref.result.now) c.args.level
-    c.in-Some.entry (c.self.view_is, c.self.invariant, entries) c.in-Some.ensures
-    (λ of is. c.solve_level.ensures.no_level of is
+    has_no_other c.args.self.now c.self.inside.text.value.items c.self.inside.game
+    (entries_shown c.deref.result.now) c.args.level c.in-Some.entry (c.self.view_is, c.self.invariant, entries)
+    c.in-Some.ensures (λ of is. c.solve_level.ensures.no_level of is
     (c.in-Err-NoLevel.is ∙ ap (λ (f : NotSearched). Err f) c.in-Err-NoLevel.field-0-is))
 
 pub returns-in-Ok : goal.returns-in-Ok
 returns-in-Ok g c =
     let entries : entries_shown c.deref.result.now ≡ c.self.inside.game.entries =
     ap entries_shown c.deref.ensures.value ∙ ap (λ (t : Inside). t.game.entries) c.self-inside.view_is in
-    has_answer c.args.self.now c.self.inside.text.value.items c.self.inside.game (entries_shown c.deref.result.now) c.args.level
-    c.in-Some.entry c.args.limit c.in-Ok.solved (c.self.view_is, c.self.invariant, entries) c.in-Some.ensures c.in-Ok.ensures.solved
+    has_answer c.args.self.now c.self.inside.text.value.items c.self.inside.game (entries_shown c.deref.result.now)
+    c.args.level c.in-Some.entry c.args.limit c.in-Ok.solved (c.self.view_is, c.self.invariant, entries)
+    c.in-Some.ensures c.in-Ok.ensures.solved
