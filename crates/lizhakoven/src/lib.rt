@@ -1,5 +1,5 @@
-//! The engine for other programs: a static library with calls for C, which `include/lizhakoven.h` declares. A call works
-//! on the memory that it is handed, keeps nothing after it, and answers a status.
+//! The engine for other programs: a static library with calls for C, which `include/lizhakoven.h` declares. A call
+//! works on the memory that it is handed, keeps nothing after it, and answers a status.
 #![tactic(auto)]
 
 mod checking;

@@ -32,7 +32,8 @@ pub struct PlayedRun {
     pub length: usize,
 }
 
-/// How a run came out that gave this answer when its writer had taken that many bytes, by the room that there is for them.
+/// How a run came out that gave this answer when its writer had taken that many bytes, by the room that there is for
+/// them.
 fn how_played(answer: Result<Ending, RunFault>, written: usize, room: usize) -> Played
     ensures { result ≡ played_of answer written room }
 {
@@ -50,10 +51,12 @@ fn how_played(answer: Result<Ending, RunFault>, written: usize, room: usize) -> 
     }
 }
 
-/// Plays the game of a text with keys, and writes its output to the front of `output`. The rest of `output` stays as it is.
+/// Plays the game of a text with keys, and writes its output to the front of `output`. The rest of `output` stays as
+/// it is.
 ///
 /// A run that `Ended` has written exactly the output of the game on the keys. `NoRoom`, `Memory` and `TooManyKeys` have
-/// written a front of it, and never all of it: with `NoRoom` as much as there is room for, with `Memory` perhaps nothing.
+/// written a front of it, and never all of it: with `NoRoom` as much as there is room for, with `Memory` perhaps
+/// nothing.
 /// `Refused` has written nothing.
 pub fn play(alloc: Global, text: &[u8], keys: &[u8], output: &mut [u8]) -> PlayedRun
     ensures within { result.length ≤ length output.old }

@@ -6,8 +6,8 @@ ghost use Rattle.lizhakoven.specs.FreshDevices.{fresh_writer};
 use ps_devices::{ByteWriter, Failed};
 use std::alloc::Global;
 
-/// Keeps what is written to it, up to as many bytes as there is room for. It grows with what it takes, and fails where it
-/// has no room left or a growth is refused.
+/// Keeps what is written to it, up to as many bytes as there is room for. It grows with what it takes, and fails
+/// where it has no room left or a growth is refused.
 #[derive(Drop)]
 pub struct RoomWriter {
     bytes: Vec<u8>,

@@ -70,11 +70,11 @@ fn rate_of(states: u32, time: Duration) -> u128 {
     states as u128 * 1_000 / milliseconds
 }
 
-/// Watches the searches of levels: says on standard error how far each is, ten times a second, and stops them all once a
-/// file is there.
+/// Watches the searches of levels: says on standard error how far each is, ten times a second, and stops them all
+/// once a file is there.
 ///
-/// What is said of a level stands on one line, and is wiped away when its search ends. Of a search that takes less than a
-/// tenth of a second nothing is said. Without a clock nothing is said, and no file is looked for.
+/// What is said of a level stands on one line, and is wiped away when its search ends. Of a search that takes less
+/// than a tenth of a second nothing is said. Without a clock nothing is said, and no file is looked for.
 #[derive(Drop)]
 pub struct SearchProgress<'r, R: Clock + Eprint + Files> {
     rt: &'r R,

@@ -22,8 +22,8 @@ use std::rt::Files;
 use std::time::Clock;
 
 /// Says of levels of games on the screen whether they can be won, and in how few keys: a line for each, or an object of
-/// JSON. Of several texts each line begins with the name of its text. A text that is no game is told as a check tells it,
-/// and one that can't be read on standard error; neither ends the search of the others.
+/// JSON. Of several texts each line begins with the name of its text. A text that is no game is told as a check tells
+/// it, and one that can't be read on standard error; neither ends the search of the others.
 pub fn solve_asked<
     R: Files + AllocGlobal + Clock + Eprint,
     P: Player,
@@ -147,8 +147,8 @@ impl<'s, R: Files + AllocGlobal + Clock + Eprint, S: LevelSolver> Search<'s, R, 
         Ok(all_won)
     }
 
-    /// Says of levels of the game in a file whether they can be won, and answers whether all can. Nothing is said on the
-    /// screen of a file that can't be read.
+    /// Says of levels of the game in a file whether they can be won, and answers whether all can. Nothing is said on
+    /// the screen of a file that can't be read.
     fn solve_file<I: ByteReader, O: ByteWriter>(
         &self,
         path: &str,
@@ -249,7 +249,8 @@ impl<'s, R: Files + AllocGlobal + Clock + Eprint, S: LevelSolver> Search<'s, R, 
         Ok(front)
     }
 
-    /// Says on standard error that the game in a file has no level of the number that is asked for, and how many it has.
+    /// Says on standard error that the game in a file has no level of the number that is asked for, and how many it
+    /// has.
     fn tell_lacking(&self, path: &str, levels: usize) -> Result<(), Stop>
         ensures { IfErr result (λ stop. stop ≢ Stop.NotAccepted) }
     {

@@ -155,8 +155,8 @@ fn key_word_within(distance: Distance, word: &str) -> Option<&'static str>
     None
 }
 
-/// The first of the key words of rules that one edit makes of a word of three bytes at least. If there is none, the first
-/// that two edits make of one of five.
+/// The first of the key words of rules that one edit makes of a word of three bytes at least. If there is none, the
+/// first that two edits make of one of five.
 pub fn nearest_key_word(word: &str) -> Option<&'static str>
     ensures key { IfSome result (λ key. is_plain_key_word key.now ≡ true) }
     ensures near { IfSome result (λ key. IsNear word.now key.now) }

@@ -711,8 +711,8 @@ fn obey(rt: &(impl Abort + AllocGlobal), words: &[&str], input: &[u8]) -> Outcom
     obey_on(rt, words, input, 1000)
 }
 
-/// Does what a command line asks for, with these bytes from standard input, one at a time. The screen takes `room` bytes
-/// and then fails.
+/// Does what a command line asks for, with these bytes from standard input, one at a time. The screen takes `room`
+/// bytes and then fails.
 pub fn obey_on(
     rt: &(impl Abort + AllocGlobal),
     words: &[&str],

@@ -4,8 +4,8 @@ use crate::playable::playable_game;
 use ps_solve::{Solved, Unwatched, solve_level};
 use std::process::Abort;
 
-/// The objects: eight tiles, and the spot of each. The Player stands where no tile is. A tile that isn't there is in its
-/// order.
+/// The objects: eight tiles, and the spot of each. The Player stands where no tile is. A tile that isn't there is in
+/// its order.
 const OBJECTS: &str =
     "title Eight\nOBJECTS\nBackground .\nblack\nPlayer P\nwhite\nOne\nred\nTwo\nred\nThree\nred\nFour\nred\nFive\nred\n\
     Six\nred\nSeven\nred\nEight\nred\nSpotOne\nblue\nSpotTwo\nblue\nSpotThree\nblue\nSpotFour\nblue\n\
