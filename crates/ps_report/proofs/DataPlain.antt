@@ -1,5 +1,5 @@
 -- No object on a text has a number with a point: so its text is the compact one.
-use Rattle.std.proofs.Common.{◌≡◌, ◌∙◌, ℕ, Bool, true, false, List, [], ◌∷◌, ◌++◌, Option, Some, None, refl, sym, ap}
+use Rattle.std.proofs.Common.{◌≡◌, ℕ, Bool, true, false, List, [], ◌∷◌, Option, Some, None, refl}
 use Rattle.std.proofs.Common.{length}
 use Rattle.std.specs.Prelude.{nat_le}
 use Rattle.ps_model.specs.declared.faults.Fault.{Fault}
@@ -14,7 +14,7 @@ use Rattle.serde_json.specs.View.{items_of}
 use Rattle.serde_json.specs.Written.{has_float, items_have_float, members_have_float}
 use Rattle.ps_report.specs.Objects.{IsFaultTold, counts_of, game_data, levels_data, object_with, refused_data}
 use Rattle.ps_report.specs.Pages.{StandFor}
-use Rattle.ps_report.specs.Preludes.{Said, nothing_said, said_by, said_by_lines, said_in, said_unless}
+use Rattle.ps_report.specs.Preludes.{Said, said_by, said_unless}
 use Rattle.ps_report.specs.ToldWarnings.{last_members, told_warnings, warning_members, warnings_data}
 use Rattle.ps_report.specs.declared.details.How.{How}
 use Rattle.ps_warnings.specs.declared.kinds.Warning.{Warning}

@@ -1,5 +1,5 @@
 -- What is made of the parts of an object on a text is the object, and its line.
-use Rattle.std.proofs.Common.{◌≡◌, ◌∙◌, ℕ, Bool, true, false, List, [], refl, ap, subst, length, take}
+use Rattle.std.proofs.Common.{◌≡◌, ◌∙◌, ℕ, Bool, true, false, List, [], refl, ap, length, take}
 use Rattle.std.specs.Prelude.{nat_le}
 use Rattle.ps_model.specs.declared.faults.Fault.{Fault}
 use Rattle.ps_model.specs.game.Games.{Game}

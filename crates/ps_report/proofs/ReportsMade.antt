@@ -1,9 +1,7 @@
 -- What a check tells of a text that is a game, and of one that is none.
 use Rattle.std.proofs.Common.{◌≡◌, ◌∙◌, ◌+◌, ◌++◌, ℕ, List, [], Option, Some, None, true, false, sym, ap, subst}
 use Rattle.std.specs.Prelude.{is_some}
-use Rattle.ps_model.specs.declared.faults.Fault.{Fault}
-use Rattle.ps_model.specs.text.Faults.{first_fault}
-use Rattle.ps_model.specs.game.Games.{Game, faults, game}
+use Rattle.ps_model.specs.game.Games.{Game, game}
 use Rattle.ps_check.specs.Checks.{check_line}
 use Rattle.ps_game.specs.ToldFaults.{told_faults}
 use Rattle.ps_report.specs.EditorLines.{IsEditorPage}

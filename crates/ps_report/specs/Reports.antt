@@ -1,5 +1,5 @@
 -- What a check tells of a text, in each form.
-use Rattle.std.specs.Prelude.{◌≡◌, ◌+◌, ℕ, nat_eq, Bool, true, false, ◌&&◌, ◌||◌, not, if◌then◌else◌, List, [], ◌++◌}
+use Rattle.std.specs.Prelude.{◌≡◌, ◌+◌, ℕ, nat_eq, Bool, true, false, ◌&&◌, ◌||◌, not, List, [], ◌++◌}
 use Rattle.std.specs.Prelude.{length, is_some}
 use Rattle.ps_model.specs.game.Games.{game}
 use Rattle.ps_check.specs.Checks.{check_line}

@@ -1,7 +1,7 @@
 -- Where the entries of LEVELS begin, a line further.
 use Rattle.std.proofs.Common.{◌≡◌, ◌∙◌, ◌++◌, ◌+◌, ◌<◌, ◌≤◌, ℕ, Bool, true, false, List, [], ◌∷◌, length, map, refl}
-use Rattle.std.proofs.Common.{sym, ap, append_assoc, arith}
-use Rattle.std.specs.Prelude.{◌&&◌, ◌||◌, not, if◌then◌else◌}
+use Rattle.std.proofs.Common.{sym, ap, append_assoc}
+use Rattle.std.specs.Prelude.{◌&&◌, ◌||◌, not}
 use Rattle.std.specs.List.{take_while}
 use Rattle.std.proofs.lemmas.List.{map-append}
 use Rattle.ps_model.specs.text.Lines.{Line, lines_of}

@@ -10,7 +10,7 @@ use Rattle.ps_model.specs.text.Lines.{Line, lines_of}
 use Rattle.ps_model.specs.text.Sections.{section_lines, heading_faults}
 use Rattle.ps_model.specs.names.Names.{Names}
 use Rattle.ps_model.specs.rules.SourceRules.{RuleLine}
-use Rattle.ps_model.specs.session.LevelLines.{Entry, EntryLines, entries_read, entry_lines, entry_of_lines}
+use Rattle.ps_model.specs.session.LevelLines.{Entry, entries_read, entry_lines}
 use Rattle.ps_model.specs.game.Games.{Game, faults, faults_beside, game, game_of_lines, game_read, unless}
 use Rattle.ps_laws.proofs.texts.OneGame.{fault_bars_game, first_is_fault}
 use Rattle.ps_warnings.specs.declared.kinds.Warning.{Warning}

@@ -1,4 +1,4 @@
-use Rattle.std.proofs.Common.{◌≡◌, ◌∙◌, ◌++◌, ℕ, Bool, List, length, ap, ap₂}
+use Rattle.std.proofs.Common.{◌∙◌, ◌++◌, Bool, List, length, ap, ap₂}
 use Rattle.std.specs.Prelude.{◌&&◌, ◌||◌, not, nat_eq, string_bytes}
 use Rattle.ps_warnings.specs.declared.kinds.Warning.{Warning}
 use Rattle.ps_report.specs.WarningLines.{warning_lines}

@@ -1,9 +1,8 @@
-use Rattle.std.proofs.Common.{rules, ◌≡◌, ◌∙◌, ◌++◌, ℕ, List, Option, true, ap, ap₂, sym, subst}
+use Rattle.std.proofs.Common.{rules, ◌≡◌, ◌∙◌, ◌++◌, List, true, ap, ap₂, sym, subst}
 use Rattle.std.specs.Prelude.{OnOk}
 use Rattle.ps_model.specs.text.Lines.{first_word}
 use Rattle.ps_model.specs.text.LineNumbers.{line_at}
 use Rattle.ps_laws.proofs.common.LinesInOrder.{line_at-number}
-use Rattle.ps_warnings.specs.declared.kinds.PreludeWord.{PreludeWord}
 use Rattle.ps_warnings.specs.declared.kinds.Warning.{Warning}
 use Rattle.ps_warnings.specs.OptionWarnings.{warnings_of_option, warnings_of_word}
 use Rattle.ps_warnings.specs.PreludeWords.{misspelt}

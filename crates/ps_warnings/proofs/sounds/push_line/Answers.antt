@@ -1,10 +1,9 @@
-use Rattle.std.proofs.Common.{rules, ◌≡◌, ◌∙◌, ◌++◌, ℕ, List, true, ap, ap₂, sym, subst}
+use Rattle.std.proofs.Common.{rules, ◌≡◌, ◌∙◌, ◌++◌, ℕ, List, true, ap₂, sym, subst}
 use Rattle.std.specs.Prelude.{OnOk}
-use Rattle.std.specs.List.{list_any}
 use Rattle.ps_model.specs.text.LineNumbers.{line_at}
 use Rattle.ps_laws.proofs.common.LinesInOrder.{line_at-number}
 use Rattle.ps_warnings.specs.Numbers.{number_if}
-use Rattle.ps_warnings.specs.Sounds.{has_sound, is_sound, sounding_line}
+use Rattle.ps_warnings.specs.Sounds.{has_sound, sounding_line}
 use Rattle.ps_warnings.proofs.LinesPassed.{made_here}
 use Rattle.ps_warnings.proofs.sounds.push_line.Goals as goal
 

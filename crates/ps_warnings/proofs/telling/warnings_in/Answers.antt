@@ -1,4 +1,4 @@
-use Rattle.std.proofs.Common.{◌≡◌, ◌∙◌, ◌++◌, List, ap}
+use Rattle.std.proofs.Common.{◌∙◌, ◌++◌, List, ap}
 use Rattle.ps_model.specs.text.Lines.{lines_of}
 use Rattle.ps_model.specs.text.LineNumbers.{lines_between}
 use Rattle.ps_model.specs.game.Games.{Game}
