@@ -79,7 +79,7 @@ pub struct Question {
 
 impl Question {
     /// In which form answers are told.
-    fn form(&self) -> Form
+    pub fn form(&self) -> Form
         ensures { result ≡ form_of self.now }
     {
         if self.is_data {
@@ -113,14 +113,14 @@ impl Question {
 
 /// What searches texts for levels that can be won.
 #[derive(Drop)]
-struct Search<'s, R: Files + AllocGlobal + Clock + Eprint, S: LevelSolver> {
-    rt: &'s R,
-    solver: &'s S,
-    question: Question,
+pub struct Search<'s, R: Files + AllocGlobal + Clock + Eprint, S: LevelSolver> {
+    pub rt: &'s R,
+    pub solver: &'s S,
+    pub question: Question,
     /// Whether it is said on standard error how far the search is.
-    is_watched: bool,
+    pub is_watched: bool,
     /// The file that ends the search once it is there, if one is named.
-    stop_file: Option<&'s str>,
+    pub stop_file: Option<&'s str>,
 }
 
 impl<'s, R: Files + AllocGlobal + Clock + Eprint, S: LevelSolver> Search<'s, R, S> {
@@ -262,7 +262,7 @@ impl<'s, R: Files + AllocGlobal + Clock + Eprint, S: LevelSolver> Search<'s, R, 
     }
 
     /// Says of a text that is no game which fault it has first.
-    fn tell_refused<O: ByteWriter>(
+    pub fn tell_refused<O: ByteWriter>(
         &self,
         path: &str,
         text: &[u8],
