@@ -94,7 +94,7 @@ fn the_level_has_a_line_to_which_keys_lead(rt: HostRuntime) -> Result<(), Fail> 
         level: Some(2),
         keys: b"d",
     };
-    says_after(&rt, run, "level 2: won in 1 key: a\n", won)
+    says_after(&rt, run, "level 2: won in 2 keys: aa\n", won)
 }
 
 #[test]
