@@ -47,6 +47,8 @@ how_refused asked = record {
   detail = detail.Line;
   most = 1;
   counts = false;
+  warns = false;
+  strict = false;
 }
 
 -- lines on levels of some text of this name, which can all be won

@@ -2,7 +2,9 @@
 
 use crate::after_keys::SolveAfter;
 use crate::files::STANDARD_INPUT;
-use crate::report_options::{all_option, asked_report, format_option, limit_option, wants_report};
+use crate::report_options::{
+    all_option, asked_report, format_option, limit_option, strict_option, wants_report, warn_option,
+};
 use crate::searches::{
     after_option, fitting, solve_option, states_asked, states_option, stop_option, tasks,
     wants_data, words_to_solve,
@@ -110,6 +112,8 @@ pub fn read_command<'w, S: AsStr>(alloc: Global, words: &'w [S]) -> Result<Asked
         .arg(all_option(alloc)?)?
         .arg(limit_option(alloc)?)?
         .arg(format_option(alloc)?)?
+        .arg(warn_option(alloc)?)?
+        .arg(strict_option(alloc)?)?
         .arg(solve_option(alloc)?)?
         .arg(states_option(alloc)?)?
         .arg(after_option(alloc)?)?
@@ -408,6 +412,8 @@ fn explain_option(alloc: Global) -> Result<Arg<'static>, AllocError> {
             "all",
             "limit",
             "format",
+            "warn",
+            "strict",
             "solve",
             "states",
             "after",

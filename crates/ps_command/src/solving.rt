@@ -107,6 +107,8 @@ impl Question {
             detail: Detail::Line,
             most: 1,
             counts: false,
+            warns: false,
+            strict: false,
         }
     }
 }

@@ -2,7 +2,7 @@
 
 ghost use Rattle.std.specs.Prelude.{IsErr};
 
-use crate::games::{CUT_SHORT, PUSHING, THREE_LEVELS, TWO_LEVELS};
+use crate::games::{CUT_SHORT, PUSHING, THREE_LEVELS, TWO_LEVELS, WARNED};
 use ps_model::TEXT_LIMIT;
 use std::alloc::{Allocator, Global};
 use std::cell::RefCell;
@@ -21,10 +21,10 @@ const KEYS: &[u8] = b"q";
 const SIZE: &[u8] = b"10x20\n";
 
 /// A machine with the words of a command line. Each file whose name ends with `.keys` has the same keys, but for
-/// `right.keys`, and one with `.size` the same size; `cut.game` has a text that ends before its levels, `two.game` the game [`TWO_LEVELS`],
-/// `three.game` the game [`THREE_LEVELS`], and each other one the game [`PUSHING`]. In `long.game` and `too-long.game`
-/// line feeds stand before it. With them it has as many bytes as a text may have, and one more. There is neither a
-/// `lost.game` nor a `lost.keys` nor a `lost.size`, nor a clock.
+/// `right.keys`, and one with `.size` the same size; `cut.game` has a text that ends before its levels, `two.game` the
+/// game [`TWO_LEVELS`], `three.game` the game [`THREE_LEVELS`], `warned.game` the game [`WARNED`], and each other one
+/// the game [`PUSHING`]. In `long.game` and `too-long.game` line feeds stand before it. With them it has as many bytes
+/// as a text may have, and one more. There is neither a `lost.game` nor a `lost.keys` nor a `lost.size`, nor a clock.
 #[derive(Drop)]
 pub struct Machine<'w> {
     alloc: Global,
@@ -195,6 +195,7 @@ fn file_of(name: &str) -> OpenedFile {
         "cut.game" => (0, CUT_SHORT),
         "two.game" => (0, TWO_LEVELS),
         "three.game" => (0, THREE_LEVELS),
+        "warned.game" => (0, WARNED),
         "long.game" => (room, PUSHING),
         "too-long.game" => (room.saturating_add(1), PUSHING),
         "right.keys" => (0, b"d"),
