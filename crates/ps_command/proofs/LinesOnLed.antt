@@ -33,7 +33,7 @@ module _ (asked : Question) (name text keys : List ℕ) (form : Form) (before af
 
 -- what is told of a text that is refused
 pub led_refused : (asked : Question) (name text keys : List ℕ) (before after : Option (List ℕ)) →
-    Tells (IsLineOnRefused asked name) before after → Tells (IsLineOnUnwon asked name text keys) before after
+    Tells (IsLineOnRefused asked name text) before after → Tells (IsLineOnUnwon asked name text keys) before after
 led_refused asked name text keys before after told =
     record { lines = told.lines; are = inr told.are; wrote = told.wrote }
 

@@ -27,7 +27,8 @@ IsLineOnWon asked name text keys line = IsLineOnLed asked name text keys true li
 
 -- that of one that can't, or isn't known to; or, of a text that is refused, what a check tells
 abbrev pub IsLineOnUnwon : Question → List ℕ → List ℕ → List ℕ → List ℕ → Type 0
-IsLineOnUnwon asked name text keys line = IsLineOnLed asked name text keys false line ⊎ IsLineOnRefused asked name line
+IsLineOnUnwon asked name text keys line =
+    IsLineOnLed asked name text keys false line ⊎ IsLineOnRefused asked name text line
 
 -- a text and keys that were read: what a reader has given is one of them, where that is asked for by the name `-`
 pub record AreRead (asked : SolveAfter) (had left : Option (List ℕ)) (text keys : List ℕ) : Type 0 where

@@ -60,6 +60,7 @@ fn question_of(asked: SolveAfter<'_>) -> Question
 ///
 /// `NotAccepted` where the level isn't known to be won, or the text is no game; `NoLevelThere` where the keys lead to
 /// no level; `NoSuchLevel` where the game lacks the one at which the run is to begin.
+#[tactic(auto, using(crate::proofs::LinesOnLed::told_of_read))]
 pub fn solve_after_asked<
     R: Files + AllocGlobal + Clock + Eprint,
     P: Player,
@@ -96,6 +97,7 @@ pub fn solve_after_asked<
 
 impl<'s, R: Files + AllocGlobal + Clock + Eprint, S: LevelSolver> Search<'s, R, S> {
     /// Says of the level to which keys lead, in the game of a text, whether it can be won from there.
+    #[tactic(auto, using(crate::proofs::LinesOnLed::led_refused))]
     fn solve_led<O: ByteWriter>(
         &self,
         path: &str,
@@ -121,6 +123,7 @@ impl<'s, R: Files + AllocGlobal + Clock + Eprint, S: LevelSolver> Search<'s, R, 
     }
 
     /// The same of a game whose text has this name.
+    #[tactic(auto, using(crate::proofs::LinesOnLed::led_won, crate::proofs::LinesOnLed::led_unwon))]
     fn tell_led<O: ByteWriter>(
         &self,
         path: &str,
