@@ -58,7 +58,7 @@ pub trait SolvableGame: Drop {
         limit: u32,
         watcher: &mut T,
     ) -> Result<SolvedAfter, Memory>
-        requires { HasStart (text self.now) run.entry.level }
+        requires { HasStart (text self.now) run.level }
         ensures { IfOk result (IsSolvedAfterKeys (text self.now) run.entry.level run.entry.keys.now limit) };
 }
 

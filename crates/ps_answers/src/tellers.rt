@@ -216,7 +216,7 @@ impl<'s, G: SolvableGame, T: LevelWatcher> LevelTeller<'s, G, T> {
         writer: &mut W,
     ) -> Result<ToldAfter, TellFault>
         requires well { (W.state writer.old).has_failed ≡ false }
-        requires start { HasStart (G.text self.old.game.now) run.entry.level }
+        requires start { HasStart (G.text self.old.game.now) run.level }
         ensures told { IfOk result (λ told. TellsAfterKeys (G.text self.old.game.now) run.entry.level run.entry.keys.now
             (told_in self.old.form self.old.name.now) self.old.limit told
             (W.state writer.old).contents (W.state writer.new).contents) }
