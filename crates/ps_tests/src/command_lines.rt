@@ -77,7 +77,7 @@ pub const CUT_OBJECT: &str =
     \"levels\":null,\"ok\":false,\"title\":null}\n";
 
 /// The words of command lines that aren't right.
-const BAD_LINES: [&[&str]; 64] = [
+const BAD_LINES: [&[&str]; 71] = [
     &["ps_play", "a.game", "--show", "-"],
     &["ps_play", "--view", "24x80", "--show", "-"],
     &["ps_play", "--describe"],
@@ -146,6 +146,19 @@ const BAD_LINES: [&[&str]; 64] = [
     &["ps_play", "--describe", "a.game", "--states", "5"],
     &["ps_play", "a.game", "--format", "json"],
     &["ps_play", "--explain", "RU7", "--solve"],
+    &["ps_play", "--solve", "a.game", "--after"],
+    &["ps_play", "a.game", "--after", "a.keys"],
+    &[
+        "ps_play", "--solve", "--after", "a.keys", "a.game", "b.game",
+    ],
+    &[
+        "ps_play", "--solve", "--after", "a.keys", "--level", "1", "a.game", "1",
+    ],
+    &["ps_play", "--solve", "--after", "-", "-"],
+    &["ps_play", "--check", "--after", "a.keys", "a.game"],
+    &[
+        "ps_play", "--solve", "--after", "a.keys", "--keys", "a.keys", "a.game",
+    ],
 ];
 
 /// Command lines that ask for a game to be played, and what must come of each.
@@ -503,7 +516,10 @@ const CHECKS: [(Told, &[Line]); 16] = [
             printed: "",
             complained: "",
         },
-        &[(&["ps_play", "--check", "--warn", "warned.game"], "warned.game\n")],
+        &[(
+            &["ps_play", "--check", "--warn", "warned.game"],
+            "warned.game\n",
+        )],
     ),
     // It is 1 where that is asked for, and a game without a mistake is well all the same.
     (
@@ -519,7 +535,13 @@ const CHECKS: [(Told, &[Line]); 16] = [
         },
         &[(
             &[
-                "ps_play", "--check", "--warn", "--strict", "--format", "gnu", "a.game",
+                "ps_play",
+                "--check",
+                "--warn",
+                "--strict",
+                "--format",
+                "gnu",
+                "a.game",
                 "warned.game",
             ],
             "a.game\nwarned.game\n",
