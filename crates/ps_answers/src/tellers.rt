@@ -175,7 +175,8 @@ impl<'s, G: SolvableGame, T: LevelWatcher> LevelTeller<'s, G, T> {
             let won = self.tell_levels(writer)?;
             return Ok(Some(won));
         };
-        if level == 0 || self.game.level_count() < level {
+        let count = self.game.level_count();
+        if level == 0 || count < level {
             return Ok(None);
         }
         let won = self.tell_level(level, writer)?;
