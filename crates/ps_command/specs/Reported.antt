@@ -11,23 +11,23 @@ pub record TellsReportOn (how : How) (name text : List ℕ) (before after : Opti
   pub wrote : Grows before after lines
 
 -- the report of some text, which is well or isn't, as is answered
-pub record IsReportAs (how : How) (name : List ℕ) (is_well : Bool) (lines : List ℕ) : Type 0 where
+pub record IsReportAs (how : How) (name : List ℕ) (well : Bool) (lines : List ℕ) : Type 0 where
   pub text : List ℕ
-  pub is : is_well ≡ is_well how text
+  pub is : well ≡ is_well how text
   pub are : IsReport how name text lines
 
 -- that report is told
-pub record TellsReport (how : How) (name : List ℕ) (is_well : Bool) (before after : Option (List ℕ)) : Type 0 where
+pub record TellsReport (how : How) (name : List ℕ) (well : Bool) (before after : Option (List ℕ)) : Type 0 where
   pub lines : List ℕ
-  pub are : IsReportAs how name is_well lines
+  pub are : IsReportAs how name well lines
   pub wrote : Grows before after lines
 
 -- of what a reader has given, a text that is well or isn't, as is answered, its report is told
-pub record TellsReportGiven (how : How) (name : List ℕ) (is_well : Bool) (had left : Option (List ℕ))
+pub record TellsReportGiven (how : How) (name : List ℕ) (well : Bool) (had left : Option (List ℕ))
     (before after : Option (List ℕ)) : Type 0 where
   pub text : List ℕ
   pub given : Loses had left text
-  pub is : is_well ≡ is_well how text
+  pub is : well ≡ is_well how text
   pub told : TellsReportOn how name text before after
 
 -- the report of some text that is well
@@ -36,8 +36,8 @@ IsReportOfGame how name lines = IsReportAs how name true lines
 
 -- that of some text
 pub record IsReportOfText (how : How) (name lines : List ℕ) : Type 0 where
-  pub is_well : Bool
-  pub are : IsReportAs how name is_well lines
+  pub well : Bool
+  pub are : IsReportAs how name well lines
 
 -- the same, or nothing, for a file that can't be read
 abbrev pub IsReportOfFile : How → List ℕ → List ℕ → Type 0

@@ -27,7 +27,7 @@ pub fn report_bytes<O: ByteWriter>(
 ) -> Result<bool, Stop>
     requires well { (O.state screen.old).has_failed ≡ false }
     ensures well { OnOk result ((O.state screen.new).has_failed ≡ false) }
-    ensures is { IfOk result (λ is_well. is_well ≡ is_well how text.now) }
+    ensures is { IfOk result (λ well. well ≡ is_well how text.now) }
     ensures told { OnOk result (TellsReportOn how name.now text.now
         (O.state screen.old).contents (O.state screen.new).contents) }
     ensures fault { IfErr result (λ stop. stop ≢ Stop.NotAccepted) }
@@ -84,7 +84,7 @@ fn report_one<R: Files + AllocGlobal + Eprint, I: ByteReader, O: ByteWriter>(
     ensures heard { OnOk result ((I.state input.new).has_failed ≡ false) }
     ensures well { OnOk result ((O.state screen.new).has_failed ≡ false) }
     ensures unread { result ≡ Ok None → (O.state screen.new).contents ≡ (O.state screen.old).contents }
-    ensures told { IfOk result (λ said. IfSome said (λ is_well. TellsReport how path.now is_well
+    ensures told { IfOk result (λ said. IfSome said (λ well. TellsReport how path.now well
         (O.state screen.old).contents (O.state screen.new).contents)) }
     ensures fault { IfErr result (λ stop. stop ≢ Stop.NotAccepted) }
 {
