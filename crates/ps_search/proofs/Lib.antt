@@ -1,4 +1,5 @@
 mod Known
+mod Links
 mod Ways
 mod Leads
 mod Numbers

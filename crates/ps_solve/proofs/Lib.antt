@@ -1,5 +1,7 @@
 mod SearchedSpots
 mod KeptKeys
+mod KeptSituations
+mod MoreSpots
 mod Led
 mod KeyRooms
 mod Standing

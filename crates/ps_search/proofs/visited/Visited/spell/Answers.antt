@@ -6,7 +6,7 @@ use Rattle.ps_search.proofs.visited.Visited.spell.Goals as goal
 
 pub loop-input-preserved : goal.loop-input-preserved
 loop-input-preserved g c =
-    let links = c.args.self.now.links.items in
+    let links = (links_of c.args.self.now.parents.items c.args.self.now.inputs.items) in
     let at = c.loop-input.at in
     let first : slice_get links at ≡ Some c.index.result.now = slice_get_read links (length links) at c.index.result.now refl c.loop-input.invariant.below c.index.ensures in
     let link = c.index-in-Some.result.now in
@@ -23,7 +23,7 @@ loop-input-preserved g c =
 
 pub returns : goal.returns
 returns g c =
-    let links = c.args.self.now.links.items in
+    let links = (links_of c.args.self.now.parents.items c.args.self.now.inputs.items) in
     let link = c.index.result.now in
     let is : slice_get links c.loop-input.at ≡ Some link = slice_get_read links (length links) c.loop-input.at link refl c.loop-input.invariant.below c.index.ensures in
     let told : c.reverse.new.self.items ≡ reverse c.loop-input.inputs.items = c.reverse.ensures.items in
