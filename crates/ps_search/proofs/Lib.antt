@@ -1,9 +1,9 @@
 mod Known
-mod Links
 mod Ways
 mod Leads
 mod Numbers
 mod Progress
 mod Spelling
+mod Links
 mod Keeping
 mod Answering

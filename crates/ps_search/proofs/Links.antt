@@ -1,7 +1,8 @@
 -- Links are lists of parents and of inputs.
 use Rattle.std.proofs.Common.{◌≡◌, ℕ, zero, suc, ◌<◌, List, [], ◌∷◌, ◌++◌, length, Option, Some, slice_get, refl, ap, arith}
 use Rattle.ps_search.specs.declared.visited.Link.{Link}
-use Rattle.ps_search.specs.Ways.{links_of}
+use Rattle.ps_search.specs.Ways.{links_of, AreOrdered}
+use Rattle.ps_search.proofs.Spelling.{parent_before}
 
 module _ {Input : Type 0} where
   -- there is a link for each parent
@@ -35,3 +36,11 @@ module _ {Input : Type 0} where
       let two : own ≡ input = cc in cc
   link_at (other ∷ parents) (own ∷ inputs) (suc number) parent input at_parent at_input =
       link_at parents inputs number parent input at_parent at_input
+
+  -- a link with an input has a parent before it
+  pub before_link : (parents : List ℕ) (inputs : List (Option Input)) (number parent : ℕ) (input : Input) →
+      AreOrdered (links_of parents inputs) → slice_get parents number ≡ Some parent →
+      slice_get inputs number ≡ Some (Some input) → parent < number
+  before_link parents inputs number parent input ordered at_parent at_input =
+      parent_before (links_of parents inputs) ordered number (record { parent = parent; input = Some input })
+      (link_at parents inputs number parent (Some input) at_parent at_input) input refl

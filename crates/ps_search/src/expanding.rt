@@ -4,6 +4,7 @@ ghost use Rattle.std.specs.Prelude.{◌≡◌, ◌<◌, ◌≤◌, Option, lengt
 ghost use Rattle.std.specs.List.{Contains};
 ghost use Rattle.ps_search.specs.Answers.{IsReason};
 ghost use Rattle.ps_search.specs.Searched.{Kept, UnderWork, IsNumbered, IsLed, IsDone};
+ghost use Rattle.ps_search.specs.Ways.{links_of};
 
 use crate::answers::Why;
 use crate::layers::Layer;

@@ -2,7 +2,7 @@
 
 ghost use Rattle.std.specs.Prelude.{◌≡◌, ◌<◌, ◌≤◌, ◌∷◌, ◌++◌, [], length, IfErr, IfOk};
 ghost use Rattle.ps_search.specs.Answers.{IsAnswer, IsReason, IsWon};
-ghost use Rattle.ps_search.specs.Ways.{way, AreOrdered};
+ghost use Rattle.ps_search.specs.Ways.{links_of, way, AreOrdered};
 ghost use Rattle.ps_search.specs.Searched.{Kept};
 
 use crate::answers::{Found, Why};

@@ -50,8 +50,10 @@ impl<K: Eq + Hash + Drop, I: Copy> Drop for Visited<K, I> {
 fn push_link<I: Copy>(parents: &mut Vec<u32>, inputs: &mut Vec<Option<I>>, link: Link<I>)
     requires parents { vec_len parents.old < vec_capacity parents.old }
     requires inputs { vec_len inputs.old < vec_capacity inputs.old }
-    ensures parents { parents.new.items ≡ parents.old.items ++ link.parent ∷ [] }
-    ensures inputs { inputs.new.items ≡ inputs.old.items ++ link.input ∷ [] }
+    requires paired { length inputs.old.items ≡ length parents.old.items }
+    ensures links { links_of parents.new.items inputs.new.items
+        ≡ links_of parents.old.items inputs.old.items ++ link ∷ [] }
+    ensures paired { length inputs.new.items ≡ length parents.new.items }
 {
     parents.push_reserved(link.parent);
     inputs.push_reserved(link.input);

@@ -46,10 +46,7 @@ impl<'g, W: ColumnWords, const N: usize> Drop for NumberedSearch<'g, W, N> {
 
 impl<'g, W: ColumnWords, const N: usize> NumberedSearch<'g, W, N> {
     /// A search from where another one begins.
-    pub(crate) fn new(
-        alloc: Global,
-        search: LevelSearch<'g, W, N>,
-    ) -> NumberedSearch<'g, W, N>
+    pub(crate) fn new(alloc: Global, search: LevelSearch<'g, W, N>) -> NumberedSearch<'g, W, N>
         requires { N ≤ 64 }
         ensures { result.search ≡ search }
     {

@@ -62,7 +62,7 @@ fn is_whole(why: Unsolved, limit: u32, more: u32) -> bool
     }
 }
 
-/// Whether the answer of a search that keeps so many spots at most is that of one that keeps more, too.
+/// Whether the answer of a search that keeps `limit` spots at most is that of one that keeps `more`, too.
 fn is_answer_for(solved: &Option<Solved>, limit: u32, more: u32) -> bool
     requires { limit ≤ more }
     ensures { result ≡ true → (script : Script) (session : State) →

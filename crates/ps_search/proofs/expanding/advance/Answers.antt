@@ -1,5 +1,6 @@
 use Rattle.ps_search.specs.declared.moves.Step.TheVariants.{Same, To}
 use Rattle.ps_search.proofs.Keeping.{work_on, numbered_on, told, here_numbered, noted_on}
+use Rattle.ps_search.specs.Ways.{links_of}
 use Rattle.ps_search.proofs.expanding.advance.Goals as goal
 
 pub returns-in-Ok-Same-clause-work : goal.returns-in-Ok-Same-clause-work

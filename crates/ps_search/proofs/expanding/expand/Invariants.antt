@@ -1,6 +1,7 @@
 use Rattle.std.proofs.Common.{◌≡◌, ◌≤◌, length, map, take}
 use Rattle.std.specs.List.{All}
 use Rattle.ps_search.specs.Searched.{UnderWork, IsNumbered}
+use Rattle.ps_search.specs.Ways.{links_of}
 use Rattle.ps_search.proofs.expanding.expand.Given as goal
 
 abbrev pub invariant-loop-input : goal.invariant-loop-input

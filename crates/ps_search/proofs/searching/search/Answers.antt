@@ -1,6 +1,7 @@
 use Rattle.std.proofs.Common.{◌<◌, sym, subst, ◌∙◌, length, arith, None, Some}
 use Rattle.ps_search.specs.Answers.{IsReason}
 use Rattle.ps_search.proofs.Answering.{stopped, ended, moved, told, done_as, before_end}
+use Rattle.ps_search.specs.Ways.{links_of}
 use Rattle.ps_search.proofs.searching.search.Goals as goal
 
 pub returns-then-not-goes_on-clause-answer : goal.returns-then-not-goes_on-clause-answer

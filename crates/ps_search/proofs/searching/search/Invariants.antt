@@ -1,5 +1,6 @@
 use Rattle.std.proofs.Common.{◌≡◌, ◌≤◌, ◌-◌, length}
 use Rattle.ps_search.specs.Searched.{Kept}
+use Rattle.ps_search.specs.Ways.{links_of}
 use Rattle.ps_search.proofs.searching.search.Given as goal
 
 abbrev pub invariant-loop-layer : goal.invariant-loop-layer
