@@ -1,7 +1,5 @@
 mod SearchedSpots
 mod KeptKeys
-mod KeptSituations
-mod MoreSpots
 mod Led
 mod KeyRooms
 mod Standing

@@ -1,5 +1,4 @@
 pub mod SpotKeys
 pub mod Searches
-pub mod Situations
 pub mod SolvedLevels
 pub mod ReadTexts

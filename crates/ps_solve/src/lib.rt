@@ -7,11 +7,9 @@
 #![tactic(auto)]
 
 mod level_search;
-mod numbered_search;
 mod own_boards;
 mod played;
 mod sessions;
-mod situations;
 mod solved;
 mod solver;
 mod solving;
