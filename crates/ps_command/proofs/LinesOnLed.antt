@@ -1,6 +1,6 @@
 -- The line on the level to which the keys of a run lead.
-use Rattle.std.proofs.Common.{◌≡◌, ◌≢◌, ◌∙◌, ℕ, inl, inr, List, Option, Bool, true, false, refl, subst, sym, ap}
-use Rattle.std.specs.Prelude.{codes}
+use Rattle.std.proofs.Common.{◌≡◌, ◌≢◌, ℕ, inl, inr, List, Option, Bool, true, false, Result, Ok, Err, subst, sym}
+use Rattle.std.specs.Prelude.{OnOk, codes}
 use Rattle.ps_answers.specs.Forms.{told_in}
 use Rattle.ps_answers.specs.TellsAfterKeys.{IsLineAfterKeys}
 use Rattle.ps_answers.specs.TellsLevels.{Tells}
@@ -54,3 +54,8 @@ told_of_read asked Is question had between left text keys before after is given 
   };
   told = subst (λ (q : Question). Tells (Is q asked.game.now text keys) before after) is told;
 }
+
+-- what follows from what is so where all is well, is so then
+pub told_if_well : {A E P Q : Type 0} → (result : Result A E) → (P → Q) → OnOk result P → OnOk result Q
+told_if_well (Ok value) so is = so is
+told_if_well (Err fault) so is = tt

@@ -53,10 +53,11 @@ impl SolvableText {
         requires { HasStart self.now.text level }
         ensures { script_from self.now.text level ≡ Some (script_at self.now.read result) }
     {
+        let entries = &self.game.entries;
         let Some(level) = level else {
             return 0;
         };
-        match level_entry(&self.game.entries, level) {
+        match level_entry(entries, level) {
             Some(entry) => entry,
             // The text's game has the level.
             None => unreachable!(),
