@@ -36,10 +36,6 @@ fn without_memory<B: Board, H: History<B>>(session: &Session<'_, B, H>) -> Optio
     }
 }
 
-/// How many spots the first search of a level keeps, with keys of one word. Most levels with more spots need two words in
-/// the end, and those that show it so soon need three.
-const FIRST_SPOTS: u32 = 200;
-
 /// Whether wider keys may find more.
 fn is_full(solved: &Option<Solved>) -> bool {
     match solved {
@@ -75,44 +71,8 @@ fn solve_with<'g, W: ColumnWords, T: Watcher, const N: usize>(
     }
 }
 
-/// The same with keys of more than three words, up to 64.
-fn solve_with_many<'g, W: ColumnWords, T: Watcher>(
-    alloc: Global,
-    session: &Session<'g, RowBoard<W>, RowHistory<W>>,
-    sections: RuleSections<'g>,
-    limit: u32,
-    watcher: &mut T,
-) -> Option<Solved>
-    ensures { (script : Script) → PlaysAs script (script_for ⟦<RowBoard<W> as Board>⟧.table_for session.now.game
-        (meant_of sections.entry.plain.now) (meant_of sections.entry.late.now))
-        → IsSolvedIn script session.now.session limit result }
-{
-    let solved = solve_with::<W, T, 4>(alloc, session, sections, limit, watcher);
-    if !is_full(&solved) {
-        return solved;
-    }
-    let solved = solve_with::<W, T, 16>(alloc, session, sections, limit, watcher);
-    if !is_full(&solved) {
-        return solved;
-    }
-    solve_with::<W, T, 64>(alloc, session, sections, limit, watcher)
-}
-
-/// Whether the level may need keys of more than two words: a search of few spots finds that one is too few.
-fn needs_many<'g, W: ColumnWords, T: Watcher>(
-    alloc: Global,
-    session: &Session<'g, RowBoard<W>, RowHistory<W>>,
-    sections: RuleSections<'g>,
-    limit: u32,
-    watcher: &mut T,
-) -> bool {
-    let few = limit.min(FIRST_SPOTS);
-    let solved = solve_with::<W, T, 1>(alloc, session, sections, few, watcher);
-    is_full(&solved)
-}
-
 /// The same with keys of as many words as the level needs, up to 64: where keys are full, the search begins anew with
-/// wider ones. What changes is known as it is met, so a first search, of few spots, shows how wide keys are to be.
+/// wider ones.
 fn solve_widely<'g, W: ColumnWords, T: Watcher>(
     alloc: Global,
     session: &Session<'g, RowBoard<W>, RowHistory<W>>,
@@ -124,17 +84,19 @@ fn solve_widely<'g, W: ColumnWords, T: Watcher>(
         (meant_of sections.entry.plain.now) (meant_of sections.entry.late.now))
         → IsSolvedIn script session.now.session limit result }
 {
-    if !needs_many(alloc, session, sections, limit, watcher) {
-        let solved = solve_with::<W, T, 2>(alloc, session, sections, limit, watcher);
-        if !is_full(&solved) {
-            return solved;
-        }
-    }
-    let solved = solve_with::<W, T, 3>(alloc, session, sections, limit, watcher);
+    let solved = solve_with::<W, T, 1>(alloc, session, sections, limit, watcher);
     if !is_full(&solved) {
         return solved;
     }
-    solve_with_many(alloc, session, sections, limit, watcher)
+    let solved = solve_with::<W, T, 4>(alloc, session, sections, limit, watcher);
+    if !is_full(&solved) {
+        return solved;
+    }
+    let solved = solve_with::<W, T, 16>(alloc, session, sections, limit, watcher);
+    if !is_full(&solved) {
+        return solved;
+    }
+    solve_with::<W, T, 64>(alloc, session, sections, limit, watcher)
 }
 
 /// Whether the level in which a session is can be won from there, and by how few directions and `x`; nothing where it
