@@ -17,6 +17,9 @@ use std::time::{Clock, Duration};
 /// The keys of each file of keys but `right.keys`.
 const KEYS: &[u8] = b"q";
 
+/// The key of `right.keys`.
+const RIGHT: &[u8] = b"d";
+
 /// The size of a terminal in each file of sizes.
 const SIZE: &[u8] = b"10x20\n";
 
@@ -198,7 +201,7 @@ fn file_of(name: &str) -> OpenedFile {
         "warned.game" => (0, WARNED),
         "long.game" => (room, PUSHING),
         "too-long.game" => (room.saturating_add(1), PUSHING),
-        "right.keys" => (0, b"d"),
+        "right.keys" => (0, RIGHT),
         _ if name.ends_with(".keys") => (0, KEYS),
         _ if name.ends_with(".size") => (0, SIZE),
         _ => (0, PUSHING),
