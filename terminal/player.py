@@ -68,6 +68,7 @@ class Player:
 
     def __init__(self, path):
         self.path = path
+        self._help = None
 
     def describe(self, game):
         """What it says of the game; raises Fault where the text has one."""
@@ -79,20 +80,35 @@ class Player:
             raise Fault(told.stdout + told.stderr, status_of(told.returncode))
         return Described(json.loads(told.stdout))
 
-    def begins_at_levels(self):
-        """Whether it knows the option --level."""
-        told = subprocess.run([self.path, "--help"], stdin=subprocess.DEVNULL, capture_output=True)
-        return any(line.split()[:1] == [b"--level"] for line in told.stdout.splitlines())
+    def knows(self, option):
+        """Whether it has an option of that name."""
+        if self._help is None:
+            told = subprocess.run([self.path, "--help"], stdin=subprocess.DEVNULL, capture_output=True)
+            self._help = [word for line in told.stdout.splitlines() for word in line.split()[:1]]
+        return option.encode() in self._help
+
+    def solve_after(self, game, level, keys, states, seconds):
+        """What is said of the level to which keys of a run lead that began at a level; None where it takes longer."""
+        asked = [*_from(level), "--solve", "--states", str(states), "--after", "-"]
+        try:
+            told = subprocess.run([self.path, game, *asked], input=keys, capture_output=True, timeout=seconds)
+        except (subprocess.TimeoutExpired, OSError):
+            return None
+        return told.stdout
+
+
+def _from(level):
+    """The words by which a run begins at a level, or at the start."""
+    return ["--level", str(level)] if level is not None else []
 
 
 class Run:
     """A run of a game: key bytes go in, its output comes out at `output`."""
 
     def __init__(self, player, game, level=None):
-        at = ["--level", str(level)] if level is not None else []
         self._told = tempfile.TemporaryFile()
         self._process = _start(
-            [player.path, game, *at],
+            [player.path, game, *_from(level)],
             [signal.SIGINT, signal.SIGQUIT],
             stdout=subprocess.PIPE,
             stderr=self._told,

@@ -20,14 +20,15 @@ _QUIET_FOR_MOVES = 0.004
 _PATIENCE = 3.0
 
 _GO_ON = (Key.ACT, Key.ENTER, Key.SPACE)
-_CAREFUL = _GO_ON + (Key.QUIT, Key.HELP)
+_CAREFUL = _GO_ON + (Key.QUIT, Key.HELP, Key.HINT)
 _PLAYED = (Key.UP, Key.LEFT, Key.DOWN, Key.RIGHT, Key.ACT, Key.UNDO, Key.RESTART)
 _NAMES = {"act": Key.ACT, "undo": Key.UNDO, "restart": Key.RESTART}
 _WON = (b"* won", b"* the end")
 
 
-# A game that is played: what the player says of it, its progress, and what is told once below the first board, if anything is.
-Game = collections.namedtuple("Game", "described progress notice")
+# A game that is played: what the player says of it, its progress, what is told once below the first board, if anything is, and
+# what says how a level goes on.
+Game = collections.namedtuple("Game", "described progress notice hints")
 
 
 class Playing:
@@ -35,9 +36,11 @@ class Playing:
 
     def __init__(self, run, screen, events, game):
         self._run, self._screen, self._events = run, screen, events
-        self._described, self._progress, self._notice = game
+        self._described, self._progress, self._notice, self._hints = game
         self._ignored = [_NAMES[name] for name in self._described.ignored if name in _NAMES]
         self._reader, self._pacing, self._moves = OutputReader(), Pacing(), MoveCount()
+        # The keys that the run was handed.
+        self._keys = b""
         # What was read and isn't shown yet, and the keys that nobody obeyed yet.
         self._parts, self._typed = collections.deque(), collections.deque()
         # Whether the run owes an answer, and since when it has said and was told nothing.
@@ -172,6 +175,8 @@ class Playing:
             self._screen.take_back()
         if key is Key.HELP:
             self._help()
+        elif key is Key.HINT:
+            self._hint()
         elif key is Key.QUIT:
             self._is_asked = True
             self._screen.ask(QUIT_QUESTION)
@@ -185,8 +190,12 @@ class Playing:
         """Hands a key to the run, which answers it."""
         self._moves.key_sent(key)
         self._pacing.key_sent()
-        self._run.send(key.value)
+        self._hand_on(key)
         self._is_owed, self._since = True, time.monotonic()
+
+    def _hand_on(self, key):
+        self._keys += key.value
+        self._run.send(key.value)
 
     def _go_on(self):
         """Leaves a page of a message. After the last one the run goes on, perhaps without saying anything."""
@@ -194,7 +203,7 @@ class Playing:
             self._has_message, self._is_dismissed = False, True
             self._moves.key_sent(None)
             self._pacing.key_sent()
-            self._run.send(Key.ACT.value)
+            self._hand_on(Key.ACT)
             self._since = time.monotonic()
 
     def _say_in_quiet(self, now):
@@ -211,5 +220,11 @@ class Playing:
     def _help(self):
         """Shows what the glyphs and keys are. Meanwhile the run's output waits."""
         output, self._events.output = self._events.output, None
-        self._screen.read(help_page.lines(self._described, self._ignored), self._events)
+        lines = help_page.lines(self._described, self._ignored, self._hints.are_offered)
+        self._screen.read(lines, self._events)
         self._events.output = output
+
+    def _hint(self):
+        """Says how the level goes on, where no message stands there."""
+        if not self._has_message and self._hints.are_offered:
+            self._screen.ask(self._hints.after(self._keys, self._moves.count > 0, self._described.ignored))

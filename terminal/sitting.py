@@ -5,6 +5,7 @@ from game_list import GameList
 from game_text import GameText
 from given_glyphs import with_glyphs
 from harmless import decoded, harmless_lines
+from hints import Hints
 from plain_screen import PlainScreen
 from player import Fault, Player, Run
 from playing import BROKEN_OFF, Game, Playing
@@ -99,7 +100,7 @@ class Sitting:
         if self.asked.level is not None:
             return self.asked.level, None
         level = progress.level(described.levels)
-        if self.asked.is_fresh or level == 1 or not self.player.begins_at_levels():
+        if self.asked.is_fresh or level == 1 or not self.player.knows("--level"):
             return None, None
         return level, f"You go on at level {level}; --fresh begins at the first."
 
@@ -109,7 +110,8 @@ class Sitting:
         level, notice = self._level(described, progress)
         run = Run(self.player, text.path, level)
         screen = PlainScreen(self.console) if self.asked.is_plain else ViewScreen(self.console, self.player, text.path)
-        playing = Playing(run, screen, self.events, Game(described, progress, notice))
+        hints = Hints(self.player, text.path, level)
+        playing = Playing(run, screen, self.events, Game(described, progress, notice, hints))
         try:
             playing.play()
         except BaseException as stopped:

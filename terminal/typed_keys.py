@@ -25,6 +25,7 @@ class Key(enum.Enum):
     ENTER = b"\r"
     SPACE = b" "
     HELP = b"?"
+    HINT = b"h"
     DRAW_ANEW = b"\x0c"
     OTHER = b""
 

@@ -103,6 +103,29 @@ class AtTerminalTest(unittest.TestCase):
         self.assertEqual(sitting.end(), (0, True))
         self.assertEqual(os.listdir(f"{self.folder}/lizhakoven/progress"), [])
 
+    def ask_for(self, sitting, hint):
+        """Asks for a hint, again where the machine is so busy that none comes in time."""
+        for _ in range(20):
+            sitting.type(b"h")
+            try:
+                return sitting.wait_for(hint, 1.0)
+            except AssertionError:
+                pass
+        self.fail(f"{hint!r} isn't told")
+
+    def test_a_hint_after_the_keys_so_far(self):
+        sitting = self.sit(self.game)
+        sitting.wait_for(b"#P..*#")
+        self.ask_for(sitting, b"d: a win is 2 keys away.")
+        sitting.type(b"d")
+        sitting.wait_for(b"1 move")
+        self.ask_for(sitting, b"d: a win is 3 keys away.")
+        sitting.type(b"d")
+        sitting.wait_for(b"2 moves")
+        sitting.type(b"qq")
+        sitting.wait_for(b"* quit")
+        self.assertEqual(sitting.end(), (0, True))
+
     def test_a_text_from_a_pipe(self):
         with open(self.game, "rb") as file:
             sitting = self.sit("-", "--plain", stdin=file)

@@ -98,15 +98,17 @@ class FakeScreen:
 
 
 class PlayingTest(unittest.TestCase):
-    def play(self, keys, answers=(), start=START, pages=1, notice=None):
+    def play(self, keys, answers=(), start=START, pages=1, notice=None, has_hints=True):
         clock = Clock()
         events = FakeEvents(clock, keys)
         self.run_ = FakeRun(events, answers)
         self.screen = FakeScreen(clock, pages)
-        self.progress = mock.Mock()
+        self.progress, self.hints = mock.Mock(), mock.Mock(are_offered=has_hints)
+        self.hints.after.return_value = "d wins."
         events.come(start)
         with mock.patch.object(playing, "time", clock):
-            self.playing = Playing(self.run_, self.screen, events, Game(Described(SAID), self.progress, notice))
+            game = Game(Described(SAID), self.progress, notice, self.hints)
+            self.playing = Playing(self.run_, self.screen, events, game)
             self.playing.play()
         return self.screen.said
 
@@ -156,6 +158,35 @@ class PlayingTest(unittest.TestCase):
         self.assertIn("  P  Player", said[-2])
         self.assertIn("  x  act", said[-2])
         self.assertNotIn("  z  undo", said[-2])
+        self.assertIn("  h  say how the level goes on", said[-2])
+
+    def test_a_hint_is_of_where_all_keys_lead(self):
+        said = self.play([Key.RIGHT, Key.HINT], [b".P.\n\n"])
+        self.assertIn("? d wins.", said)
+        self.hints.after.assert_called_once_with(b"d", True, ["undo"])
+        self.play([Key.RIGHT, Key.RIGHT, Key.HINT], [b".P.\n\n", b"* level 1 done\n# level 2\n2\n\n"])
+        self.hints.after.assert_called_once_with(b"dd", False, ["undo"])
+
+    def test_a_hint_counts_the_key_that_leaves_a_message(self):
+        self.play([Key.RIGHT, Key.ENTER, Key.HINT], [b".P.\n\n! Hi\n"])
+        self.hints.after.assert_called_once_with(b"dx", True, ["undo"])
+
+    def test_a_hint_is_no_key_of_the_run(self):
+        self.play([Key.HINT, Key.RIGHT, Key.HINT], [b".P.\n\n"])
+        self.assertEqual(self.run_.sent, b"d")
+        self.assertEqual([call.args[0] for call in self.hints.after.call_args_list], [b"", b"d"])
+
+    def test_a_hint_takes_back_the_question_whether_to_quit(self):
+        said = self.play([Key.QUIT, Key.HINT], [])
+        self.assertEqual(said[-2], "? d wins.")
+        self.assertEqual(self.run_.sent, b"")
+
+    def test_no_hint_at_a_message_or_where_there_are_none(self):
+        self.play([Key.RIGHT, Key.HINT], [b".P.\n\n! Hi\n"])
+        self.hints.after.assert_not_called()
+        said = self.play([Key.HINT, Key.HELP], has_hints=False)
+        self.hints.after.assert_not_called()
+        self.assertNotIn("  h  say how the level goes on", said[-2])
 
     def test_drawing_anew(self):
         said = self.play([Key.DRAW_ANEW, Event(Kind.DRAW, None), Event(Kind.STOP, None)])

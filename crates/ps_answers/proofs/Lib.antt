@@ -1,3 +1,4 @@
 pub mod FirstLevels
 pub mod Joined
 pub mod ObjectsPlain
+pub mod RunStarts

@@ -1,12 +1,20 @@
 -- What an answer about a level claims.
-use Rattle.std.specs.Prelude.{◌≡◌, ⊤, ℕ, ◌≤◌, Bool, true, false}
+use Rattle.std.specs.Prelude.{◌≡◌, ⊤, ℕ, ◌≤◌, Bool, true, false, Some, None}
 use Rattle.ps_model.specs.board.Turns.{Script}
 use Rattle.ps_model.specs.session.Sessions.{Session}
-use Rattle.ps_model.specs.session.Solving.{WinsInFewest, NeverWins, NotWithin}
+use Rattle.ps_model.specs.session.Solving.{WinsInFewest, NeverWins, NotWithin, Spot, spot}
 use Rattle.ps_answers.specs.declared.solved.Solved.{Solved}
 use Rattle.ps_answers.specs.declared.solved.Solved.TheVariants.{Won, Never, Unknown}
 use Rattle.ps_answers.specs.declared.solved.Unsolved.{Unsolved}
 use Rattle.ps_answers.specs.declared.solved.Unsolved.TheVariants as unsolved
+
+-- the session is in the level of the entry
+abbrev pub IsIn : ℕ → Session → Type 0
+IsIn entry session = (here : Spot) × (spot entry session ≡ Some here)
+
+-- the session is in no level
+abbrev pub IsNowhere : Session → Type 0
+IsNowhere session = (entry : ℕ) → spot entry session ≡ None
 
 -- the answer is that the level can be won
 abbrev pub is_won : Solved → Bool

@@ -1,5 +1,5 @@
 -- What an answer claims about a level of a text's game.
-use Rattle.std.specs.Prelude.{◌≡◌, ℕ, ◌≤◌, List, Some}
+use Rattle.std.specs.Prelude.{◌≡◌, ℕ, ◌≤◌, ◌<◌, List, Option, Some}
 use Rattle.ps_model.specs.board.Turns.{Script}
 use Rattle.ps_model.specs.game.Games.{Game, game}
 use Rattle.ps_model.specs.game.LevelRuns.{level_count, script_from_level}
@@ -25,3 +25,15 @@ pub record HasLevelOf (text : List ℕ) (level : ℕ) : Type 0 where
   pub has : HasLevels text levels
   pub first : 1 ≤ level
   pub last : level ≤ levels
+
+-- the level of a number is asked about, and the text's game, with that many levels, lacks it
+pub record LacksLevel (text : List ℕ) (asked : Option ℕ) (level levels : ℕ) : Type 0 where
+  pub is : asked ≡ Some level
+  pub has : HasLevels text levels
+  pub beyond : 1 ≤ level → levels < level
+
+-- the same, whatever the numbers are
+pub record LacksAsked (text : List ℕ) (asked : Option ℕ) : Type 0 where
+  pub level : ℕ
+  pub levels : ℕ
+  pub lacks : LacksLevel text asked level levels

@@ -40,7 +40,8 @@ impl Display for Grouped {
 /// How far the search of a level is.
 #[derive(Clone, Copy, Drop)]
 struct Progress {
-    level: usize,
+    /// Its number; none, where keys lead to it.
+    level: Option<usize>,
     /// No list of at most this many keys leads past the level.
     depth: u32,
     states: u32,
@@ -53,11 +54,16 @@ impl Display for Progress {
         let depth = Grouped(self.depth as u128);
         let states = Grouped(self.states as u128);
         let rate = Grouped(self.rate);
-        let level = self.level;
-        write!(
-            f,
-            "\rlevel {level}: not in {depth} keys, {states} states, {rate} a second\x1b[K"
-        )
+        match self.level {
+            Some(level) => write!(
+                f,
+                "\rlevel {level}: not in {depth} keys, {states} states, {rate} a second\x1b[K"
+            ),
+            None => write!(
+                f,
+                "\rfrom here: not in {depth} keys, {states} states, {rate} a second\x1b[K"
+            ),
+        }
     }
 }
 
@@ -83,7 +89,7 @@ pub struct SearchProgress<'r, R: Clock + Eprint + Files> {
     /// The file that stops the searches, if there is one.
     stop_file: Option<&'r str>,
     is_stopped: bool,
-    level: usize,
+    level: Option<usize>,
     /// How many places are looked at before the clock is.
     places: u32,
     /// When the search of the level began, and when it was told last how far it is, or looked whether it stops.
@@ -101,7 +107,7 @@ impl<'r, R: Clock + Eprint + Files> SearchProgress<'r, R> {
             is_told,
             stop_file,
             is_stopped: false,
-            level: 0,
+            level: None,
             places: 0,
             begun: Duration::ZERO,
             told: Duration::ZERO,
@@ -158,7 +164,7 @@ impl<'r, R: Clock + Eprint + Files> Watcher for SearchProgress<'r, R> {
 }
 
 impl<'r, R: Clock + Eprint + Files> LevelWatcher for SearchProgress<'r, R> {
-    fn begins(&mut self, level: usize) {
+    fn begins(&mut self, level: Option<usize>) {
         if !self.is_stopped {
             self.is_stopped = self.is_stop_asked();
         }

@@ -40,6 +40,15 @@ pub enum Unsolved {
     Boards,
 }
 
+/// Where the keys of a run lead, and whether the level there can be won.
+#[derive(Drop)]
+pub enum SolvedAfter {
+    /// They lead to the level of that number. What is said of it goes for where they lead, and not for its start.
+    Level { level: usize, solved: Solved },
+    /// They lead to a message between levels, or to the end of the game.
+    NoLevel,
+}
+
 impl Solved {
     /// Whether the level can be won.
     pub fn is_won(&self) -> bool

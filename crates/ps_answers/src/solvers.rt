@@ -5,9 +5,11 @@ ghost use Rattle.ps_model.specs.declared.faults.Fault.{Fault as TheFault};
 ghost use Rattle.ps_model.specs.declared.refusal.Refusal.TheVariants as Refusal;
 ghost use Rattle.ps_model.specs.game.Games.{faults};
 ghost use Rattle.ps_model.specs.text.Faults.{first_fault};
+ghost use Rattle.ps_answers.specs.SolvedAfterKeys.{HasStart, IsSolvedAfterKeys};
 ghost use Rattle.ps_answers.specs.SolvedTexts.{HasLevels, HasLevelOf, IsSolvedLevel};
 
-use crate::solved::Solved;
+use crate::runs::RunSoFar;
+use crate::solved::{Solved, SolvedAfter};
 use ps_model::{Memory, Refusal};
 use ps_search::Watcher;
 use std::alloc::Global;
@@ -39,6 +41,25 @@ pub trait SolvableGame: Drop {
     ) -> Result<Solved, Memory>
         requires { HasLevelOf (text self.now) level }
         ensures { IfOk result (IsSolvedLevel (text self.now) level limit) };
+
+    /// Whether the level to which the keys of a run lead can be won from there, and by how few directions and `x` more.
+    /// At most `limit` states are kept.
+    ///
+    /// If the search runs out of memory or is stopped by the watcher, the answer says up to which length no list of
+    /// keys wins.
+    ///
+    /// # Errors
+    ///
+    /// `Memory` where a growth was refused before the search began.
+    fn solve_after<T: Watcher>(
+        &self,
+        alloc: Global,
+        run: RunSoFar<'_>,
+        limit: u32,
+        watcher: &mut T,
+    ) -> Result<SolvedAfter, Memory>
+        requires { HasStart (text self.now) run.level }
+        ensures { IfOk result (IsSolvedAfterKeys (text self.now) run.entry.level run.entry.keys.now limit) };
 }
 
 /// What reads texts for games whose levels can be solved.

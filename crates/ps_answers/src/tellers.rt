@@ -1,12 +1,18 @@
 //! Who tells what can be said of levels.
 
 ghost use Rattle.std.specs.Prelude.{◌≡◌, ◌≢◌, ◌≤◌, Err, false, IfErr, IfOk, IfSome, None, Ok};
+ghost use Rattle.ps_devices.specs.Devices.{Grows};
 ghost use Rattle.ps_answers.specs.Forms.{told_in};
-ghost use Rattle.ps_answers.specs.SolvedTexts.{HasLevelOf, HasLevels};
+ghost use Rattle.ps_answers.specs.SolvedAfterKeys.{HasStart};
+ghost use Rattle.ps_answers.specs.SolvedLevels.{is_won};
+ghost use Rattle.ps_answers.specs.SolvedTexts.{HasLevelOf, HasLevels, LacksAsked};
+ghost use Rattle.ps_answers.specs.TellsAfterKeys.{TellsAfterKeys};
 ghost use Rattle.ps_answers.specs.TellsLevels.{AreLinesOn, AreLinesOnFirst, AreLinesOnLevels, IsLineOnLevel, Tells};
 ghost use Rattle.ps_answers.specs.declared.tellers.TellFault.TheVariants as TellFault;
 
 use crate::forms::{Form, told_in};
+use crate::runs::RunSoFar;
+use crate::solved::{Solved, SolvedAfter};
 use crate::solvers::SolvableGame;
 use crate::watching::LevelWatcher;
 use ps_devices::{ByteWriter, write_whole};
@@ -35,6 +41,17 @@ impl From<Memory> for TellFault {
     }
 }
 
+/// What a line says of the level to which the keys of a run lead, or why there is none.
+#[derive(Clone, Copy, PartialEq, Eq, Debug)]
+pub enum ToldAfter {
+    /// A line that says whether the level can be won from there, and that.
+    Line { is_won: bool },
+    /// Nothing: the keys lead to no level.
+    NoLevel,
+    /// Nothing: the game lacks the level at which the run is to begin. It has this many.
+    NoSuchLevel { level: usize, levels: usize },
+}
+
 /// Asks of the levels of a game whether they can be won, and tells the answers.
 #[derive(Drop)]
 pub struct LevelTeller<'s, G: SolvableGame, T: LevelWatcher> {
@@ -49,6 +66,30 @@ pub struct LevelTeller<'s, G: SolvableGame, T: LevelWatcher> {
 }
 
 impl<'s, G: SolvableGame, T: LevelWatcher> LevelTeller<'s, G, T> {
+    /// Tells in a line what was found of the level of that number, and answers whether it can be won.
+    ///
+    /// # Errors
+    ///
+    /// `Memory` where a growth was refused as the line was made. `Write` where the writer failed.
+    fn tell_found<W: ByteWriter>(
+        &self,
+        level: usize,
+        solved: &Solved,
+        writer: &mut W,
+    ) -> Result<bool, TellFault>
+        requires well { (W.state writer.old).has_failed ≡ false }
+        ensures answers { IfOk result (λ won. won ≡ is_won solved.now) }
+        ensures told { IfOk result (λ won. Grows (W.state writer.old).contents (W.state writer.new).contents
+            (told_in self.now.form self.now.name.now level solved.now)) }
+        ensures well { result ≢ Err TellFault.Write → (W.state writer.new).has_failed ≡ false }
+    {
+        let line = told_in(self.alloc, self.form, self.name, level, solved)?;
+        match write_whole(&line, writer) {
+            Ok(()) => Ok(solved.is_won()),
+            Err(_) => Err(TellFault::Write),
+        }
+    }
+
     /// Tells in a line whether the level of that number can be won, and answers that.
     ///
     /// # Errors
@@ -67,17 +108,13 @@ impl<'s, G: SolvableGame, T: LevelWatcher> LevelTeller<'s, G, T> {
             (W.state writer.old).contents (W.state writer.new).contents) }
         ensures well { result ≢ Err TellFault.Write → (W.state writer.new).has_failed ≡ false }
     {
-        self.watcher.begins(level);
+        self.watcher.begins(Some(level));
         let found = self
             .game
             .solve_level(self.alloc, level, self.limit, &mut *self.watcher);
         self.watcher.ends();
         let solved = found?;
-        let line = told_in(self.alloc, self.form, self.name, level, &solved)?;
-        match write_whole(&line, writer) {
-            Ok(()) => Ok(solved.is_won()),
-            Err(_) => Err(TellFault::Write),
-        }
+        self.tell_found(level, &solved, writer)
     }
 
     /// Tells in a line for each of the first levels whether it can be won, and answers whether all can.
@@ -130,6 +167,7 @@ impl<'s, G: SolvableGame, T: LevelWatcher> LevelTeller<'s, G, T> {
         ensures told { IfOk result (λ told. IfSome told (λ won. Tells
             (AreLinesOn level (G.text self.old.game.now) (told_in self.old.form self.old.name.now) self.old.limit won)
             (W.state writer.old).contents (W.state writer.new).contents)) }
+        ensures lacks { result ≡ Ok None → LacksAsked (G.text self.old.game.now) level }
         ensures lacking { result ≡ Ok None → writer.new ≡ writer.old }
         ensures well { result ≢ Err TellFault.Write → (W.state writer.new).has_failed ≡ false }
     {
@@ -137,10 +175,65 @@ impl<'s, G: SolvableGame, T: LevelWatcher> LevelTeller<'s, G, T> {
             let won = self.tell_levels(writer)?;
             return Ok(Some(won));
         };
-        if level == 0 || self.game.level_count() < level {
+        let count = self.game.level_count();
+        if level == 0 || count < level {
             return Ok(None);
         }
         let won = self.tell_level(level, writer)?;
         Ok(Some(won))
+    }
+
+    /// Tells in a line whether the level to which the keys of a run lead can be won from there.
+    ///
+    /// # Errors
+    ///
+    /// `Memory` where a growth was refused before the search began, or as the line was made. `Write` where the writer
+    /// failed.
+    pub fn tell_after<W: ByteWriter>(
+        &mut self,
+        run: RunSoFar<'_>,
+        writer: &mut W,
+    ) -> Result<ToldAfter, TellFault>
+        requires well { (W.state writer.old).has_failed ≡ false }
+        ensures told { IfOk result (λ told. TellsAfterKeys (G.text self.old.game.now) run.entry.level run.entry.keys.now
+            (told_in self.old.form self.old.name.now) self.old.limit told
+            (W.state writer.old).contents (W.state writer.new).contents) }
+        ensures well { result ≢ Err TellFault.Write → (W.state writer.new).has_failed ≡ false }
+    {
+        let Some(level) = run.level else {
+            return self.tell_where_led(run, writer);
+        };
+        let levels = self.game.level_count();
+        if level == 0 || levels < level {
+            return Ok(ToldAfter::NoSuchLevel { level, levels });
+        }
+        self.tell_where_led(run, writer)
+    }
+
+    /// The same, where the game has the level at which the run begins.
+    fn tell_where_led<W: ByteWriter>(
+        &mut self,
+        run: RunSoFar<'_>,
+        writer: &mut W,
+    ) -> Result<ToldAfter, TellFault>
+        requires well { (W.state writer.old).has_failed ≡ false }
+        requires start { HasStart (G.text self.old.game.now) run.level }
+        ensures told { IfOk result (λ told. TellsAfterKeys (G.text self.old.game.now) run.entry.level run.entry.keys.now
+            (told_in self.old.form self.old.name.now) self.old.limit told
+            (W.state writer.old).contents (W.state writer.new).contents) }
+        ensures well { result ≢ Err TellFault.Write → (W.state writer.new).has_failed ≡ false }
+    {
+        self.watcher.begins(None);
+        let found = self
+            .game
+            .solve_after(self.alloc, run, self.limit, &mut *self.watcher);
+        self.watcher.ends();
+        match found? {
+            SolvedAfter::Level { level, solved } => {
+                let is_won = self.tell_found(level, &solved, writer)?;
+                Ok(ToldAfter::Line { is_won })
+            }
+            SolvedAfter::NoLevel => Ok(ToldAfter::NoLevel),
+        }
     }
 }

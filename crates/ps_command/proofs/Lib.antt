@@ -1,4 +1,5 @@
 pub mod DetailsBelow
 pub mod GamesTold
+pub mod LinesOnLed
 pub mod LinesOnLevels
 pub mod ReportsTold

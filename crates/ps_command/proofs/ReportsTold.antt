@@ -1,9 +1,8 @@
 -- Reports of texts that are told one behind the other.
 use Rattle.std.proofs.Common.{◌≡◌, ◌++◌, ◌∷◌, ℕ, inl, inr, List, [], Option, Bool, true, refl}
-use Rattle.std.specs.Prelude.{is_some}
-use Rattle.ps_model.specs.game.Games.{game}
 use Rattle.ps_devices.specs.Devices.{Loses}
 use Rattle.ps_devices.proofs.Unmoved.{nothing_taken}
+use Rattle.ps_report.specs.Reports.{is_well}
 use Rattle.ps_report.specs.declared.details.How.{How}
 use Rattle.ps_command.specs.Reported.{IsReportOfFile, IsReportOfGame, IsReportOfText, TellsReport, TellsReportGiven}
 use Rattle.ps_command.specs.Reported.{TellsReportOn}
@@ -11,16 +10,16 @@ use Rattle.ps_command.specs.Told.{TellsInOrder}
 use Rattle.ps_command.proofs.GamesTold.{told_more}
 
 -- of this text, which is some text
-pub report_told : (how : How) (name text : List ℕ) (is_game : Bool) (before after : Option (List ℕ)) →
-    TellsReportOn how name text before after → is_game ≡ is_some (game text) → TellsReport how name is_game before after
-report_told how name text is_game before after told is =
+pub report_told : (how : How) (name text : List ℕ) (well : Bool) (before after : Option (List ℕ)) →
+    TellsReportOn how name text before after → well ≡ is_well how text → TellsReport how name well before after
+report_told how name text well before after told is =
     record { lines = told.lines; are = record { text = text; is = is; are = told.are }; wrote = told.wrote }
 
 -- of this text, which a reader has given
-pub given_told : (how : How) (name text : List ℕ) (is_game : Bool) (had left before after : Option (List ℕ)) →
-    Loses had left text → TellsReportOn how name text before after → is_game ≡ is_some (game text) →
-    TellsReportGiven how name is_game had left before after
-given_told how name text is_game had left before after given told is =
+pub given_told : (how : How) (name text : List ℕ) (well : Bool) (had left before after : Option (List ℕ)) →
+    Loses had left text → TellsReportOn how name text before after → well ≡ is_well how text →
+    TellsReportGiven how name well had left before after
+given_told how name text well had left before after given told is =
     record { text = text; given = given; is = is; told = told }
 
 -- that of one more game
@@ -31,20 +30,20 @@ game_reported names how name before between after was told =
     told_more (IsReportOfGame how) names name told.lines before between after was told.are told.wrote
 
 -- that of one more text
-pub text_reported : (names : List (List ℕ)) (how : How) (name : List ℕ) (is_game : Bool)
+pub text_reported : (names : List (List ℕ)) (how : How) (name : List ℕ) (well : Bool)
     (before between after : Option (List ℕ)) → TellsInOrder (IsReportOfText how) names before between →
-    TellsReport how name is_game between after → TellsInOrder (IsReportOfText how) (names ++ name ∷ []) before after
-text_reported names how name is_game before between after was told =
+    TellsReport how name well between after → TellsInOrder (IsReportOfText how) (names ++ name ∷ []) before after
+text_reported names how name well before between after was told =
     told_more (IsReportOfText how) names name told.lines before between after was
-    (record { is_game = is_game; are = told.are }) told.wrote
+    (record { well = well; are = told.are }) told.wrote
 
 -- that of one more file
-pub file_reported : (names : List (List ℕ)) (how : How) (name : List ℕ) (is_game : Bool)
+pub file_reported : (names : List (List ℕ)) (how : How) (name : List ℕ) (well : Bool)
     (before between after : Option (List ℕ)) → TellsInOrder (IsReportOfFile how) names before between →
-    TellsReport how name is_game between after → TellsInOrder (IsReportOfFile how) (names ++ name ∷ []) before after
-file_reported names how name is_game before between after was told =
+    TellsReport how name well between after → TellsInOrder (IsReportOfFile how) (names ++ name ∷ []) before after
+file_reported names how name well before between after was told =
     told_more (IsReportOfFile how) names name told.lines before between after was
-    (inr (record { is_game = is_game; are = told.are })) told.wrote
+    (inr (record { well = well; are = told.are })) told.wrote
 
 -- one more file that can't be read
 pub file_unread : (names : List (List ℕ)) (how : How) (name : List ℕ) (before between after : Option (List ℕ)) →

@@ -1,6 +1,7 @@
 pub mod Details
 pub mod Reported
 pub mod Searched
+pub mod SearchedAfter
 pub mod Statuses
 pub mod Told
 pub mod ViewedGames

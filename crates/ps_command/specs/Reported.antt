@@ -1,8 +1,7 @@
 -- What is told on the screen by a check of texts, in the way that is asked for.
-use Rattle.std.specs.Prelude.{◌≡◌, ◌⊎◌, ℕ, Bool, true, Option, List, [], is_some}
-use Rattle.ps_model.specs.game.Games.{game}
+use Rattle.std.specs.Prelude.{◌≡◌, ◌⊎◌, ℕ, Bool, true, Option, List, []}
 use Rattle.ps_devices.specs.Devices.{Grows, Loses}
-use Rattle.ps_report.specs.Reports.{IsReport}
+use Rattle.ps_report.specs.Reports.{IsReport, is_well}
 use Rattle.ps_report.specs.declared.details.How.{How}
 
 -- of this text its report is told, by that name
@@ -11,34 +10,34 @@ pub record TellsReportOn (how : How) (name text : List ℕ) (before after : Opti
   pub are : IsReport how name text lines
   pub wrote : Grows before after lines
 
--- the report of some text, which is a game or isn't, as is answered
-pub record IsReportAs (how : How) (name : List ℕ) (is_game : Bool) (lines : List ℕ) : Type 0 where
+-- the report of some text, which is well or isn't, as is answered
+pub record IsReportAs (how : How) (name : List ℕ) (well : Bool) (lines : List ℕ) : Type 0 where
   pub text : List ℕ
-  pub is : is_game ≡ is_some (game text)
+  pub is : well ≡ is_well how text
   pub are : IsReport how name text lines
 
 -- that report is told
-pub record TellsReport (how : How) (name : List ℕ) (is_game : Bool) (before after : Option (List ℕ)) : Type 0 where
+pub record TellsReport (how : How) (name : List ℕ) (well : Bool) (before after : Option (List ℕ)) : Type 0 where
   pub lines : List ℕ
-  pub are : IsReportAs how name is_game lines
+  pub are : IsReportAs how name well lines
   pub wrote : Grows before after lines
 
--- of what a reader has given, a text that is a game or isn't, as is answered, its report is told
-pub record TellsReportGiven (how : How) (name : List ℕ) (is_game : Bool) (had left : Option (List ℕ))
+-- of what a reader has given, a text that is well or isn't, as is answered, its report is told
+pub record TellsReportGiven (how : How) (name : List ℕ) (well : Bool) (had left : Option (List ℕ))
     (before after : Option (List ℕ)) : Type 0 where
   pub text : List ℕ
   pub given : Loses had left text
-  pub is : is_game ≡ is_some (game text)
+  pub is : well ≡ is_well how text
   pub told : TellsReportOn how name text before after
 
--- the report of some text that is a game
+-- the report of some text that is well
 abbrev pub IsReportOfGame : How → List ℕ → List ℕ → Type 0
 IsReportOfGame how name lines = IsReportAs how name true lines
 
 -- that of some text
 pub record IsReportOfText (how : How) (name lines : List ℕ) : Type 0 where
-  pub is_game : Bool
-  pub are : IsReportAs how name is_game lines
+  pub well : Bool
+  pub are : IsReportAs how name well lines
 
 -- the same, or nothing, for a file that can't be read
 abbrev pub IsReportOfFile : How → List ℕ → List ℕ → Type 0

@@ -1,12 +1,14 @@
 -- What is told of the levels of texts.
-use Rattle.std.specs.Prelude.{◌≡◌, ◌⊎◌, ℕ, Bool, true, false, nat_lt, List, [], length, Some}
+use Rattle.std.specs.Prelude.{◌≡◌, ◌⊎◌, ℕ, Bool, true, false, nat_lt, Option, List, [], length, Some}
 use Rattle.ps_model.specs.declared.faults.Fault.{Fault}
 use Rattle.ps_model.specs.game.Games.{faults}
 use Rattle.ps_model.specs.text.Faults.{first_fault}
 use Rattle.ps_answers.specs.Forms.{told_in}
-use Rattle.ps_answers.specs.TellsLevels.{AreLinesOn, Telling}
+use Rattle.ps_answers.specs.SolvedTexts.{LacksAsked}
+use Rattle.ps_answers.specs.TellsLevels.{AreLinesOn, Telling, Tells}
 use Rattle.ps_answers.specs.declared.forms.Form.{Form}
 use Rattle.ps_answers.specs.declared.forms.Form.TheVariants as form
+use Rattle.ps_devices.specs.Devices.{Loses}
 use Rattle.ps_report.specs.Reports.{IsReport}
 use Rattle.ps_report.specs.declared.details.Detail.TheVariants as detail
 use Rattle.ps_report.specs.declared.details.Format.{Format}
@@ -47,6 +49,8 @@ how_refused asked = record {
   detail = detail.Line;
   most = 1;
   counts = false;
+  warns = false;
+  strict = false;
 }
 
 -- lines on levels of some text of this name, which can all be won
@@ -54,9 +58,8 @@ pub record AreWonLines (asked : Question) (name lines : List ℕ) : Type 0 where
   pub text : List ℕ
   pub are : AreLinesOn asked.level text (telling_of asked name) asked.limit true lines
 
--- lines on levels of some text
-pub record AreLinesOnText (asked : Question) (name lines : List ℕ) : Type 0 where
-  pub text : List ℕ
+-- lines on levels of a text
+pub record AreLinesOnText (asked : Question) (name text lines : List ℕ) : Type 0 where
   pub won : Bool
   pub are : AreLinesOn asked.level text (telling_of asked name) asked.limit won lines
 
@@ -64,13 +67,30 @@ pub record AreLinesOnText (asked : Question) (name lines : List ℕ) : Type 0 wh
 abbrev pub IsRefused : List ℕ → Type 0
 IsRefused text = (fault : Fault) × (first_fault (faults text) ≡ Some fault)
 
--- what a check tells of some text that is refused
-pub record IsLineOnRefused (asked : Question) (name line : List ℕ) : Type 0 where
-  pub text : List ℕ
+-- what a check tells of a text that is refused
+pub record IsLineOnRefused (asked : Question) (name text line : List ℕ) : Type 0 where
   pub refused : IsRefused text
   pub is : IsReport (how_refused asked) name text line
 
--- one of these; or nothing, where the text can't be read or lacks the level
+-- what is told of a text: lines on its levels; of one that is refused, what a check tells; nothing of one whose game
+-- lacks the level
+abbrev pub AreLinesToldOfText : Question → List ℕ → List ℕ → List ℕ → Type 0
+AreLinesToldOfText asked name text lines =
+    AreLinesOnText asked name text lines
+    ⊎ (IsLineOnRefused asked name text lines ⊎ (LacksAsked text asked.level × (lines ≡ [])))
+
+-- what is told of some text
+pub record AreLinesToldOfSome (asked : Question) (name lines : List ℕ) : Type 0 where
+  pub text : List ℕ
+  pub are : AreLinesToldOfText asked name text lines
+
+-- the same, or nothing, for a file that can't be read
 abbrev pub AreLinesToldOf : Question → List ℕ → List ℕ → Type 0
-AreLinesToldOf asked name lines =
-    (lines ≡ []) ⊎ (AreLinesOnText asked name lines ⊎ IsLineOnRefused asked name lines)
+AreLinesToldOf asked name lines = (lines ≡ []) ⊎ AreLinesToldOfSome asked name lines
+
+-- what is told of a text that a reader has given
+pub record TellsOfGivenText (asked : Question) (name : List ℕ) (had left : Option (List ℕ))
+    (before after : Option (List ℕ)) : Type 0 where
+  pub text : List ℕ
+  pub given : Loses had left text
+  pub told : Tells (AreLinesToldOfText asked name text) before after

@@ -10,6 +10,7 @@ ghost use Rattle.ps_command.specs.Told.{TellsOfRefusedGiven};
 ghost use Rattle.ps_command.specs.declared.stops.Stop.TheVariants as Stop;
 ghost use Rattle.ps_devices.specs.Devices.{Grows};
 
+use crate::after_keys::solve_after_asked;
 use crate::command::{Asked, read_command};
 use crate::descriptions::describe_game;
 use crate::details::show_detail;
@@ -76,6 +77,7 @@ fn act<
         Asked::Description(path) => describe_game(rt, path, keys, screen),
         Asked::Show(asked) => show_asked(rt, asked, keys, screen),
         Asked::Solve(asked) => solve_asked(rt, engine, &asked, keys, screen),
+        Asked::SolveAfter(asked) => solve_after_asked(rt, engine, asked, keys, screen),
         Asked::Play(asked) => play_asked(rt, engine.player, asked, keys, screen),
     }
 }

@@ -1,9 +1,13 @@
 //! The command line.
 
+use crate::after_keys::SolveAfter;
 use crate::files::STANDARD_INPUT;
-use crate::report_options::{all_option, asked_report, format_option, limit_option, wants_report};
+use crate::report_options::{
+    all_option, asked_report, format_option, limit_option, strict_option, wants_report, warn_option,
+};
 use crate::searches::{
-    solve_option, states_asked, states_option, stop_option, tasks, wants_data, words_to_solve,
+    after_option, fitting, solve_option, states_asked, states_option, stop_option, tasks,
+    wants_data, words_to_solve,
 };
 use crate::sizes::size_of;
 use crate::stops::Stop;
@@ -91,6 +95,8 @@ pub enum Asked<'w> {
     Show(Show<'w>),
     /// Whether levels can be won, and in how few keys.
     Solve(Solve<'w>),
+    /// The same of the level to which keys lead, from there.
+    SolveAfter(SolveAfter<'w>),
 }
 
 /// What the words of a command line ask for, of which the first is the program's own name.
@@ -106,8 +112,11 @@ pub fn read_command<'w, S: AsStr>(alloc: Global, words: &'w [S]) -> Result<Asked
         .arg(all_option(alloc)?)?
         .arg(limit_option(alloc)?)?
         .arg(format_option(alloc)?)?
+        .arg(warn_option(alloc)?)?
+        .arg(strict_option(alloc)?)?
         .arg(solve_option(alloc)?)?
         .arg(states_option(alloc)?)?
+        .arg(after_option(alloc)?)?
         .arg(stop_option(alloc)?)?
         .arg(level_option(alloc)?)?
         .arg(keys_option(alloc))?
@@ -226,13 +235,25 @@ fn asked_solve<'w>(
     let is_data = wants_data(matches)?;
     let further = matches.get_strs("FURTHER").unwrap_or(&[]);
     let words = words_to_solve(level, further)?;
+    let stop_file = matches.get_str("stop-file");
+    if let Some(keys) = matches.get_str("after") {
+        let asked = SolveAfter {
+            game: path,
+            level: words.level,
+            keys,
+            limit: states,
+            is_data,
+            stop_file,
+        };
+        return Ok(Asked::SolveAfter(fitting(asked, words.further)?));
+    }
     let paths = all_paths(alloc, path, words.further)?;
     Ok(Asked::Solve(Solve {
         paths,
         level: words.level,
         limit: states,
         is_data,
-        stop_file: matches.get_str("stop-file"),
+        stop_file,
     }))
 }
 
@@ -391,8 +412,11 @@ fn explain_option(alloc: Global) -> Result<Arg<'static>, AllocError> {
             "all",
             "limit",
             "format",
+            "warn",
+            "strict",
             "solve",
             "states",
+            "after",
             "stop-file",
             "level",
             "keys",

@@ -5,6 +5,7 @@
 #![tactic(auto)]
 
 mod acts;
+mod after_keys;
 mod command;
 mod descriptions;
 mod details;

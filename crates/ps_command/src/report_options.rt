@@ -30,6 +30,24 @@ pub fn limit_option(alloc: Global) -> Result<Arg<'static>, AllocError> {
         .requires_arg("all")
 }
 
+/// `--warn`.
+pub fn warn_option(alloc: Global) -> Result<Arg<'static>, AllocError> {
+    Arg::new(alloc, "warn")
+        .long("warn")
+        .help("With --check, warns of what is surely a mistake in a game, as a misspelt option")
+        .action(ArgAction::SetTrue)
+        .requires_arg("check")
+}
+
+/// `--strict`.
+pub fn strict_option(alloc: Global) -> Result<Arg<'static>, AllocError> {
+    Arg::new(alloc, "strict")
+        .long("strict")
+        .help("With --warn, ends with status 1 where there is a warning")
+        .action(ArgAction::SetTrue)
+        .requires_arg("warn")
+}
+
 /// `--format FORMAT`.
 pub fn format_option(alloc: Global) -> Result<Arg<'static>, AllocError> {
     Arg::new(alloc, "format")
@@ -60,10 +78,11 @@ pub fn format_asked(matches: &ArgMatches<'_>) -> Result<Format, Stop> {
     }
 }
 
-/// Whether the matches of a command line ask for a check that tells more than the first fault, or not for people.
+/// Whether the matches of a command line ask for a check that tells more than the first fault, or of games as well, or
+/// not for people.
 pub fn wants_report(matches: &ArgMatches<'_>) -> Result<bool, Stop> {
     let format = format_asked(matches)?;
-    Ok(matches.get_flag("all") || format != Format::Text)
+    Ok(matches.get_flag("all") || matches.get_flag("warn") || format != Format::Text)
 }
 
 /// How many faults a word lets be told, from 1.
@@ -100,6 +119,8 @@ fn how_asked(matches: &ArgMatches<'_>, is_named: bool) -> Result<How, Stop> {
         detail,
         most,
         counts: matches.get_flag("all"),
+        warns: matches.get_flag("warn"),
+        strict: matches.get_flag("strict"),
     })
 }
 

@@ -1,11 +1,11 @@
 //! Checks that tell more of texts than whether they are games, or their first faults.
 
-ghost use Rattle.std.specs.Prelude.{◌≡◌, ◌≢◌, ◌+◌, ◌≤◌, false, true, None, Err, Ok, codes, is_some, length, map};
+ghost use Rattle.std.specs.Prelude.{◌≡◌, ◌≢◌, ◌+◌, ◌≤◌, false, true, None, Err, Ok, codes, length, map};
 ghost use Rattle.std.specs.Prelude.{IfErr, IfOk, IfSome, OnOk};
-ghost use Rattle.ps_model.specs.game.Games.{game};
 ghost use Rattle.ps_command.specs.Reported.{IsReportOfFile, IsReportOfGame, IsReportOfText, TellsReport};
 ghost use Rattle.ps_command.specs.Reported.{TellsReportGiven, TellsReportOn};
 ghost use Rattle.ps_command.specs.Told.{TellsInOrder};
+ghost use Rattle.ps_report.specs.Reports.{is_well};
 ghost use Rattle.ps_command.specs.declared.stops.Stop.TheVariants as Stop;
 
 use crate::acts::{Said, tell_unread};
@@ -16,7 +16,8 @@ use ps_report::{How, report};
 use std::alloc::Global;
 use std::rt::Files;
 
-/// Tells of the text of that name on the screen, and answers whether it is a game.
+/// Tells of the text of that name on the screen, and answers whether all is well with it: whether it is a game, and has
+/// no warning that is told, where it may have none.
 pub fn report_bytes<O: ByteWriter>(
     alloc: Global,
     name: &str,
@@ -26,19 +27,19 @@ pub fn report_bytes<O: ByteWriter>(
 ) -> Result<bool, Stop>
     requires well { (O.state screen.old).has_failed ≡ false }
     ensures well { OnOk result ((O.state screen.new).has_failed ≡ false) }
-    ensures is { IfOk result (λ is_game. is_game ≡ is_some (game text.now)) }
+    ensures is { IfOk result (λ well. well ≡ is_well how text.now) }
     ensures told { OnOk result (TellsReportOn how name.now text.now
         (O.state screen.old).contents (O.state screen.new).contents) }
     ensures fault { IfErr result (λ stop. stop ≢ Stop.NotAccepted) }
 {
     let told = report(alloc, name, text, how)?;
     match write_whole(told.lines.as_bytes(), screen) {
-        Ok(()) => Ok(told.is_game),
+        Ok(()) => Ok(told.is_well),
         Err(_) => Err(Stop::Run(RunFault::Write)),
     }
 }
 
-/// Tells of the text of a file on the screen. It is well where that is a game.
+/// Tells of the text of a file on the screen. It is well where that is.
 #[tactic(auto, using(crate::proofs::ReportsTold::report_told, crate::proofs::ReportsTold::given_told))]
 pub fn report_alone<R: Files + AllocGlobal, I: ByteReader, O: ByteWriter>(
     rt: &R,
@@ -68,7 +69,7 @@ pub fn report_alone<R: Files + AllocGlobal, I: ByteReader, O: ByteWriter>(
     }
 }
 
-/// Tells of the text of one of several files on the screen, and answers whether it is a game. Nothing is answered of a
+/// Tells of the text of one of several files on the screen, and answers whether it is well. Nothing is answered of a
 /// file that can't be read: standard error names it. Standard input that can't be read ends the check.
 #[tactic(auto, using(crate::proofs::ReportsTold::report_told))]
 fn report_one<R: Files + AllocGlobal + Eprint, I: ByteReader, O: ByteWriter>(
@@ -83,19 +84,19 @@ fn report_one<R: Files + AllocGlobal + Eprint, I: ByteReader, O: ByteWriter>(
     ensures heard { OnOk result ((I.state input.new).has_failed ≡ false) }
     ensures well { OnOk result ((O.state screen.new).has_failed ≡ false) }
     ensures unread { result ≡ Ok None → (O.state screen.new).contents ≡ (O.state screen.old).contents }
-    ensures told { IfOk result (λ said. IfSome said (λ is_game. TellsReport how path.now is_game
+    ensures told { IfOk result (λ said. IfSome said (λ well. TellsReport how path.now well
         (O.state screen.old).contents (O.state screen.new).contents)) }
     ensures fault { IfErr result (λ stop. stop ≢ Stop.NotAccepted) }
 {
     if path == STANDARD_INPUT {
         let text = read_input(rt.alloc(), input)?;
-        let is_game = report_bytes(rt.alloc(), path, &text, how, screen)?;
-        return Ok(Some(is_game));
+        let is_well = report_bytes(rt.alloc(), path, &text, how, screen)?;
+        return Ok(Some(is_well));
     }
     match read_game_file(rt, path) {
         Ok(text) => {
-            let is_game = report_bytes(rt.alloc(), path, &text, how, screen)?;
-            Ok(Some(is_game))
+            let is_well = report_bytes(rt.alloc(), path, &text, how, screen)?;
+            Ok(Some(is_well))
         }
         Err(error) => {
             tell_unread(rt, path, error)?;
@@ -104,7 +105,7 @@ fn report_one<R: Files + AllocGlobal + Eprint, I: ByteReader, O: ByteWriter>(
     }
 }
 
-/// Tells of the text of each of several files on the screen, in their order: of a game, of a text that is none, or
+/// Tells of the text of each of several files on the screen, in their order: of one that is well, of one that isn't, or
 /// nothing where a file can't be read. Each is counted as one of these.
 fn report_each<R: Files + AllocGlobal + Eprint, I: ByteReader, O: ByteWriter>(
     rt: &R,
@@ -143,8 +144,8 @@ fn report_each<R: Files + AllocGlobal + Eprint, I: ByteReader, O: ByteWriter>(
     })
 }
 
-/// Tells of the text of each of several files on the screen. It is well where all are games: then of each was told that
-/// it is one, in their order, and nothing else.
+/// Tells of the text of each of several files on the screen. It is well where all are: then the report of each was
+/// told, in their order, and nothing else.
 pub fn report_texts<R: Files + AllocGlobal + Eprint, I: ByteReader, O: ByteWriter>(
     rt: &R,
     paths: &[&str],

@@ -1,5 +1,7 @@
 //! The words of a command line that ask whether levels can be won.
 
+use crate::after_keys::SolveAfter;
+use crate::files::STANDARD_INPUT;
 use crate::report_options::format_asked;
 use crate::stops::Stop;
 use clap::{Arg, ArgAction, ArgGroup, ArgMatches};
@@ -39,6 +41,19 @@ pub fn stop_option(alloc: Global) -> Result<Arg<'static>, AllocError> {
         .long("stop-file")
         .value_name("FILE")
         .help("With --solve, ends the search once FILE is there, and says what is known then")
+        .action(ArgAction::Set)
+        .requires_arg("solve")?
+        .conflicts_with_all(&["check", "keys", "view", "show", "describe"])
+}
+
+/// `--after KEYS`.
+pub fn after_option(alloc: Global) -> Result<Arg<'static>, AllocError> {
+    Arg::new(alloc, "after")
+        .long("after")
+        .value_name("KEYS")
+        .help(
+            "With --solve, asks of the level to which the keys in the file KEYS lead, or those on standard input, which is -",
+        )
         .action(ArgAction::Set)
         .requires_arg("solve")?
         .conflicts_with_all(&["check", "keys", "view", "show", "describe"])
@@ -98,4 +113,15 @@ pub fn words_to_solve<'w, 'm>(
         }),
         Err(_) => Ok(WordsToSolve { further, level }),
     }
+}
+
+/// The search from where keys lead, if the words fit together: there is one game, and standard input is one file.
+pub fn fitting<'w>(asked: SolveAfter<'w>, further: &[&str]) -> Result<SolveAfter<'w>, Stop> {
+    if !further.is_empty() {
+        return Err(Stop::OneGame);
+    }
+    if asked.game == STANDARD_INPUT && asked.keys == STANDARD_INPUT {
+        return Err(Stop::OneInput);
+    }
+    Ok(asked)
 }

@@ -1,9 +1,9 @@
 //! Levels that are searched for keys that win.
 
-ghost use Rattle.std.specs.Prelude.{◌≡◌, ◌≢◌, Err, false, true, IfErr, IfOk, OnOk, map};
+ghost use Rattle.std.specs.Prelude.{◌≡◌, ◌≢◌, Err, false, true, IfErr, IfOk, OnOk, codes, map};
 ghost use Rattle.ps_answers.specs.TellsLevels.{Tells};
-ghost use Rattle.ps_command.specs.Searched.{AreLinesToldOf, AreWonLines, IsLineOnRefused, IsRefused};
-ghost use Rattle.ps_command.specs.Searched.{form_of, how_refused, question_of};
+ghost use Rattle.ps_command.specs.Searched.{AreLinesToldOf, AreLinesToldOfText, AreWonLines, IsLineOnRefused};
+ghost use Rattle.ps_command.specs.Searched.{IsRefused, TellsOfGivenText, form_of, how_refused, question_of};
 ghost use Rattle.ps_command.specs.Told.{TellsInOrder};
 ghost use Rattle.ps_command.specs.declared.stops.Stop.TheVariants as Stop;
 
@@ -79,7 +79,7 @@ pub struct Question {
 
 impl Question {
     /// In which form answers are told.
-    fn form(&self) -> Form
+    pub fn form(&self) -> Form
         ensures { result ≡ form_of self.now }
     {
         if self.is_data {
@@ -107,20 +107,22 @@ impl Question {
             detail: Detail::Line,
             most: 1,
             counts: false,
+            warns: false,
+            strict: false,
         }
     }
 }
 
 /// What searches texts for levels that can be won.
 #[derive(Drop)]
-struct Search<'s, R: Files + AllocGlobal + Clock + Eprint, S: LevelSolver> {
-    rt: &'s R,
-    solver: &'s S,
-    question: Question,
+pub struct Search<'s, R: Files + AllocGlobal + Clock + Eprint, S: LevelSolver> {
+    pub rt: &'s R,
+    pub solver: &'s S,
+    pub question: Question,
     /// Whether it is said on standard error how far the search is.
-    is_watched: bool,
+    pub is_watched: bool,
     /// The file that ends the search once it is there, if one is named.
-    stop_file: Option<&'s str>,
+    pub stop_file: Option<&'s str>,
 }
 
 impl<'s, R: Files + AllocGlobal + Clock + Eprint, S: LevelSolver> Search<'s, R, S> {
@@ -149,6 +151,7 @@ impl<'s, R: Files + AllocGlobal + Clock + Eprint, S: LevelSolver> Search<'s, R, 
 
     /// Says of levels of the game in a file whether they can be won, and answers whether all can. Nothing is said on
     /// the screen of a file that can't be read.
+    #[tactic(auto, using(crate::proofs::LinesOnLevels::text_told, crate::proofs::LinesOnLevels::given_told, crate::proofs::LinesOnLevels::unread_told))]
     fn solve_file<I: ByteReader, O: ByteWriter>(
         &self,
         path: &str,
@@ -162,6 +165,9 @@ impl<'s, R: Files + AllocGlobal + Clock + Eprint, S: LevelSolver> Search<'s, R, 
         ensures won { IfOk result (λ won. won ≡ true → Tells (AreWonLines self.now.question path.now)
             (O.state screen.old).contents (O.state screen.new).contents) }
         ensures told { OnOk result (Tells (AreLinesToldOf self.now.question path.now)
+            (O.state screen.old).contents (O.state screen.new).contents) }
+        ensures given { path.now ≡ codes "-" → OnOk result (TellsOfGivenText self.now.question path.now
+            (I.state input.old).remaining (I.state input.new).remaining
             (O.state screen.old).contents (O.state screen.new).contents) }
         ensures fault { IfErr result (λ stop. stop ≢ Stop.NotAccepted) }
     {
@@ -179,6 +185,7 @@ impl<'s, R: Files + AllocGlobal + Clock + Eprint, S: LevelSolver> Search<'s, R, 
     }
 
     /// Says of levels of the game of a text whether they can be won, and answers whether all can.
+    #[tactic(auto, using(crate::proofs::LinesOnLevels::refused_told))]
     fn solve_text<O: ByteWriter>(
         &self,
         path: &str,
@@ -189,7 +196,7 @@ impl<'s, R: Files + AllocGlobal + Clock + Eprint, S: LevelSolver> Search<'s, R, 
         ensures well { OnOk result ((O.state screen.new).has_failed ≡ false) }
         ensures won { IfOk result (λ won. won ≡ true → Tells (AreWonLines self.now.question path.now)
             (O.state screen.old).contents (O.state screen.new).contents) }
-        ensures told { OnOk result (Tells (AreLinesToldOf self.now.question path.now)
+        ensures told { OnOk result (Tells (AreLinesToldOfText self.now.question path.now text.now)
             (O.state screen.old).contents (O.state screen.new).contents) }
         ensures fault { IfErr result (λ stop. stop ≢ Stop.NotAccepted) }
     {
@@ -214,7 +221,7 @@ impl<'s, R: Files + AllocGlobal + Clock + Eprint, S: LevelSolver> Search<'s, R, 
         ensures well { OnOk result ((O.state screen.new).has_failed ≡ false) }
         ensures won { IfOk result (λ won. won ≡ true → Tells (AreWonLines self.now.question path.now)
             (O.state screen.old).contents (O.state screen.new).contents) }
-        ensures told { OnOk result (Tells (AreLinesToldOf self.now.question path.now)
+        ensures told { OnOk result (Tells (AreLinesToldOfText self.now.question path.now (S.Game.text game.now))
             (O.state screen.old).contents (O.state screen.new).contents) }
         ensures fault { IfErr result (λ stop. stop ≢ Stop.NotAccepted) }
     {
@@ -262,7 +269,7 @@ impl<'s, R: Files + AllocGlobal + Clock + Eprint, S: LevelSolver> Search<'s, R, 
     }
 
     /// Says of a text that is no game which fault it has first.
-    fn tell_refused<O: ByteWriter>(
+    pub fn tell_refused<O: ByteWriter>(
         &self,
         path: &str,
         text: &[u8],
@@ -271,7 +278,7 @@ impl<'s, R: Files + AllocGlobal + Clock + Eprint, S: LevelSolver> Search<'s, R, 
         requires well { (O.state screen.old).has_failed ≡ false }
         requires refused { IsRefused text.now }
         ensures well { OnOk result ((O.state screen.new).has_failed ≡ false) }
-        ensures told { OnOk result (Tells (IsLineOnRefused self.now.question path.now)
+        ensures told { OnOk result (Tells (IsLineOnRefused self.now.question path.now text.now)
             (O.state screen.old).contents (O.state screen.new).contents) }
         ensures fault { IfErr result (λ stop. stop ≢ Stop.NotAccepted) }
     {

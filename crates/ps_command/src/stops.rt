@@ -38,6 +38,19 @@ const NO_STATES: &str =
 
 For more information, try '--help'.";
 
+/// What is told where keys lead to no level.
+const NO_LEVEL_THERE: &str = "the keys lead to no level: to a message, or to the end of the game";
+
+/// What is told where there are several texts, or a word after the text that is no number, and one is to be searched.
+const ONE_GAME: &str = "error: --after takes one GAME, and perhaps the number of a level
+
+For more information, try '--help'.";
+
+/// What is told where a text and keys are both to come from standard input.
+const ONE_INPUT: &str = "error: GAME and the keys of --after can't both be standard input
+
+For more information, try '--help'.";
+
 /// Why the program ends in place of a run's end.
 #[derive(Drop)]
 pub enum Stop {
@@ -57,10 +70,16 @@ pub enum Stop {
     NoFormat,
     /// The command line gives no number of states where it is to.
     NoStates,
+    /// The command line gives several games where it is to give one.
+    OneGame,
+    /// The command line asks for a text and for keys from standard input, which gives one of them.
+    OneInput,
     /// The game can't be read.
     Game,
     /// The game has no level of this number, but so many others.
     NoSuchLevel { level: usize, levels: usize },
+    /// The keys that are played before a search lead to no level.
+    NoLevelThere,
     /// The text that was checked is no game, or a level isn't known to be won, which was told already.
     NotAccepted,
     /// The run came to a fault, or memory ran out or the screen failed where nothing is played.
@@ -175,16 +194,29 @@ pub fn tell<R: Print + Eprint>(rt: &R, stop: Stop) -> u8
             let _ = rt.eprintln(NO_STATES);
             return 2;
         }
+        Stop::OneGame => return tell_wrong_line(rt, ONE_GAME),
+        Stop::OneInput => return tell_wrong_line(rt, ONE_INPUT),
         Stop::Game => {
             let _ = rt.eprintln("cannot read game");
         }
         Stop::NoSuchLevel { level, levels } => tell_no_such_level(rt, "", level, levels),
+        Stop::NoLevelThere => {
+            let _ = rt.eprintln(NO_LEVEL_THERE);
+        }
         Stop::NotAccepted => {}
         Stop::Run(fault) => {
             let _ = rt.eprintln(fault);
         }
     }
     1
+}
+
+/// Says in a text what is wrong with a command line, and gives the status.
+fn tell_wrong_line<R: Eprint>(rt: &R, text: &'static str) -> u8
+    ensures { result ≡ 2 }
+{
+    let _ = rt.eprintln(text);
+    2
 }
 
 /// Says after a front that the game has no level of this number, and how many it has.

@@ -14,3 +14,4 @@ mod writes;
 pub use program::{CompiledPrograms, compile};
 pub use ps_model::{Memory, Part};
 pub use ps_program::{CompiledRule, CompiledSection, Program};
+pub use rules::push_rules;

@@ -1,9 +1,7 @@
 -- What a check tells of a text that is a game, and of one that is none.
 use Rattle.std.proofs.Common.{◌≡◌, ◌∙◌, ◌+◌, ◌++◌, ℕ, List, [], Option, Some, None, true, false, sym, ap, subst}
 use Rattle.std.specs.Prelude.{is_some}
-use Rattle.ps_model.specs.declared.faults.Fault.{Fault}
-use Rattle.ps_model.specs.text.Faults.{first_fault}
-use Rattle.ps_model.specs.game.Games.{Game, faults, game}
+use Rattle.ps_model.specs.game.Games.{Game, game}
 use Rattle.ps_check.specs.Checks.{check_line}
 use Rattle.ps_game.specs.ToldFaults.{told_faults}
 use Rattle.ps_report.specs.EditorLines.{IsEditorPage}
@@ -34,12 +32,12 @@ editors_told how name text lines refused page = rw refused page
 -- the line of an object on a text, by its game, if it is one
 abbrev line_by : How → List ℕ → List ℕ → List ℕ → Option Game → Type 0
 line_by how name text line read = elim read [
-  | Some own ↦ line ≡ data_line (game_data name text own)
+  | Some own ↦ line ≡ data_line (game_data how name text own)
   | None ↦ IsRefusedLine how name text (told_faults (how.most + 1) text) line
 ]
 
 pub game_line_told : (how : How) (name text line : List ℕ) (read : Game) → game text ≡ Some read →
-    line ≡ data_line (game_data name text read) → IsDataLine how name text line
+    line ≡ data_line (game_data how name text read) → IsDataLine how name text line
 game_line_told how name text line read is e = subst (line_by how name text line) (sym is) e
 
 pub refused_line_told : (how : How) (name text line : List ℕ) → game text ≡ None →

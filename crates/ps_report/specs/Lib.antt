@@ -1,8 +1,11 @@
 pub mod Codes
 pub mod Details
 pub mod EditorLines
+pub mod Fronts
 pub mod Objects
 pub mod Pages
 pub mod PreludeTexts
 pub mod Preludes
 pub mod Reports
+pub mod ToldWarnings
+pub mod WarningLines

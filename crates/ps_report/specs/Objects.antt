@@ -14,7 +14,9 @@ use Rattle.ps_report.specs.Details.{IsToldOn}
 use Rattle.ps_report.specs.Pages.{StandFor}
 use Rattle.ps_report.specs.Preludes.{Said, said_by}
 use Rattle.ps_report.specs.declared.details.How.{How}
-use Rattle.serde_json.specs.Data.{Data, null, boolean, number, unsigned, string, array, object, member, no_members}
+use Rattle.ps_report.specs.ToldWarnings.{last_members}
+use Rattle.serde_json.specs.Data.{Data, Members, null, boolean, number, unsigned, string, array, object, member}
+use Rattle.serde_json.specs.Data.{no_members}
 use Rattle.serde_json.specs.View.{items_of}
 use Rattle.serde_json.specs.Written.{compact_text}
 
@@ -63,9 +65,9 @@ abbrev pub counts_of : Game → Data
 counts_of read =
     counts_data read.names.layer_count (level_count read) (object_count read.names) (rule_count read)
 
--- the object on a text that says this of itself
-abbrev pub object_with : Said → Bool → Data → List Data → List ℕ → Data → Bool → Data
-object_with said complete counts faults file levels ok =
+-- the object on a text that says this of itself, with these last members
+abbrev pub object_with : Said → Bool → Data → List Data → List ℕ → Data → Bool → Members → Data
+object_with said complete counts faults file levels ok last =
     object (member (codes "author") said.author
     (member (codes "complete") (boolean complete)
     (member (codes "counts") counts
@@ -74,17 +76,18 @@ object_with said complete counts faults file levels ok =
     (member (codes "homepage") said.homepage
     (member (codes "levels") levels
     (member (codes "ok") (boolean ok)
-    (member (codes "title") said.title no_members)))))))))
+    (member (codes "title") said.title last)))))))))
 
 -- on a text of that name that is this game
-unfoldable pub game_data : List ℕ → List ℕ → Game → Data
-game_data name text read =
+unfoldable pub game_data : How → List ℕ → List ℕ → Game → Data
+game_data how name text read =
     object_with (said_by text) true (counts_of read) [] name (array (items_of (levels_data read.entries))) true
+    (last_members how text)
 
 -- on one with faults of which these are told
 unfoldable pub refused_data : How → List ℕ → List ℕ → List Fault → List Data → Data
 refused_data how name text told faults =
-    object_with (said_by text) (nat_le (length told) how.most) null faults name null false
+    object_with (said_by text) (nat_le (length told) how.most) null faults name null false (last_members how text)
 
 -- an object as a line
 abbrev pub data_line : Data → List ℕ
@@ -99,6 +102,6 @@ pub record IsRefusedLine (how : How) (name text : List ℕ) (told : List Fault) 
 -- the line on a text
 abbrev pub IsDataLine : How → List ℕ → List ℕ → List ℕ → Type 0
 IsDataLine how name text line = elim (game text) [
-  | Some read ↦ line ≡ data_line (game_data name text read)
+  | Some read ↦ line ≡ data_line (game_data how name text read)
   | None ↦ IsRefusedLine how name text (told_faults (how.most + 1) text) line
 ]

@@ -1,18 +1,18 @@
 -- What a check tells of a text, in each form.
-use Rattle.std.specs.Prelude.{◌≡◌, ◌+◌, ℕ, Bool, true, false, if◌then◌else◌, List, [], ◌++◌, codes, is_some}
+use Rattle.std.specs.Prelude.{◌≡◌, ◌+◌, ℕ, nat_eq, Bool, true, false, ◌&&◌, ◌||◌, not, List, [], ◌++◌}
+use Rattle.std.specs.Prelude.{length, is_some}
 use Rattle.ps_model.specs.game.Games.{game}
 use Rattle.ps_check.specs.Checks.{check_line}
 use Rattle.ps_game.specs.ToldFaults.{told_faults}
 use Rattle.ps_report.specs.EditorLines.{IsEditorPage}
+use Rattle.ps_report.specs.Fronts.{front_of}
 use Rattle.ps_report.specs.Objects.{IsDataLine}
 use Rattle.ps_report.specs.Pages.{IsPage}
+use Rattle.ps_report.specs.ToldWarnings.{told_warnings}
+use Rattle.ps_report.specs.WarningLines.{warning_lines}
 use Rattle.ps_report.specs.declared.details.Format.{Format}
 use Rattle.ps_report.specs.declared.details.Format.TheVariants.{Text, Gnu, Json}
 use Rattle.ps_report.specs.declared.details.How.{How}
-
--- what each line for people begins with: the text's name, where it is one of several
-abbrev pub front_of : Bool → List ℕ → List ℕ
-front_of is_named name = if is_named then name ++ codes ": " else []
 
 -- for people: the line on a text, if it is a game, or else the page of the faults that are told together
 abbrev pub IsToldOf : Bool → How → List ℕ → List ℕ → List ℕ → Type 0
@@ -30,6 +30,13 @@ IsReportIn Text how name text lines = IsToldOf (is_some (game text)) how (front_
 IsReportIn Gnu how name text lines = IsToldToEditors (is_some (game text)) how name text lines
 IsReportIn Json how name text lines = IsDataLine how name text lines
 
--- in the form that is asked for
-abbrev pub IsReport : How → List ℕ → List ℕ → List ℕ → Type 0
-IsReport how name text lines = IsReportIn how.format how name text lines
+-- in the form that is asked for, and below it a line on each of the warnings
+pub record IsReport (how : How) (name text lines : List ℕ) : Type 0 where
+  pub plain : List ℕ
+  pub is : IsReportIn how.format how name text plain
+  pub are : lines ≡ plain ++ warning_lines how name (told_warnings how text)
+
+-- the text is a game, and has no warning that is told, where there may be none
+abbrev pub is_well : How → List ℕ → Bool
+is_well how text =
+    is_some (game text) && (not how.strict || nat_eq (length (told_warnings how text)) 0)

@@ -40,6 +40,10 @@ pub struct How {
     pub most: u32,
     /// Whether the number of faults is told, where lines tell them.
     pub counts: bool,
+    /// Whether the warnings of a text are told, where it is a game.
+    pub warns: bool,
+    /// Whether a text with a warning that is told isn't well.
+    pub strict: bool,
 }
 
 /// What a check tells of a fault: its line of the text, its column, and what is to be mended, or else what the fault

@@ -8,11 +8,14 @@ mod codes;
 mod details;
 mod editors;
 mod explanations;
+mod fronts;
 mod objects;
 mod pages;
 mod prelude_lines;
 mod preludes;
 mod reports;
+mod warning_lines;
+mod warning_objects;
 
 pub use details::{Detail, Format, How, detail_lines};
 pub use explanations::explanation;

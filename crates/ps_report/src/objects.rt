@@ -4,9 +4,8 @@ ghost use Rattle.std.specs.Prelude.{◌≡◌, ◌++◌, ◌∷◌, [], List, fa
 ghost use Rattle.ps_model.specs.declared.faults.Fault.{Fault as TheFault};
 ghost use Rattle.ps_levels.specs.EntriesShown.{entries_shown, entry_shown};
 ghost use Rattle.ps_report.specs.Objects.{IsFaultTold, IsRefusedLine, counts_of, data_line, entry_data, fault_data};
-ghost use Rattle.ps_report.specs.Objects.{game_data, level_data, levels_data, object_with};
+ghost use Rattle.ps_report.specs.Objects.{game_data, level_data, levels_data};
 ghost use Rattle.ps_report.specs.Pages.{StandFor};
-ghost use Rattle.ps_report.specs.Preludes.{said_by, words_shown};
 ghost use Rattle.serde_json.specs.Data.{array, null};
 ghost use Rattle.serde_json.specs.View.{items_of, view};
 ghost use Rattle.serde_json.specs.Written.{has_float};
@@ -14,13 +13,13 @@ ghost use Rattle.serde_json.specs.Written.{has_float};
 use crate::codes::{code_of, name_of};
 use crate::details::{How, told_of};
 use crate::pages::first_faults;
-use crate::preludes::{Words, said_by};
+use crate::warning_objects::object_on;
 use ps_check::size_of;
 use ps_game::Game;
 use ps_levels::{Entry, Level};
 use ps_model::{Fault, Memory};
 use serde_json::{Value, json};
-use std::alloc::{AllocError, Global};
+use std::alloc::Global;
 
 /// A fault, with its column and what is to be mended.
 fn fault_object(alloc: Global, text: &[u8], fault: Fault) -> Result<Value, Memory>
@@ -120,32 +119,14 @@ fn counts_object(alloc: Global, game: &Game) -> Result<Value, Memory>
     Ok(told)
 }
 
-/// What an object on a text is made of, besides what the text says of itself, and its name.
+/// What an object on a text is made of, besides what the text says of itself, its name, and its warnings.
 #[derive(Drop)]
-struct Parts {
-    complete: bool,
-    counts: Value,
-    faults: Vec<Value>,
-    levels: Value,
-    ok: bool,
-}
-
-/// The object that has these parts.
-fn object_with(alloc: Global, name: &str, words: Words, parts: Parts) -> Result<Value, AllocError>
-    ensures { IfOk result (λ told. view told ≡ object_with (words_shown words) parts.complete (view parts.counts)
-        (map view parts.faults.items) name.now (view parts.levels) parts.ok) }
-{
-    json!(in alloc; {
-        "author": words.author,
-        "complete": parts.complete,
-        "counts": parts.counts,
-        "faults": Value::Array(parts.faults),
-        "file": name,
-        "homepage": words.homepage,
-        "levels": parts.levels,
-        "ok": parts.ok,
-        "title": words.title
-    })
+pub struct Parts {
+    pub complete: bool,
+    pub counts: Value,
+    pub faults: Vec<Value>,
+    pub levels: Value,
+    pub ok: bool,
 }
 
 /// An object as a line.
@@ -165,10 +146,15 @@ fn array_of(values: Vec<Value>) -> Value
 }
 
 /// The object on a text that is a game.
-fn game_object(alloc: Global, name: &str, text: &[u8], game: &Game) -> Result<Value, Memory>
-    ensures { IfOk result (λ told. view told ≡ game_data name.now text.now game.now) }
+fn game_object(
+    alloc: Global,
+    name: &str,
+    text: &[u8],
+    how: How,
+    game: &Game,
+) -> Result<Value, Memory>
+    ensures { IfOk result (λ told. view told ≡ game_data how name.now text.now game.now) }
 {
-    let words = said_by(alloc, text)?;
     let counts = counts_object(alloc, game)?;
     let levels = level_objects(alloc, &game.entries)?;
     let parts = Parts {
@@ -178,40 +164,40 @@ fn game_object(alloc: Global, name: &str, text: &[u8], game: &Game) -> Result<Va
         levels: array_of(levels),
         ok: true,
     };
-    let told = object_with(alloc, name, words, parts)?;
+    let told = object_on(alloc, name, text, how, parts)?;
     Ok(told)
 }
 
 /// The line on a text that is a game.
-pub fn game_line(alloc: Global, name: &str, text: &[u8], game: &Game) -> Result<String, Memory>
-    ensures { IfOk result (λ line. string_bytes line ≡ data_line (game_data name.now text.now game.now)) }
+pub fn game_line(
+    alloc: Global,
+    name: &str,
+    text: &[u8],
+    how: How,
+    game: &Game,
+) -> Result<String, Memory>
+    ensures { IfOk result (λ line. string_bytes line ≡ data_line (game_data how name.now text.now game.now)) }
 {
-    let told = game_object(alloc, name, text, game)?;
+    let told = game_object(alloc, name, text, how, game)?;
     let line = line_of(alloc, &told)?;
     Ok(line)
 }
 
-/// The object on a text that has faults, of which these are told.
-fn refused_object(
-    alloc: Global,
-    name: &str,
-    text: &[u8],
-    complete: bool,
-    faults: Vec<Value>,
-) -> Result<Value, Memory>
-    ensures { IfOk result (λ told. view told
-        ≡ object_with (said_by text.now) complete null (map view faults.items) name.now null false) }
+/// The parts of the object on a text that has faults, of which these are told.
+fn refused_parts(complete: bool, faults: Vec<Value>) -> Parts
+    ensures complete { result.complete ≡ complete }
+    ensures counts { view result.counts ≡ null }
+    ensures faults { result.faults.items ≡ faults.items }
+    ensures levels { view result.levels ≡ null }
+    ensures ok { result.ok ≡ false }
 {
-    let words = said_by(alloc, text)?;
-    let parts = Parts {
+    Parts {
         complete,
         counts: Value::Null,
         faults,
         levels: Value::Null,
         ok: false,
-    };
-    let told = object_with(alloc, name, words, parts)?;
-    Ok(told)
+    }
 }
 
 /// Whether there are no more faults than `most`.
@@ -234,7 +220,7 @@ pub fn refused_line(
     let shown = first_faults(told, how.most as usize);
     let faults = fault_objects(alloc, text, shown)?;
     let complete = are_few(told, how.most as usize);
-    let object = refused_object(alloc, name, text, complete, faults)?;
+    let object = object_on(alloc, name, text, how, refused_parts(complete, faults))?;
     let line = line_of(alloc, &object)?;
     Ok(line)
 }

@@ -4,5 +4,6 @@ mod Leads
 mod Numbers
 mod Progress
 mod Spelling
+mod Links
 mod Keeping
 mod Answering

@@ -4,6 +4,12 @@ use Rattle.std.proofs.Common.{get_or}
 use Rattle.ps_search.specs.declared.visited.Link.{Link}
 
 module _ {Input : Type 0} where
+  -- links, by their parents and their inputs
+  abbrev pub links_of : List ℕ → List (Option Input) → List (Link Input)
+  links_of [] inputs = []
+  links_of (parent ∷ parents) [] = []
+  links_of (parent ∷ parents) (input ∷ inputs) = record { parent = parent; input = input } ∷ links_of parents inputs
+
   -- with one more list: that of the link's parent, and then the link's input
   abbrev pub with_way : List (List Input) → Link Input → List (List Input)
   with_way ways link = ways ++ (get_or ways link.parent [] ++ option_to_list link.input) ∷ []

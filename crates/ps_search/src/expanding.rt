@@ -4,6 +4,7 @@ ghost use Rattle.std.specs.Prelude.{◌≡◌, ◌<◌, ◌≤◌, Option, lengt
 ghost use Rattle.std.specs.List.{Contains};
 ghost use Rattle.ps_search.specs.Answers.{IsReason};
 ghost use Rattle.ps_search.specs.Searched.{Kept, UnderWork, IsNumbered, IsLed, IsDone};
+ghost use Rattle.ps_search.specs.Ways.{links_of};
 
 use crate::answers::Why;
 use crate::layers::Layer;
@@ -23,11 +24,11 @@ fn advance<M: Moves>(
     input: M::Input,
 ) -> Result<bool, Why<M::Fault>>
     requires work { UnderWork (M.next moves.old) (M.start moves.old) inputs.now (M.is_key moves.old) (M.place
-        moves.old) (M.here moves.old) visited.old.keys.keys visited.old.links.items layer.at layer.end layer.depth }
+        moves.old) (M.here moves.old) visited.old.keys.keys (links_of visited.old.parents.items visited.old.inputs.items) layer.at layer.end layer.depth }
     requires given { Contains inputs.now input }
     requires within { length visited.old.keys.keys ≤ visited.old.limit }
     ensures work { OnOk result (UnderWork (M.next moves.old) (M.start moves.old) inputs.now (M.is_key moves.new)
-        (M.place moves.new) (M.here moves.old) visited.new.keys.keys visited.new.links.items layer.at layer.end
+        (M.place moves.new) (M.here moves.old) visited.new.keys.keys (links_of visited.new.parents.items visited.new.inputs.items) layer.at layer.end
         layer.depth) }
     ensures numbered { OnOk result ((place : Option M.Place) → IsNumbered (map (M.place moves.old)
         visited.old.keys.keys) place → IsNumbered (map (M.place moves.new) visited.new.keys.keys) place) }
@@ -70,10 +71,10 @@ fn enter<M: Moves>(
     layer: Layer,
 ) -> Result<(), M::Fault>
     requires kept { Kept (M.next moves.old) (M.start moves.old) inputs.now (M.is_key moves.old) (M.place moves.old)
-        visited.now.keys.keys visited.now.links.items layer.at layer.end layer.depth }
+        visited.now.keys.keys (links_of visited.now.parents.items visited.now.inputs.items) layer.at layer.end layer.depth }
     requires below { layer.at < layer.end }
     ensures work { OnOk result (UnderWork (M.next moves.old) (M.start moves.old) inputs.now (M.is_key moves.new)
-        (M.place moves.new) (M.here moves.new) visited.now.keys.keys visited.now.links.items layer.at layer.end
+        (M.place moves.new) (M.here moves.new) visited.now.keys.keys (links_of visited.now.parents.items visited.now.inputs.items) layer.at layer.end
         layer.depth) }
     ensures next { M.next moves.new ≡ M.next moves.old }
     ensures start { M.start moves.new ≡ M.start moves.old }
@@ -100,11 +101,11 @@ pub(crate) fn expand<M: Moves>(
     layer: Layer,
 ) -> Result<Option<M::Input>, Why<M::Fault>>
     requires kept { Kept (M.next moves.old) (M.start moves.old) inputs.now (M.is_key moves.old) (M.place moves.old)
-        visited.old.keys.keys visited.old.links.items layer.at layer.end layer.depth }
+        visited.old.keys.keys (links_of visited.old.parents.items visited.old.inputs.items) layer.at layer.end layer.depth }
     requires below { layer.at < layer.end }
     requires within { length visited.old.keys.keys ≤ visited.old.limit }
     ensures done { IfOk result (IsDone (M.next moves.old) (M.start moves.old) inputs.now (M.is_key moves.new)
-        (M.place moves.new) visited.new.keys.keys visited.new.links.items layer.at layer.end layer.depth) }
+        (M.place moves.new) visited.new.keys.keys (links_of visited.new.parents.items visited.new.inputs.items) layer.at layer.end layer.depth) }
     ensures next { M.next moves.new ≡ M.next moves.old }
     ensures start { M.start moves.new ≡ M.start moves.old }
     ensures within { length visited.new.keys.keys ≤ visited.new.limit }

@@ -2,7 +2,7 @@
 
 ghost use Rattle.std.specs.Prelude.{◌≡◌, ◌<◌, ◌≤◌, ◌∷◌, ◌++◌, [], length, IfErr, IfOk};
 ghost use Rattle.ps_search.specs.Answers.{IsAnswer, IsReason, IsWon};
-ghost use Rattle.ps_search.specs.Ways.{way, AreOrdered};
+ghost use Rattle.ps_search.specs.Ways.{links_of, way, AreOrdered};
 ghost use Rattle.ps_search.specs.Searched.{Kept};
 
 use crate::answers::{Found, Why};
@@ -26,7 +26,7 @@ fn begin<M: Moves>(
     limit: u32,
 ) -> Result<Visited<M::Key, M::Input>, Why<M::Fault>>
     ensures kept { IfOk result (λ visited. Kept (M.next moves.old) (M.start moves.old) inputs.now (M.is_key
-        moves.new) (M.place moves.new) visited.keys.keys visited.links.items 0 1 0) }
+        moves.new) (M.place moves.new) visited.keys.keys (links_of visited.parents.items visited.inputs.items) 0 1 0) }
     ensures within { IfOk result (λ visited. length visited.keys.keys ≤ visited.limit) }
     ensures limit { IfOk result (λ visited. visited.limit ≡ limit) }
     ensures next { M.next moves.new ≡ M.next moves.old }
@@ -56,10 +56,10 @@ fn won<K: Eq + Hash + Drop, I: Copy, F: Drop>(
     layer: Layer,
     input: I,
 ) -> Found<I, F>
-    requires ordered { AreOrdered visited.now.links.items }
-    requires below { layer.at < length visited.now.links.items }
+    requires ordered { AreOrdered (links_of visited.now.parents.items visited.now.inputs.items) }
+    requires below { layer.at < length (links_of visited.now.parents.items visited.now.inputs.items) }
     requires within { length visited.now.keys.keys ≤ visited.now.limit }
-    ensures { IsWon (way visited.now.links.items layer.at ++ input ∷ []) layer.depth (length visited.now.keys.keys)
+    ensures { IsWon (way (links_of visited.now.parents.items visited.now.inputs.items) layer.at ++ input ∷ []) layer.depth (length visited.now.keys.keys)
         result }
 {
     match visited.spell(alloc, layer.at, input) {

@@ -9,3 +9,5 @@ mod AlikeLevels
 mod SourceLevels
 mod BegunLevels
 mod ReadLevels
+mod KeyBytes
+mod LedLevels

@@ -4,8 +4,9 @@ use Rattle.ps_model.specs.declared.play.Input.{Input}
 use Rattle.ps_model.specs.declared.play.Input.TheVariants.{Up, Down, Left, Right, Action}
 use Rattle.ps_model.specs.board.Turns.{Script}
 use Rattle.ps_model.specs.session.Sessions.{Session, Playing, Waiting, AtMessage, Ended}
-use Rattle.ps_model.specs.session.Solving.{WinsInFewest, NeverWins, NotWithin, Spot, spot}
+use Rattle.ps_model.specs.session.Solving.{WinsInFewest, NeverWins, NotWithin, spot}
 use Rattle.ps_answers.specs.SolvedLevels.{IsSolved}
+pub use Rattle.ps_answers.specs.SolvedLevels.{IsIn, IsNowhere}
 use Rattle.ps_answers.specs.declared.solved.Solved.{Solved}
 use Rattle.ps_search.specs.declared.answers.Found.{Found}
 use Rattle.ps_search.specs.declared.answers.Found.TheVariants.{Won, Never, Unknown}
@@ -24,14 +25,6 @@ entry_in (Playing play) = play.entry
 entry_in (Waiting play pending) = play.entry
 entry_in (AtMessage at) = at
 entry_in (Ended ending) = 0
-
--- the session is in the level of the entry
-abbrev pub IsIn : ℕ → Session → Type 0
-IsIn entry session = (here : Spot) × (spot entry session ≡ Some here)
-
--- the session is in no level
-abbrev pub IsNowhere : Session → Type 0
-IsNowhere session = (entry : ℕ) → spot entry session ≡ None
 
 module _ (script : Script) (entry : ℕ) (session : Session) (limit : ℕ) where
   -- what a search found is true of the level of an entry from a session on, and keeps the limit

@@ -1,9 +1,18 @@
 //! What solves the levels of texts.
 
-use crate::solved::NotSearched;
-use crate::solving::solve_level;
-use ps_answers::{LevelSolver, SolvableGame, Solved};
+ghost use Rattle.std.specs.Prelude.{◌≡◌, ℕ, IfOk, Some, filter, length, suc, take};
+ghost use Rattle.ps_answers.specs.SolvedAfterKeys.{HasStart, IsTrueThere, script_from};
+ghost use Rattle.ps_levels.specs.EntriesShown.{entries_shown};
+ghost use Rattle.ps_model.specs.board.Turns.{Script, script_at};
+ghost use Rattle.ps_model.specs.session.Sessions.{Session, is_level};
+ghost use Rattle.ps_solve.specs.SolvedLevels.{IsSolvedAfter};
+
+use crate::key_bytes::keys_of_bytes;
+use crate::solved::{NotSearched, SolvedHere};
+use crate::solving::{KeysPlayed, solve_after, solve_level};
+use ps_answers::{LevelSolver, RunSoFar, SolvableGame, Solved, SolvedAfter};
 use ps_game::{Game, read_game};
+use ps_levels::Entry;
 use ps_model::{Memory, Refusal};
 use ps_search::Watcher;
 use ps_stage::{level_entry, levels_among};
@@ -38,6 +47,54 @@ impl Model for SolvableText {
     ghost invariant = { λ t. IsGameOf t.text.value.items t.game };
 }
 
+impl SolvableText {
+    /// The place of the entry at which a run begins: at its start, or at the level of a number.
+    fn first_entry(&self, level: Option<usize>) -> usize
+        requires { HasStart self.now.text level }
+        ensures { script_from self.now.text level ≡ Some (script_at self.now.read result) }
+    {
+        let entries = &self.game.entries;
+        let Some(level) = level else {
+            return 0;
+        };
+        match level_entry(entries, level) {
+            Some(entry) => entry,
+            // The text's game has the level.
+            None => unreachable!(),
+        }
+    }
+}
+
+/// The number of the level of an entry: how many of the entries up to it are levels.
+fn level_number(entries: &[Entry], entry: usize) -> usize
+    ensures { result ≡ length (filter is_level (take (suc entry) (entries_shown entries.now))) }
+{
+    if entries.len() <= entry {
+        return levels_among(entries);
+    }
+    let (front, _) = entries.split_at(entry + 1);
+    levels_among(front)
+}
+
+/// What is found where the keys of a run lead, with the number of the level in place of its entry.
+fn found_after(
+    entries: &[Entry],
+    found: Result<SolvedHere, NotSearched>,
+) -> Result<SolvedAfter, Memory>
+    ensures { (script : Script) (session : Session) (limit : ℕ) → script.entries ≡ entries_shown entries.now
+        → IsSolvedAfter script session limit found → IfOk result (IsTrueThere script session limit) }
+{
+    match found {
+        Ok(here) => {
+            let level = level_number(entries, here.entry);
+            let solved = here.solved;
+            Ok(SolvedAfter::Level { level, solved })
+        }
+        Err(NotSearched::NoLevel) => Ok(SolvedAfter::NoLevel),
+        Err(NotSearched::Memory) => Err(Memory),
+    }
+}
+
 impl SolvableGame for SolvableText {
     ghost text = { λ t. t.text };
 
@@ -62,6 +119,20 @@ impl SolvableGame for SolvableText {
             // A run that begins at a level is in it.
             Err(NotSearched::NoLevel) => unreachable!(),
         }
+    }
+
+    fn solve_after<T: Watcher>(
+        &self,
+        alloc: Global,
+        run: RunSoFar<'_>,
+        limit: u32,
+        watcher: &mut T,
+    ) -> Result<SolvedAfter, Memory> {
+        let entry = self.first_entry(run.level);
+        let keys = keys_of_bytes(alloc, run.keys)?;
+        let played = KeysPlayed { entry, keys: &keys };
+        let found = solve_after(alloc, &self.game, played, limit, watcher);
+        found_after(&self.game.entries, found)
     }
 }
 

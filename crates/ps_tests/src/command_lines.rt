@@ -77,7 +77,7 @@ pub const CUT_OBJECT: &str =
     \"levels\":null,\"ok\":false,\"title\":null}\n";
 
 /// The words of command lines that aren't right.
-const BAD_LINES: [&[&str]; 61] = [
+const BAD_LINES: [&[&str]; 71] = [
     &["ps_play", "a.game", "--show", "-"],
     &["ps_play", "--view", "24x80", "--show", "-"],
     &["ps_play", "--describe"],
@@ -116,6 +116,9 @@ const BAD_LINES: [&[&str]; 61] = [
     &["ps_play", "--check", "a.game", "--limit", "2"],
     &["ps_play", "--check", "--all", "a.game", "--limit", "0"],
     &["ps_play", "--explain", "RU7", "--all"],
+    &["ps_play", "--warn", "a.game"],
+    &["ps_play", "--check", "a.game", "--strict"],
+    &["ps_play", "--explain", "RU7", "--warn"],
     &["ps_play", "--format", "gnu", "a.game"],
     &["ps_play", "--check", "--format", "xml", "a.game"],
     &["ps_play", "--explain", "RU7", "--format", "json"],
@@ -143,6 +146,19 @@ const BAD_LINES: [&[&str]; 61] = [
     &["ps_play", "--describe", "a.game", "--states", "5"],
     &["ps_play", "a.game", "--format", "json"],
     &["ps_play", "--explain", "RU7", "--solve"],
+    &["ps_play", "--solve", "a.game", "--after"],
+    &["ps_play", "a.game", "--after", "a.keys"],
+    &[
+        "ps_play", "--solve", "--after", "a.keys", "a.game", "b.game",
+    ],
+    &[
+        "ps_play", "--solve", "--after", "a.keys", "--level", "1", "a.game", "1",
+    ],
+    &["ps_play", "--solve", "--after", "-", "-"],
+    &["ps_play", "--check", "--after", "a.keys", "a.game"],
+    &[
+        "ps_play", "--solve", "--after", "a.keys", "--keys", "a.keys", "a.game",
+    ],
 ];
 
 /// Command lines that ask for a game to be played, and what must come of each.
@@ -356,7 +372,7 @@ const PLAYS: [(Told, &[Line]); 11] = [
 ];
 
 /// Command lines that ask for a check, and what must come of each.
-const CHECKS: [(Told, &[Line]); 13] = [
+const CHECKS: [(Told, &[Line]); 16] = [
     // A game is checked, and no key is asked for.
     (
         Told {
@@ -485,6 +501,64 @@ const CHECKS: [(Told, &[Line]); 13] = [
                 "cut.game",
             ],
             "a.game\nlost.game\ncut.game\n",
+        )],
+    ),
+    // A check warns of what is surely a mistake in a game, and the status is as without it.
+    (
+        Told {
+            input: b"d",
+            reads: 0,
+            status: 0,
+            shown: "ok: objects 3, layers 3, rules 1, levels 2\n\
+            line 2: warning: this line says nothing, but its first word is much like `noundo`\n\
+            line 16: warning: this rule can do nothing\n\
+            line 22: warning: this level shows no Player\n",
+            printed: "",
+            complained: "",
+        },
+        &[(
+            &["ps_play", "--check", "--warn", "warned.game"],
+            "warned.game\n",
+        )],
+    ),
+    // It is 1 where that is asked for, and a game without a mistake is well all the same.
+    (
+        Told {
+            input: b"d",
+            reads: 0,
+            status: 1,
+            shown: "warned.game:2:1: warning: this line says nothing, but its first word is much like `noundo`\n\
+            warned.game:16:1: warning: this rule can do nothing\n\
+            warned.game:22:1: warning: this level shows no Player\n",
+            printed: "",
+            complained: "",
+        },
+        &[(
+            &[
+                "ps_play",
+                "--check",
+                "--warn",
+                "--strict",
+                "--format",
+                "gnu",
+                "a.game",
+                "warned.game",
+            ],
+            "a.game\nwarned.game\n",
+        )],
+    ),
+    (
+        Told {
+            input: b"d",
+            reads: 0,
+            status: 0,
+            shown: "ok: objects 9, layers 4, rules 1, levels 1\n",
+            printed: "",
+            complained: "",
+        },
+        &[(
+            &["ps_play", "--check", "--warn", "--strict", "a.game"],
+            "a.game\n",
         )],
     ),
     // For editors the first fault is a line, and a game none.

@@ -31,6 +31,11 @@ pub const THREE_LEVELS: &[u8] =
 LEGEND\n@ = Crate and Target\nCOLLISIONLAYERS\nBackground\nTarget\nPlayer, Wall, Crate\n\
 RULES\n[ > Player | Crate ] -> [ > Player | > Crate ]\nWINCONDITIONS\nAll Target on Crate\nLEVELS\n\
 #P*O#\n\n#OP*#\n\nmessage Last\n#P.*.O#\n";
+/// A game with a misspelt option, a rule that can do nothing, and a second level without a Player.
+pub const WARNED: &[u8] =
+    b"title T\nnoudno\nOBJECTS\nBackground .\ngreen\nPlayer P\nwhite\nTarget O\nblue\nLEGEND\nCOLLISIONLAYERS\n\
+Background\nTarget\nPlayer\nRULES\n[ Player no Player ] -> win\nWINCONDITIONS\nSome Player on Target\nLEVELS\n\
+PO\n\n.O\n";
 
 /// A text that ends before its levels.
 pub const CUT_SHORT: &[u8] =

@@ -49,6 +49,8 @@ mod rows;
 #[cfg(test)]
 mod searches;
 #[cfg(test)]
+mod searches_after;
+#[cfg(test)]
 mod solved_puzzles;
 #[cfg(test)]
 mod solving;

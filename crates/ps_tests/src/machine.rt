@@ -2,7 +2,7 @@
 
 ghost use Rattle.std.specs.Prelude.{IsErr};
 
-use crate::games::{CUT_SHORT, PUSHING, THREE_LEVELS, TWO_LEVELS};
+use crate::games::{CUT_SHORT, PUSHING, THREE_LEVELS, TWO_LEVELS, WARNED};
 use ps_model::TEXT_LIMIT;
 use std::alloc::{Allocator, Global};
 use std::cell::RefCell;
@@ -14,17 +14,20 @@ use std::io::{ErrorKind, Read, Seek, SeekFrom, Write};
 use std::rt::{Env, Files};
 use std::time::{Clock, Duration};
 
-/// The keys of each file of keys.
+/// The keys of each file of keys but `right.keys`.
 const KEYS: &[u8] = b"q";
+
+/// The key of `right.keys`.
+const RIGHT: &[u8] = b"d";
 
 /// The size of a terminal in each file of sizes.
 const SIZE: &[u8] = b"10x20\n";
 
-/// A machine with the words of a command line. Each file whose name ends with `.keys` has the same keys, and one with
-/// `.size` the same size; `cut.game` has a text that ends before its levels, `two.game` the game [`TWO_LEVELS`],
-/// `three.game` the game [`THREE_LEVELS`], and each other one the game [`PUSHING`]. In `long.game` and `too-long.game`
-/// line feeds stand before it. With them it has as many bytes as a text may have, and one more. There is neither a
-/// `lost.game` nor a `lost.size`, nor a clock.
+/// A machine with the words of a command line. Each file whose name ends with `.keys` has the same keys, but for
+/// `right.keys`, and one with `.size` the same size. `cut.game` has a text that ends before its levels, `two.game` the
+/// game [`TWO_LEVELS`], and `three.game` the game [`THREE_LEVELS`]. `warned.game` has the game [`WARNED`], and each
+/// other one the game [`PUSHING`]. In `long.game` and `too-long.game` line feeds stand before it. With them it has as many bytes
+/// as a text may have, and one more. There is neither a `lost.game` nor a `lost.keys` nor a `lost.size`, nor a clock.
 #[derive(Drop)]
 pub struct Machine<'w> {
     alloc: Global,
@@ -195,8 +198,10 @@ fn file_of(name: &str) -> OpenedFile {
         "cut.game" => (0, CUT_SHORT),
         "two.game" => (0, TWO_LEVELS),
         "three.game" => (0, THREE_LEVELS),
+        "warned.game" => (0, WARNED),
         "long.game" => (room, PUSHING),
         "too-long.game" => (room.saturating_add(1), PUSHING),
+        "right.keys" => (0, RIGHT),
         _ if name.ends_with(".keys") => (0, KEYS),
         _ if name.ends_with(".size") => (0, SIZE),
         _ => (0, PUSHING),

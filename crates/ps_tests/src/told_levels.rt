@@ -1,6 +1,6 @@
 //! Levels of a text, and the lines that tell whether they can be won.
 
-use ps_answers::{Form, LevelSolver, LevelTeller, SolvableGame};
+use ps_answers::{Form, LevelSolver, LevelTeller, RunSoFar, SolvableGame, ToldAfter};
 use ps_devices::MemoryWriter;
 use ps_model::Refusal;
 use ps_solve::{GameSolver, SolvableText, Unwatched};
@@ -52,6 +52,67 @@ fn each_level_has_its_line(rt: HostRuntime) -> Result<(), Fail> {
         None,
         "level 1: won in 1 key: d\nlevel 2: won in 1 key: a\n",
     )
+}
+
+/// Whether this is told, and answered, after keys of a run that began at a level, or at the start.
+fn says_after(
+    rt: &(impl Abort + AllocGlobal),
+    run: RunSoFar<'_>,
+    wanted: &str,
+    answered: ToldAfter,
+) -> Result<(), Fail> {
+    let game = opened(rt);
+    let mut writer = MemoryWriter::new(rt.alloc(), 100, 100)?;
+    let mut teller = LevelTeller {
+        alloc: rt.alloc(),
+        game: &game,
+        watcher: &mut Unwatched,
+        form: Form::Line,
+        name: "a.game",
+        limit: 100,
+    };
+    let told = teller.tell_after(run, &mut writer)?;
+    assert_eq!(rt; told, answered);
+    assert!(rt; writer.bytes() == wanted.as_bytes());
+    Ok(())
+}
+
+#[test]
+fn the_level_has_a_line_to_which_keys_lead(rt: HostRuntime) -> Result<(), Fail> {
+    let run = RunSoFar {
+        level: None,
+        keys: b"wdx",
+    };
+    let won = ToldAfter::Line { is_won: true };
+    says_after(&rt, run, "level 2: won in 1 key: a\n", won)?;
+    let run = RunSoFar {
+        level: Some(2),
+        keys: b"as",
+    };
+    says_after(&rt, run, "", ToldAfter::NoLevel)?;
+    let run = RunSoFar {
+        level: Some(2),
+        keys: b"d",
+    };
+    says_after(&rt, run, "level 2: won in 2 keys: aa\n", won)
+}
+
+#[test]
+fn no_level_has_a_line_at_a_message_or_beyond_the_last_one(rt: HostRuntime) -> Result<(), Fail> {
+    let run = RunSoFar {
+        level: Some(1),
+        keys: b"d",
+    };
+    says_after(&rt, run, "", ToldAfter::NoLevel)?;
+    let run = RunSoFar {
+        level: Some(3),
+        keys: b"d",
+    };
+    let lacking = ToldAfter::NoSuchLevel {
+        level: 3,
+        levels: 2,
+    };
+    says_after(&rt, run, "", lacking)
 }
 
 #[test]

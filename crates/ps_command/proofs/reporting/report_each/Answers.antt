@@ -38,7 +38,7 @@ loop-path-preserved g c =
       | in-Some-true w ↦
           let said : c.in_ok-report_one.field-0 ≡ Some true = w.in-Some-true.is ∙ ap Some w.in-Some-true.field-0-test in
           let game : TellsReport how name true between after =
-          subst (λ (o : Option Bool). IfSome o (λ is_game. TellsReport how name is_game between after)) said told.told in
+          subst (λ (o : Option Bool). IfSome o (λ well. TellsReport how name well between after)) said told.told in
           record {
             heard = told.heard;
             well = told.well;
@@ -55,7 +55,7 @@ loop-path-preserved g c =
           let said : c.in_ok-report_one.field-0 ≡ Some false = w.in-Some-false.is ∙ ap Some w.in-Some-false.field-0-test
           in
           let text : TellsReport how name false between after =
-          subst (λ (o : Option Bool). IfSome o (λ is_game. TellsReport how name is_game between after)) said told.told in
+          subst (λ (o : Option Bool). IfSome o (λ well. TellsReport how name well between after)) said told.told in
           record {
             heard = told.heard;
             well = told.well;

@@ -1,5 +1,6 @@
 use Rattle.ps_search.specs.declared.moves.Step.TheVariants.{Same, To}
 use Rattle.ps_search.proofs.Keeping.{work_on, numbered_on, told, here_numbered, noted_on}
+use Rattle.ps_search.specs.Ways.{links_of}
 use Rattle.ps_search.proofs.expanding.advance.Goals as goal
 
 pub returns-in-Ok-Same-clause-work : goal.returns-in-Ok-Same-clause-work
@@ -26,7 +27,7 @@ returns-in-Ok-clause-work g c =
     let is = told (g.M.Moves.is_key c.step.new.self) (g.M.Moves.place c.step.new.self) (g.M.Moves.here c.args.moves.now) (g.M.Moves.next c.args.moves.now (g.M.Moves.here c.args.moves.now) c.args.input)
     c.in-Ok-To.field-0 (To c.in-Ok-To.key) c.in-Ok-To.ensures.led c.in-Ok-To.field-0-is in
     (noted_on (g.M.Moves.next c.args.moves.now) (g.M.Moves.start c.args.moves.now) c.args.inputs.now (g.M.Moves.is_key c.step.new.self) (g.M.Moves.place c.step.new.self)
-    g.M.Key.PartialEq.eq (g.met.M.Moves.one_place c.step.new.self) c.args.visited.now.keys.keys c.note.new.self.keys.keys c.args.visited.now.links.items c.note.new.self.links.items
+    g.M.Key.PartialEq.eq (g.met.M.Moves.one_place c.step.new.self) c.args.visited.now.keys.keys c.note.new.self.keys.keys (links_of c.args.visited.now.parents.items c.args.visited.now.inputs.items) (links_of c.note.new.self.parents.items c.note.new.self.inputs.items)
     c.in-Ok-To.key c.args.input c.args.layer.at c.args.layer.end c.args.layer.depth (g.M.Moves.here c.args.moves.now) c.in-Ok.ensures.noted is.0 c.requires.given is.1
     (work_on _ _ _ _ _ _ _ c.step.ensures.kept _ _ _ _ _ _ c.requires.work)).works
 
@@ -35,7 +36,7 @@ returns-in-Ok-clause-numbered g c = λ led numbered.
     let is = told (g.M.Moves.is_key c.step.new.self) (g.M.Moves.place c.step.new.self) (g.M.Moves.here c.args.moves.now) (g.M.Moves.next c.args.moves.now (g.M.Moves.here c.args.moves.now) c.args.input)
     c.in-Ok-To.field-0 (To c.in-Ok-To.key) c.in-Ok-To.ensures.led c.in-Ok-To.field-0-is in
     (noted_on (g.M.Moves.next c.args.moves.now) (g.M.Moves.start c.args.moves.now) c.args.inputs.now (g.M.Moves.is_key c.step.new.self) (g.M.Moves.place c.step.new.self)
-    g.M.Key.PartialEq.eq (g.met.M.Moves.one_place c.step.new.self) c.args.visited.now.keys.keys c.note.new.self.keys.keys c.args.visited.now.links.items c.note.new.self.links.items
+    g.M.Key.PartialEq.eq (g.met.M.Moves.one_place c.step.new.self) c.args.visited.now.keys.keys c.note.new.self.keys.keys (links_of c.args.visited.now.parents.items c.args.visited.now.inputs.items) (links_of c.note.new.self.parents.items c.note.new.self.inputs.items)
     c.in-Ok-To.key c.args.input c.args.layer.at c.args.layer.end c.args.layer.depth (g.M.Moves.here c.args.moves.now) c.in-Ok.ensures.noted is.0 c.requires.given is.1
     (work_on _ _ _ _ _ _ _ c.step.ensures.kept _ _ _ _ _ _ c.requires.work)).stay led
     (numbered_on (g.M.Moves.next c.args.moves.now) (g.M.Moves.start c.args.moves.now) c.args.inputs.now _ _ _ _ c.step.ensures.kept _ c.requires.work.kept.known led numbered)
@@ -45,6 +46,6 @@ returns-in-Ok-clause-led g c =
     let is = told (g.M.Moves.is_key c.step.new.self) (g.M.Moves.place c.step.new.self) (g.M.Moves.here c.args.moves.now) (g.M.Moves.next c.args.moves.now (g.M.Moves.here c.args.moves.now) c.args.input)
     c.in-Ok-To.field-0 (To c.in-Ok-To.key) c.in-Ok-To.ensures.led c.in-Ok-To.field-0-is in
     (noted_on (g.M.Moves.next c.args.moves.now) (g.M.Moves.start c.args.moves.now) c.args.inputs.now (g.M.Moves.is_key c.step.new.self) (g.M.Moves.place c.step.new.self)
-    g.M.Key.PartialEq.eq (g.met.M.Moves.one_place c.step.new.self) c.args.visited.now.keys.keys c.note.new.self.keys.keys c.args.visited.now.links.items c.note.new.self.links.items
+    g.M.Key.PartialEq.eq (g.met.M.Moves.one_place c.step.new.self) c.args.visited.now.keys.keys c.note.new.self.keys.keys (links_of c.args.visited.now.parents.items c.args.visited.now.inputs.items) (links_of c.note.new.self.parents.items c.note.new.self.inputs.items)
     c.in-Ok-To.key c.args.input c.args.layer.at c.args.layer.end c.args.layer.depth (g.M.Moves.here c.args.moves.now) c.in-Ok.ensures.noted is.0 c.requires.given is.1
     (work_on _ _ _ _ _ _ _ c.step.ensures.kept _ _ _ _ _ _ c.requires.work)).leads_on

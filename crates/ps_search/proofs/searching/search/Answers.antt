@@ -1,6 +1,7 @@
 use Rattle.std.proofs.Common.{◌<◌, sym, subst, ◌∙◌, length, arith, None, Some}
 use Rattle.ps_search.specs.Answers.{IsReason}
 use Rattle.ps_search.proofs.Answering.{stopped, ended, moved, told, done_as, before_end}
+use Rattle.ps_search.specs.Ways.{links_of}
 use Rattle.ps_search.proofs.searching.search.Goals as goal
 
 pub returns-then-not-goes_on-clause-answer : goal.returns-then-not-goes_on-clause-answer
@@ -14,7 +15,7 @@ returns-clause-answer g c =
 
 pub loop-layer-preserved : goal.loop-layer-preserved
 loop-layer-preserved g c =
-    let done = done_as c.args.inputs.now (g.M.Moves.is_key c.expand.new.moves) (g.M.Moves.place c.expand.new.moves) c.expand.new.visited.keys.keys c.expand.new.visited.links.items
+    let done = done_as c.args.inputs.now (g.M.Moves.is_key c.expand.new.moves) (g.M.Moves.place c.expand.new.moves) c.expand.new.visited.keys.keys (links_of c.expand.new.visited.parents.items c.expand.new.visited.inputs.items)
     c.loop-layer.layer.at c.loop-layer.layer.end c.loop-layer.layer.depth (g.M.Moves.next c.loop-layer.moves) (g.M.Moves.next c.args.moves.now) (g.M.Moves.start c.loop-layer.moves) (g.M.Moves.start c.args.moves.now)
     c.in-Ok-None.field-0 None c.loop-layer.invariant.next c.loop-layer.invariant.start c.in-Ok-None.field-0-is c.in-Ok-None.ensures.done in
     let shallow = c.loop-layer.invariant.shallow in
@@ -22,7 +23,7 @@ loop-layer-preserved g c =
     let more : c.loop-layer.layer.at < length c.loop-layer.visited.keys.keys = omega arith in
     let below = before_end c.loop-layer.layer.at c.loop-layer.layer.end (length c.loop-layer.visited.keys.keys) c.loop-layer.invariant.order c.loop-layer.invariant.ended more in
     let next = moved (g.M.Moves.next c.args.moves.now) (g.M.Moves.start c.args.moves.now) c.args.inputs.now (g.M.Moves.is_key c.expand.new.moves) (g.M.Moves.place c.expand.new.moves)
-    c.expand.new.visited.keys.keys c.expand.new.visited.links.items c.loop-layer.layer.at c.loop-layer.layer.end c.loop-layer.layer.depth c.count-in-Ok-None.result
+    c.expand.new.visited.keys.keys (links_of c.expand.new.visited.parents.items c.expand.new.visited.inputs.items) c.loop-layer.layer.at c.loop-layer.layer.end c.loop-layer.layer.depth c.count-in-Ok-None.result
     c.next-layer.result.at c.next-layer.result.end c.next-layer.result.depth done below shallow c.count-in-Ok-None.ensures c.next-layer.ensures.at c.next-layer.ensures.layer in
     record {
       kept = next.kept;
@@ -37,7 +38,7 @@ loop-layer-preserved g c =
 
 pub returns-in-Ok-Some-clause-answer : goal.returns-in-Ok-Some-clause-answer
 returns-in-Ok-Some-clause-answer g c =
-    let done = done_as c.args.inputs.now (g.M.Moves.is_key c.expand.new.moves) (g.M.Moves.place c.expand.new.moves) c.expand.new.visited.keys.keys c.expand.new.visited.links.items
+    let done = done_as c.args.inputs.now (g.M.Moves.is_key c.expand.new.moves) (g.M.Moves.place c.expand.new.moves) c.expand.new.visited.keys.keys (links_of c.expand.new.visited.parents.items c.expand.new.visited.inputs.items)
     c.loop-layer.layer.at c.loop-layer.layer.end c.loop-layer.layer.depth (g.M.Moves.next c.loop-layer.moves) (g.M.Moves.next c.args.moves.now) (g.M.Moves.start c.loop-layer.moves) (g.M.Moves.start c.args.moves.now)
     c.in-Ok-Some.field-0 (Some c.in-Ok-Some.input) c.loop-layer.invariant.next c.loop-layer.invariant.start c.in-Ok-Some.field-0-is c.in-Ok-Some.ensures.done in
     let limit = c.expand.ensures.limit ∙ c.loop-layer.invariant.limit in

@@ -1,0 +1,56 @@
+-- Words and small texts, and what is warned of.
+use Rattle.std.proofs.Common.{◌≡◌, ◌++◌, true, false, Some, None, [], ◌∷◌, refl}
+use Rattle.std.specs.Prelude.{codes}
+use Rattle.std.specs.Str.{chars, is_utf8}
+use Rattle.std.specs.Str.Lossy.{utf8_valid_len}
+use Rattle.std.proofs.Math.Utf8.{encode}
+use Rattle.ps_warnings.specs.declared.kinds.PreludeWord.TheVariants.{NoUndo, RequirePlayerMovement}
+use Rattle.ps_warnings.specs.declared.kinds.WarningKind.TheVariants.{NearWord, IdleRule, NoPlayer}
+use Rattle.ps_warnings.specs.NearWords.{is_near}
+use Rattle.ps_warnings.specs.PreludeWords.{misspelt}
+use Rattle.ps_warnings.specs.Warnings.{warnings}
+
+-- words ---------------------------------------------------------------------------------------------------------------
+
+a_byte_put_in : is_near (codes "noundos") (codes "noundo") ≡ true
+a_byte_put_in = refl
+
+two_bytes_changed_over : is_near (codes "noudno") (codes "noundo") ≡ true
+two_bytes_changed_over = refl
+
+three_bytes_left_out : is_near (codes "nou") (codes "noundo") ≡ false
+three_bytes_left_out = refl
+
+two_left_out_of_a_short_word : is_near (codes "titl") (codes "titles") ≡ false
+two_left_out_of_a_short_word = refl
+
+one_left_out : misspelt (codes "require_player_movment") ≡ Some RequirePlayerMovement
+unfolding misspelt
+one_left_out = refl
+
+the_word_itself : misspelt (codes "noundo") ≡ None
+unfolding misspelt
+the_word_itself = refl
+
+a_word_of_other_players : misspelt (codes "zoomscreen") ≡ None
+unfolding misspelt
+a_word_of_other_players = refl
+
+no_word : misspelt [] ≡ None
+unfolding misspelt
+no_word = refl
+
+-- texts ---------------------------------------------------------------------------------------------------------------
+
+all_of_them : warnings (codes "noudno\nOBJECTS\nBackground .\ngreen\nPlayer P\nwhite\nLEGEND\nCOLLISIONLAYERS\n"
+    ++ (codes "Background\nPlayer\nRULES\n[ Player ] -> [ Player ]\n[ > Player ] -> [ Player ]\n"
+    ++ codes "[ Player ] -> [ Player ] sfx0\nLEVELS\nP\n\n.\n.\n"))
+    ≡ record { line = 1; kind = NearWord NoUndo } ∷ record { line = 12; kind = IdleRule }
+    ∷ record { line = 18; kind = NoPlayer } ∷ []
+unfolding warnings misspelt chars is_utf8 encode utf8_valid_len
+all_of_them = refl
+
+-- a text with a fault has none
+none_of_a_fault : warnings (codes "noudno\nOBJECTS\n") ≡ []
+unfolding warnings chars is_utf8 encode utf8_valid_len
+none_of_a_fault = refl

@@ -1,0 +1,119 @@
+-- The warnings of a text, of its lines, and of its sections.
+use Rattle.std.proofs.Common.{◌≡◌, ◌∙◌, ◌++◌, ℕ, List, [], ◌∷◌, Option, Some, None, map, refl, sym, ap, ap₂, subst}
+use Rattle.std.proofs.Common.{append_assoc}
+use Rattle.std.proofs.lemmas.Option.{same_Some}
+use Rattle.ps_model.specs.declared.texts.Section.TheVariants.{Prelude, Rules, Levels}
+use Rattle.ps_model.specs.declared.faults.Fault.{Fault}
+use Rattle.ps_model.specs.text.Faults.{first_fault}
+use Rattle.ps_model.specs.text.TextFaults.{text_fault}
+use Rattle.ps_model.specs.text.Lines.{Line, lines_of}
+use Rattle.ps_model.specs.text.Sections.{section_lines, heading_faults}
+use Rattle.ps_model.specs.names.Names.{Names}
+use Rattle.ps_model.specs.rules.SourceRules.{RuleLine}
+use Rattle.ps_model.specs.session.LevelLines.{Entry, entries_read, entry_lines}
+use Rattle.ps_model.specs.game.Games.{Game, faults, faults_beside, game, game_of_lines, game_read, unless}
+use Rattle.ps_laws.proofs.texts.OneGame.{fault_bars_game, first_is_fault}
+use Rattle.ps_warnings.specs.declared.kinds.Warning.{Warning}
+use Rattle.ps_warnings.specs.LevelStarts.{number_of}
+use Rattle.ps_warnings.specs.LevelWarnings.{level_warnings, warnings_at}
+use Rattle.ps_warnings.specs.OptionWarnings.{option_warnings}
+use Rattle.ps_warnings.specs.RuleWarnings.{rule_warnings}
+use Rattle.ps_warnings.specs.Sounds.{sounding_lines}
+use Rattle.ps_warnings.specs.Warnings.{warnings, warnings_in, warnings_of_lines}
+use Rattle.ps_warnings.proofs.EntriesWarned.{warned_alike}
+
+-- lines ---------------------------------------------------------------------------------------------------------------
+
+-- those of lines by their game, if they have one
+abbrev by_game : List Line → Option Game → List Warning
+by_game lines read = elim read [ Some own ↦ warnings_in own lines | None ↦ [] ]
+
+pub lines_fine : (lines : List Line) (read : Game) (told : List Warning) → game_of_lines lines ≡ Some read →
+    told ≡ warnings_in read lines → told ≡ warnings_of_lines lines
+lines_fine lines read told is e = e ∙ sym (ap (by_game lines) is)
+
+barred : (found others : List Fault) (fault : Fault) (read : Game) → first_fault found ≡ Some fault →
+    unless (found ++ others) read ≡ None
+barred [] others fault read first = absurd (let h = first in cc)
+barred (head ∷ found) others fault read first = refl
+
+pub lines_faulty : (lines : List Line) (fault : Fault) (told : List Warning) →
+    first_fault (heading_faults lines) ≡ Some fault → told ≡ [] → told ≡ warnings_of_lines lines
+lines_faulty lines fault told first e =
+    e ∙ sym (ap (by_game lines) (barred (heading_faults lines) _ fault (game_read lines) first))
+
+-- texts ---------------------------------------------------------------------------------------------------------------
+
+-- the game of a text by its fault as bytes, if it has one, and its warnings
+abbrev game_if : List ℕ → Option Fault → Option Game
+game_if text fault = elim fault [ Some only ↦ None | None ↦ game_of_lines (lines_of text) ]
+
+abbrev warned_if : List ℕ → Option Fault → List Warning
+warned_if text fault = elim fault [ Some only ↦ [] | None ↦ warnings_of_lines (lines_of text) ]
+
+pub text_fine : (text : List ℕ) (told : List Warning) → text_fault text ≡ None →
+    told ≡ warnings_of_lines (lines_of text) → told ≡ warnings text
+unfolding warnings
+text_fine text told none e = e ∙ sym (ap (warned_if text) none)
+
+pub text_faulty : (text : List ℕ) (fault : Fault) (told : List Warning) → text_fault text ≡ Some fault → told ≡ [] →
+    told ≡ warnings text
+unfolding warnings
+text_faulty text fault told some e = e ∙ sym (ap (warned_if text) some)
+
+pub game_by_lines : (text : List ℕ) (read : Game) → text_fault text ≡ None → game text ≡ Some read →
+    game_of_lines (lines_of text) ≡ Some read
+game_by_lines text read none is = sym (ap (game_if text) none) ∙ is
+
+without_game : (text : List ℕ) (fault : Option Fault) → game_if text fault ≡ None → [] ≡ warned_if text fault
+without_game text None e = sym (ap (by_game (lines_of text)) e)
+without_game text (Some only) e = refl
+
+pub none_of_refused : (text : List ℕ) (fault : Fault) (told : List Warning) → first_fault (faults text) ≡ Some fault →
+    told ≡ [] → told ≡ warnings text
+unfolding warnings
+none_of_refused text fault told first e =
+    e ∙ without_game text (text_fault text) (fault_bars_game text fault (first_is_fault text fault first))
+
+-- sections ------------------------------------------------------------------------------------------------------------
+
+unrefused : (found : List Fault) (read made : Game) → unless found read ≡ Some made → made ≡ read
+unrefused [] read made e = same_Some made read (sym e)
+unrefused (first ∷ others) read made e = absurd (cc)
+
+-- the entries of the game of lines are those of LEVELS
+entries_are : (lines : List Line) (read : Game) → game_of_lines lines ≡ Some read →
+    read.entries ≡ entries_read read.names (section_lines lines Levels)
+entries_are lines read is =
+    let same : read ≡ game_read lines = unrefused (faults_beside (game_read lines) lines) (game_read lines) read is in
+    subst (λ (own : Game). own.entries ≡ entries_read own.names (section_lines lines Levels)) (sym same) refl
+
+levels_warned : (names : Names) (lines : List Line) (numbers : List ℕ) (entries : List Entry) →
+    numbers ≡ map number_of (entry_lines lines) → entries ≡ entries_read names lines →
+    warnings_at names numbers entries ≡ level_warnings names lines
+levels_warned names lines numbers entries n e = ap₂ (warnings_at names) n e ∙ warned_alike names (entry_lines lines)
+
+-- section by section
+pub sections_warned : (lines prelude rules levels : List Line) (read : Game) (names : Names) (own : List RuleLine)
+    (entries : List Entry) (sounding numbers : List ℕ) (first second third : List Warning) →
+    game_of_lines lines ≡ Some read → section_lines lines Prelude ≡ prelude → section_lines lines Rules ≡ rules →
+    section_lines lines Levels ≡ levels → names ≡ read.names → own ≡ read.rules → entries ≡ read.entries →
+    sounding ≡ sounding_lines rules → numbers ≡ map number_of (entry_lines levels) →
+    first ≡ option_warnings prelude → second ≡ first ++ rule_warnings names sounding own →
+    third ≡ second ++ warnings_at names numbers entries → third ≡ warnings_in read lines
+sections_warned lines prelude rules levels read names own entries sounding numbers first second third is p r l n o e
+    s m a b c =
+    let options : first ≡ option_warnings (section_lines lines Prelude) = a ∙ ap option_warnings (sym p) in
+    let sounds : sounding ≡ sounding_lines (section_lines lines Rules) = s ∙ ap sounding_lines (sym r) in
+    let ruled : rule_warnings names sounding own
+    ≡ rule_warnings read.names (sounding_lines (section_lines lines Rules)) read.rules =
+    rw (n, o, sounds) refl in
+    let starts : numbers ≡ map number_of (entry_lines (section_lines lines Levels)) =
+    m ∙ ap (λ (ls : List Line). map number_of (entry_lines ls)) (sym l) in
+    let levelled : warnings_at names numbers entries ≡ level_warnings read.names (section_lines lines Levels) =
+    ap (λ (ns : Names). warnings_at ns numbers entries) n
+    ∙ levels_warned read.names (section_lines lines Levels) numbers entries starts (e ∙ entries_are lines read is) in
+    c ∙ ap₂ (λ (xs ys : List Warning). xs ++ ys) (b ∙ ap₂ (λ (xs ys : List Warning). xs ++ ys) options ruled) levelled
+    ∙ append_assoc (option_warnings (section_lines lines Prelude))
+    (rule_warnings read.names (sounding_lines (section_lines lines Rules)) read.rules)
+    (level_warnings read.names (section_lines lines Levels))

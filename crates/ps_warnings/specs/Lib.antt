@@ -1,0 +1,10 @@
+pub mod LevelStarts
+pub mod LevelWarnings
+pub mod NearWords
+pub mod Numbers
+pub mod OptionWarnings
+pub mod PreludeWords
+pub mod RuleWarnings
+pub mod Sounds
+pub mod Warnings
+pub mod Wording

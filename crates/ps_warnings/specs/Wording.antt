@@ -1,0 +1,16 @@
+-- Warnings in words.
+use Rattle.std.specs.Prelude.{ℕ, List, ◌++◌, codes}
+use Rattle.ps_warnings.specs.declared.kinds.PreludeWord.{PreludeWord}
+use Rattle.ps_warnings.specs.declared.kinds.WarningKind.{WarningKind}
+use Rattle.ps_warnings.specs.declared.kinds.WarningKind.TheVariants.{NearWord, IdleRule, NoPlayer}
+use Rattle.ps_warnings.specs.PreludeWords.{word_text}
+
+-- a line of the prelude is surely meant to begin with the word
+abbrev pub near_sentence : PreludeWord → List ℕ
+near_sentence word = codes "this line says nothing, but its first word is much like `" ++ (word_text word ++ codes "`")
+
+-- what is surely a mistake
+abbrev pub sentence : WarningKind → List ℕ
+sentence (NearWord word) = near_sentence word
+sentence IdleRule = codes "this rule can do nothing"
+sentence NoPlayer = codes "this level shows no Player"

@@ -1,0 +1,33 @@
+//! What a warning says.
+
+/// A word with which a line of the prelude begins that says something.
+#[derive(Clone, Copy, PartialEq, Eq, Debug)]
+pub enum PreludeWord {
+    Title,
+    Author,
+    Homepage,
+    NoAction,
+    NoUndo,
+    NoRestart,
+    RequirePlayerMovement,
+    RunRulesOnLevelStart,
+    Flickscreen,
+}
+
+/// What is surely a mistake.
+#[derive(Clone, Copy, PartialEq, Eq, Debug)]
+pub enum WarningKind {
+    /// The line of the prelude says nothing, but its first word is written much like this one.
+    NearWord(PreludeWord),
+    /// The rule can do nothing: whatever it may mean fits nothing, or changes nothing and asks for nothing.
+    IdleRule,
+    /// No cell of the level has an object of Player. The line is its first row.
+    NoPlayer,
+}
+
+/// A warning at a line of a text, whose number counts from 1.
+#[derive(Clone, Copy, PartialEq, Eq, Debug)]
+pub struct Warning {
+    pub line: u32,
+    pub kind: WarningKind,
+}

@@ -1,0 +1,40 @@
+//! Warnings in words.
+
+ghost use Rattle.std.specs.Prelude.{◌≡◌, IfOk, string_bytes};
+ghost use Rattle.ps_warnings.specs.Wording.{near_sentence, sentence};
+
+use crate::kinds::{PreludeWord, WarningKind};
+use ps_model::Memory;
+use std::alloc::Global;
+
+/// That a line of the prelude is surely meant to begin with a word.
+fn near_sentence(alloc: Global, word: PreludeWord) -> Result<String, Memory>
+    ensures { IfOk result (λ words. string_bytes words ≡ near_sentence word) }
+{
+    let meant = word.text();
+    let words = format!(in alloc;
+        "this line says nothing, but its first word is much like `{meant}`"
+    )?;
+    Ok(words)
+}
+
+/// What is surely a mistake, in words that begin in lower case and have no point at the end.
+///
+/// # Errors
+///
+/// `Memory` if a growth was refused.
+pub fn sentence_of(alloc: Global, kind: WarningKind) -> Result<String, Memory>
+    ensures { IfOk result (λ words. string_bytes words ≡ sentence kind) }
+{
+    match kind {
+        WarningKind::NearWord(word) => near_sentence(alloc, word),
+        WarningKind::IdleRule => {
+            let words = String::from_str(alloc, "this rule can do nothing")?;
+            Ok(words)
+        }
+        WarningKind::NoPlayer => {
+            let words = String::from_str(alloc, "this level shows no Player")?;
+            Ok(words)
+        }
+    }
+}
