@@ -7,5 +7,6 @@ pub mod OpenGroups
 pub mod PiecesShown
 pub mod PossibleRules
 pub mod ProgramsMade
+pub mod RulePlaces
 pub mod RunnablePrograms
 pub mod TurnedRows

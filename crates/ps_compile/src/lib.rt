@@ -6,11 +6,13 @@ mod groups;
 mod idle;
 mod masks;
 mod pieces;
+mod places;
 mod program;
 mod rules;
 mod turning;
 mod writes;
 
+pub use places::{RulePlace, rule_places};
 pub use program::{CompiledPrograms, compile};
 pub use ps_model::{Memory, Part};
 pub use ps_program::{CompiledRule, CompiledSection, Program};

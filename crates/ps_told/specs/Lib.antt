@@ -1,0 +1,3 @@
+pub mod Changes
+pub mod Tellings
+pub mod ToldRuns

@@ -1,0 +1,124 @@
+//! The rules of a turn that tell what they do.
+
+ghost use Rattle.std.specs.Prelude.{◌≡◌, ◌≤◌, IfOk, OnOk, length};
+ghost use Rattle.ps_engine.specs.RulesInRoom.{sections_meaning};
+ghost use Rattle.ps_match.specs.InRoom.{sides_of};
+ghost use Rattle.ps_model.specs.board.Programs.{program_run};
+ghost use Rattle.ps_turn.specs.States.{queue_shown, state_of};
+ghost use Rattle.ps_told.specs.Tellings.{rules_in_all};
+ghost use Rattle.ps_told.specs.ToldRuns.{told_program};
+
+use crate::telling::Telling;
+use crate::told::ToldRun;
+use ps_compile::RulePlace;
+use ps_engine::{LentQueue, Scan, ScratchFor, scratch_for};
+use ps_model::{Extent, Memory};
+use ps_program::CompiledSection;
+use ps_rulebook::{lent, owned};
+use ps_turn::{Queue, Rules};
+use std::alloc::Global;
+use std::marker::Model;
+
+/// The rules of one part of a turn: the sections of a compiled program and the places of its rules, lent, and what its
+/// runs have told.
+pub struct TracedRules<'p, 'r, B: Scan> {
+    alloc: Global,
+    sections: &'p [CompiledSection<'r>],
+    places: &'p [RulePlace],
+    /// Room for the rows of a rule.
+    scratch: Vec<ScratchFor<B>>,
+    /// What runs have told since they were forgotten last.
+    runs: Vec<ToldRun<B>>,
+}
+
+/// Written out, so that a function that owns rules calls this where it returns, instead of dropping their parts.
+impl<'p, 'r, B: Scan> Drop for TracedRules<'p, 'r, B> {
+    fn drop(self) {
+        let TracedRules {
+            alloc: _,
+            sections: _,
+            places: _,
+            scratch: _scratch,
+            runs: _runs,
+        } = self;
+    }
+}
+
+impl<'p, 'r, B: Scan> TracedRules<'p, 'r, B> {
+    /// The rules of these sections, whose places stand in a list of as many or more. `Memory` if there is no room for
+    /// what their runs need.
+    pub fn try_new(
+        alloc: Global,
+        sections: &'p [CompiledSection<'r>],
+        places: &'p [RulePlace],
+    ) -> Result<TracedRules<'p, 'r, B>, Memory> {
+        let scratch = scratch_for(alloc, sections)?;
+        Ok(TracedRules {
+            alloc,
+            sections,
+            places,
+            scratch,
+            runs: Vec::new(alloc),
+        })
+    }
+
+    /// What runs have told since they were forgotten last, in their order.
+    pub fn runs(&self) -> &[ToldRun<B>] {
+        self.runs.as_slice()
+    }
+
+    /// Forgets what runs have told.
+    pub fn forget(&mut self) {
+        self.runs.clear();
+    }
+
+    /// Runs the sections on a board and a queue that are lent, and answers what is told of that.
+    ///
+    /// # Errors
+    ///
+    /// `Memory`, and a part of the sections may have been run.
+    fn tell(
+        &mut self,
+        board: &mut B,
+        queue: &Queue,
+        extent: Extent,
+    ) -> Result<ToldRun<B>, Memory> {
+        let before = board.try_copy(self.alloc)?;
+        let mut after = board.try_copy(self.alloc)?;
+        let mut events = Vec::new(self.alloc);
+        let mut during: LentQueue<'_> = lent(queue);
+        {
+            let mut telling = Telling {
+                alloc: self.alloc,
+                board,
+                before: &mut after,
+                queue: &mut during,
+                scratch: self.scratch.as_mut_slice(),
+                events: &mut events,
+            };
+            telling.program(self.sections, self.places)?;
+        }
+        Ok(ToldRun {
+            extent,
+            before,
+            after,
+            queued: owned(self.alloc, lent(queue))?,
+            queue: owned(self.alloc, during)?,
+            events,
+        })
+    }
+}
+
+impl<'p, 'r, B: Scan> Rules<B> for TracedRules<'p, 'r, B> {
+    ghost use Rattle.ps_engine.specs.RulesInRoom.{sections_meaning};
+
+    ghost meant = { λ rules table. sections_meaning table rules.sections.now };
+
+    fn run(&mut self, board: &mut B, queue: &mut Queue, extent: Extent) -> Result<(), Memory> {
+        let told = self.tell(board, queue, extent)?;
+        let after = owned(self.alloc, lent(&told.queue))?;
+        self.runs.push(told)?;
+        *queue = after;
+        Ok(())
+    }
+}
