@@ -3,9 +3,9 @@ import collections
 
 from harmless import name_text
 
-Options = collections.namedtuple("Options", "player game is_plain is_fresh level")
+Options = collections.namedtuple("Options", "player game is_plain is_fresh level is_traced", defaults=(False,))
 
-USAGE = "usage: main.py PLAYER [--plain] [--fresh] [--level N] GAME|FOLDER"
+USAGE = "usage: main.py PLAYER [--plain] [--trace] [--fresh] [--level N] GAME|FOLDER"
 
 
 class BadCommandLine(Exception):
@@ -22,13 +22,15 @@ def _level(word):
 def read_options(words):
     """What the words ask for; raises BadCommandLine."""
     rest, files = list(words), []
-    is_plain, is_fresh, level = False, False, None
+    is_plain, is_traced, is_fresh, level = False, False, False, None
     while rest:
         word = rest.pop(0)
         if word == "--":
             files, rest = files + rest, []
         elif word == "--plain":
             is_plain = True
+        elif word == "--trace":
+            is_plain = is_traced = True
         elif word == "--fresh":
             is_fresh = True
         elif word.startswith("--level="):
@@ -41,4 +43,4 @@ def read_options(words):
             files.append(word)
     if len(files) != 2:
         raise BadCommandLine(USAGE)
-    return Options(files[0], files[1], is_plain, is_fresh, level)
+    return Options(files[0], files[1], is_plain, is_fresh, level, is_traced)

@@ -88,8 +88,9 @@ class Player:
 class Run:
     """A run of a game: key bytes go in, its output comes out at `output`."""
 
-    def __init__(self, player, game, level=None):
+    def __init__(self, player, game, level=None, is_traced=False):
         at = ["--level", str(level)] if level is not None else []
+        at += ["--trace"] if is_traced else []
         self._told = tempfile.TemporaryFile()
         self._process = _start(
             [player.path, game, *at],

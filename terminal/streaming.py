@@ -18,6 +18,7 @@ def hand_over(asked):
     if os.path.isdir(asked.game):
         raise Fault(b"play: a game of a folder is chosen at a terminal\n", 1)
     level = [] if asked.level is None else ["--level", str(asked.level)]
+    level += ["--trace"] if asked.is_traced else []
     if not os.isatty(1):
         os.execv(asked.player, [asked.player, *level, "--", asked.game])
     with GameText(asked.game) as text:

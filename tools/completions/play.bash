@@ -38,7 +38,7 @@ _play() {
         return
         ;;
     esac
-    options='--level --fresh --plain --check --why --all --limit --format --solve --states --stop-file --help --version'
+    options='--level --fresh --plain --trace --check --why --all --limit --format --solve --states --stop-file --help --version'
     case ${COMP_WORDS[0]##*/} in
     ps_play) options+=' --keys --view --sizes --show --describe --explain' ;;
     *) options+=' --page --title --engine --prove --keep --install --library' ;;

@@ -20,9 +20,10 @@ use crate::reporting::{report_alone, report_texts};
 use crate::showing::show_asked;
 use crate::solving::solve_asked;
 use crate::stops::{Stop, stop_for, tell};
+use crate::tracing::trace_asked;
 use ps_answers::LevelSolver;
 use ps_check::{check, check_named};
-use ps_devices::{ByteReader, ByteWriter, Player, RunFault};
+use ps_devices::{ByteReader, ByteWriter, Player, RunFault, Tracer};
 use ps_report::{Detail, explanation};
 use std::alloc::Global;
 use std::rt::{Env, Files};
@@ -37,9 +38,10 @@ pub fn run_command_line<
     R: Env + Files + AllocGlobal + Clock + Print + Eprint,
     P: Player,
     S: LevelSolver,
+    T: Tracer,
     I: ByteReader,
     O: ByteWriter,
->(rt: &R, engine: &Engine<'_, P, S>, keys: &mut I, screen: &mut O) -> u8
+>(rt: &R, engine: &Engine<'_, P, S, T>, keys: &mut I, screen: &mut O) -> u8
     requires heard { (I.state keys.old).has_failed ≡ false }
     requires well { (O.state screen.old).has_failed ≡ false }
     ensures { result ≤ 2 }
@@ -55,9 +57,10 @@ fn act<
     R: Env + Files + AllocGlobal + Clock + Print + Eprint,
     P: Player,
     S: LevelSolver,
+    T: Tracer,
     I: ByteReader,
     O: ByteWriter,
->(rt: &R, engine: &Engine<'_, P, S>, keys: &mut I, screen: &mut O) -> Result<(), Stop>
+>(rt: &R, engine: &Engine<'_, P, S, T>, keys: &mut I, screen: &mut O) -> Result<(), Stop>
     requires heard { (I.state keys.old).has_failed ≡ false }
     requires well { (O.state screen.old).has_failed ≡ false }
 {
@@ -77,6 +80,7 @@ fn act<
         Asked::Show(asked) => show_asked(rt, asked, keys, screen),
         Asked::Solve(asked) => solve_asked(rt, engine, &asked, keys, screen),
         Asked::Play(asked) => play_asked(rt, engine.player, asked, keys, screen),
+        Asked::Trace(asked) => trace_asked(rt, engine.tracer, asked, keys, screen),
     }
 }
 

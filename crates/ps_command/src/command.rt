@@ -7,6 +7,7 @@ use crate::searches::{
 };
 use crate::sizes::size_of;
 use crate::stops::Stop;
+use crate::tracing::trace_option;
 use clap::{Arg, ArgAction, ArgMatches, Command};
 use ps_report::How;
 use ps_view::Size;
@@ -72,6 +73,8 @@ on standard output.";
 pub enum Asked<'w> {
     /// That a game be played.
     Play(Play<'w>),
+    /// That a game be traced.
+    Trace(Play<'w>),
     /// Whether the text in this file is a game.
     Check(&'w str),
     /// Whether the text in each of these files is a game.
@@ -113,6 +116,7 @@ pub fn read_command<'w, S: AsStr>(alloc: Global, words: &'w [S]) -> Result<Asked
         .arg(keys_option(alloc))?
         .arg(view_option(alloc))?
         .arg(sizes_option(alloc)?)?
+        .arg(trace_option(alloc)?)?
         .arg(plain_option(alloc))?
         .arg(fresh_option(alloc))?
         .arg(show_option(alloc)?)?
@@ -170,13 +174,17 @@ fn asked_play<'w>(
             sizes,
         });
     }
-    Asked::Play(Play {
+    let play = Play {
         game: path,
         level,
         keys: keys_named(matches.get_str("keys")),
         size,
         sizes,
-    })
+    };
+    if matches.get_flag("trace") {
+        return Asked::Trace(play);
+    }
+    Asked::Play(play)
 }
 
 /// The file with the keys; none where it is standard input, from which they come anyway.
@@ -400,5 +408,6 @@ fn explain_option(alloc: Global) -> Result<Arg<'static>, AllocError> {
             "sizes",
             "show",
             "describe",
+            "trace",
         ])
 }

@@ -1,12 +1,13 @@
 //! What command lines are obeyed with.
 
 use ps_answers::LevelSolver;
-use ps_devices::Player;
+use ps_devices::{Player, Tracer};
 
-/// What plays games and searches their levels, and whether somebody looks on.
+/// What plays games, traces them and searches their levels, and whether somebody looks on.
 #[derive(Drop)]
-pub struct Engine<'e, P: Player, S: LevelSolver> {
+pub struct Engine<'e, P: Player, S: LevelSolver, T: Tracer> {
     pub player: &'e P,
+    pub tracer: &'e T,
     pub solver: &'e S,
     /// Whether standard error is a terminal. There it is said how far a search is, while it goes on.
     pub is_watched: bool,

@@ -16,7 +16,7 @@ use crate::stops::{Stop, tell_no_such_level};
 use ps_answers::{
     Form, LevelSolver, LevelTeller, Refusal, SearchProgress, SolvableGame, TellFault,
 };
-use ps_devices::{ByteReader, ByteWriter, Player, RunFault};
+use ps_devices::{ByteReader, ByteWriter, Player, RunFault, Tracer};
 use ps_report::{Detail, Format, How};
 use std::rt::Files;
 use std::time::Clock;
@@ -28,11 +28,12 @@ pub fn solve_asked<
     R: Files + AllocGlobal + Clock + Eprint,
     P: Player,
     S: LevelSolver,
+    T: Tracer,
     I: ByteReader,
     O: ByteWriter,
 >(
     rt: &R,
-    engine: &Engine<'_, P, S>,
+    engine: &Engine<'_, P, S, T>,
     asked: &Solve<'_>,
     input: &mut I,
     screen: &mut O,

@@ -7,9 +7,11 @@ mod from_std;
 mod in_memory;
 mod players;
 mod stream;
+mod tracers;
 mod traits;
 
 pub use from_std::FromStd;
 pub use in_memory::{MemoryReader, MemoryWriter};
 pub use players::{LevelFault, Player, RunFault};
+pub use tracers::Tracer;
 pub use traits::{ByteReader, ByteWriter, Failed, write_whole};

@@ -5,6 +5,7 @@ use ps_command::{Engine, run_command_line};
 use ps_devices::FromStd;
 use ps_run::GamePlayer;
 use ps_solve::GameSolver;
+use ps_trace::GameTracer;
 use std::io::IsTerminal;
 use std::process::ExitCode;
 
@@ -13,6 +14,7 @@ fn main(rt: HostRuntime) -> ExitCode {
     let mut screen = FromStd::new(rt.stdout());
     let engine = Engine {
         player: &GamePlayer,
+        tracer: &GameTracer,
         solver: &GameSolver,
         is_watched: rt.stderr().is_terminal(),
     };

@@ -8,6 +8,7 @@ use ps_devices::{MemoryReader, MemoryWriter};
 use ps_model::CALL_LIMIT;
 use ps_run::GamePlayer;
 use ps_solve::GameSolver;
+use ps_trace::GameTracer;
 use std::process::Abort;
 
 /// What must come of a command line.
@@ -725,6 +726,7 @@ pub fn obey_on(
     let mut screen = screen.expect(rt, "memory for the screen");
     let engine = Engine {
         player: &GamePlayer,
+        tracer: &GameTracer,
         solver: &GameSolver,
         is_watched: true,
     };

@@ -18,6 +18,7 @@ use ps_rulebook::owned;
 use std::alloc::Global;
 
 /// A board and a queue at one moment.
+#[derive(Drop)]
 pub struct Seen<'a, 'r, B: Board> {
     pub board: &'a B,
     pub queue: &'a LentQueue<'r>,

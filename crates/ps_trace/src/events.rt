@@ -13,6 +13,7 @@ use std::alloc::Global;
 
 /// What lines on rules speak of besides what is told: the text, what its objects are called, and the places of the
 /// program's rules.
+#[derive(Clone, Copy)]
 pub struct Speech<'t> {
     pub source: &'t Source,
     pub spellings: &'t Spellings<'t>,

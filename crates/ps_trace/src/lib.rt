@@ -13,4 +13,4 @@ mod runs;
 mod spellings;
 mod turns;
 
-pub use runs::{trace, trace_from_level};
+pub use runs::GameTracer;

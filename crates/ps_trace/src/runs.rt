@@ -5,7 +5,7 @@ use crate::lines::word_of_key;
 use crate::spellings::Spellings;
 use crate::turns::Speaker;
 use ps_compile::{compile, rule_places};
-use ps_devices::{ByteReader, ByteWriter, LevelFault, RunFault, write_whole};
+use ps_devices::{ByteReader, ByteWriter, LevelFault, RunFault, Tracer, write_whole};
 use ps_game::{Game, read_game};
 use ps_keys::Keys;
 use ps_model::{CALL_LIMIT, Ending, Key, Memory, Part, READ_LIMIT, Refusal};
@@ -24,6 +24,7 @@ fn fault_of(refusal: Refusal) -> RunFault {
 }
 
 /// A game that is traced, with what its lines speak of, the keys that are held, and the text that is made next.
+#[derive(Drop)]
 struct TracedRun<'g> {
     alloc: Global,
     game: TracedGame<'g>,
@@ -150,34 +151,39 @@ fn trace_read<I: ByteReader, W: ByteWriter>(
 
 /// Reads a text and its game.
 fn read_both(alloc: Global, text: &[u8]) -> Result<(Source, Game), RunFault> {
-    let game = read_game(alloc, text).map_err(fault_of)?;
-    let source = Source::read(alloc, text).map_err(fault_of)?;
+    let game = read_game(alloc, text).map_err(|refusal| fault_of(refusal))?;
+    let source = Source::read(alloc, text).map_err(|refusal| fault_of(refusal))?;
     Ok((source, game))
 }
 
-/// Plays the game of a text, as a run does, and tells before each frame what the rules did.
-pub fn trace<I: ByteReader, W: ByteWriter>(
-    alloc: Global,
-    text: &[u8],
-    reader: &mut I,
-    writer: &mut W,
-) -> Result<Ending, RunFault> {
-    let (source, game) = read_both(alloc, text)?;
-    trace_read(alloc, &source, &game, 0, reader, writer)
+/// The entry of a game at which it begins: its first one, or that of a level.
+fn entry_of(game: &Game, level: Option<usize>) -> Result<usize, LevelFault> {
+    let Some(level) = level else {
+        return Ok(0);
+    };
+    match level_entry(&game.entries, level) {
+        Some(entry) => Ok(entry),
+        None => Err(LevelFault::NoSuchLevel {
+            levels: levels_among(&game.entries),
+        }),
+    }
 }
 
-/// The same from a level on.
-pub fn trace_from_level<I: ByteReader, W: ByteWriter>(
-    alloc: Global,
-    text: &[u8],
-    level: usize,
-    reader: &mut I,
-    writer: &mut W,
-) -> Result<Ending, LevelFault> {
-    let (source, game) = read_both(alloc, text).map_err(LevelFault::Run)?;
-    let Some(entry) = level_entry(&game.entries, level) else {
-        let levels = levels_among(&game.entries);
-        return Err(LevelFault::NoSuchLevel { levels });
-    };
-    trace_read(alloc, &source, &game, entry, reader, writer).map_err(LevelFault::Run)
+/// Traces games: plays them as `ps_run` does, and tells before the frames of each key what the rules did.
+pub struct GameTracer;
+
+impl Tracer for GameTracer {
+    fn trace<I: ByteReader, W: ByteWriter>(
+        &self,
+        alloc: Global,
+        text: &[u8],
+        level: Option<usize>,
+        reader: &mut I,
+        writer: &mut W,
+    ) -> Result<Ending, LevelFault> {
+        let (source, game) = read_both(alloc, text).map_err(|fault| LevelFault::Run(fault))?;
+        let entry = entry_of(&game, level)?;
+        trace_read(alloc, &source, &game, entry, reader, writer)
+            .map_err(|fault| LevelFault::Run(fault))
+    }
 }

@@ -16,6 +16,7 @@ use std::alloc::Global;
 
 /// What the lines of a game's turns speak of: its text, what its objects are called, the places of its rules, its
 /// Players and its win conditions.
+#[derive(Drop)]
 pub struct Speaker<'t> {
     pub alloc: Global,
     pub source: &'t Source,
