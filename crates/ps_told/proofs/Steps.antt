@@ -17,36 +17,36 @@ use Rattle.ps_told.specs.ToldRuns.{rule_count, told_section, told_sections, told
 -- rounds --------------------------------------------------------------------------------------------------------------
 
 module _ {R : Type 0} (meaning : R → RuleMeaning) (moment : Moment) (rules : List R) (places : List RulePlace) (n : ℕ)
-    where
-  -- nothing is left
-  pub told_round_end : (events : List Event) (state : State) → length rules ≤ n →
-      events ≡ events ++ told_round moment (map meaning (drop n rules)) (drop n places) state
-  told_round_end events state h =
-      sym (append-nil events)
-      ∙ ap (λ (rs : List R). events ++ told_round moment (map meaning rs) (drop n places) state) (sym (drop_all n rules h))
+  where
+    -- nothing is left
+    pub told_round_end : (events : List Event) (state : State) → length rules ≤ n →
+        events ≡ events ++ told_round moment (map meaning (drop n rules)) (drop n places) state
+    told_round_end events state h =
+        sym (append-nil events)
+        ∙ ap (λ (rs : List R). events ++ told_round moment (map meaning rs) (drop n places) state) (sym (drop_all n rules h))
 
-  -- one attempt more
-  pub told_round_more : (rule : R) (place : RulePlace) (changed : Bool) (events more : List Event) (state next : State) →
-      n < length rules → n < length places → rule ≡ get_or rules n rule → place ≡ get_or places n place →
-      (let s : Result = record { state = next; changed = changed } in s) ≡ attempt (meaning rule) state →
-      more ≡ events ++ told_attempt place moment (meaning rule) state →
-      more ++ told_round moment (map meaning (drop (n + 1) rules)) (drop (n + 1) places) next
-      ≡ events ++ told_round moment (map meaning (drop n rules)) (drop n places) state
-  told_round_more rule place changed events more state next h hp e ep made is =
-      let m : n + 1 ≡ suc n = omega arith in
-      let this : List Event = told_attempt place moment (meaning rule) state in
-      let rest : State → List Event = λ s. told_round moment (map meaning (drop (suc n) rules)) (drop (suc n) places) s in
-      ap (λ (k : ℕ). more ++ told_round moment (map meaning (drop k rules)) (drop k places) next) m
-      ∙ ap (λ (es : List Event). es ++ rest next) is
-      ∙ append_assoc events this (rest next)
-      ∙ ap (λ (r : Result). events ++ (this ++ rest r.state)) made
-      ∙ ap (λ (r : R). events ++ told_round moment (map meaning (r ∷ drop (suc n) rules)) (place ∷ drop (suc n) places)
-      state) e
-      ∙ ap (λ (rs : List R). events ++ told_round moment (map meaning rs) (place ∷ drop (suc n) places) state)
-      (sym (drop-cons rules n rule h))
-      ∙ ap (λ (p : RulePlace). events ++ told_round moment (map meaning (drop n rules)) (p ∷ drop (suc n) places) state) ep
-      ∙ ap (λ (ps : List RulePlace). events ++ told_round moment (map meaning (drop n rules)) ps state)
-      (sym (drop-cons places n place hp))
+    -- one attempt more
+    pub told_round_more : (rule : R) (place : RulePlace) (changed : Bool) (events more : List Event) (state next : State) →
+        n < length rules → n < length places → rule ≡ get_or rules n rule → place ≡ get_or places n place →
+        (let s : Result = record { state = next; changed = changed } in s) ≡ attempt (meaning rule) state →
+        more ≡ events ++ told_attempt place moment (meaning rule) state →
+        more ++ told_round moment (map meaning (drop (n + 1) rules)) (drop (n + 1) places) next
+        ≡ events ++ told_round moment (map meaning (drop n rules)) (drop n places) state
+    told_round_more rule place changed events more state next h hp e ep made is =
+        let m : n + 1 ≡ suc n = omega arith in
+        let this : List Event = told_attempt place moment (meaning rule) state in
+        let rest : State → List Event = λ s. told_round moment (map meaning (drop (suc n) rules)) (drop (suc n) places) s in
+        ap (λ (k : ℕ). more ++ told_round moment (map meaning (drop k rules)) (drop k places) next) m
+        ∙ ap (λ (es : List Event). es ++ rest next) is
+        ∙ append_assoc events this (rest next)
+        ∙ ap (λ (r : Result). events ++ (this ++ rest r.state)) made
+        ∙ ap (λ (r : R). events ++ told_round moment (map meaning (r ∷ drop (suc n) rules)) (place ∷ drop (suc n) places)
+        state) e
+        ∙ ap (λ (rs : List R). events ++ told_round moment (map meaning rs) (place ∷ drop (suc n) places) state)
+        (sym (drop-cons rules n rule h))
+        ∙ ap (λ (p : RulePlace). events ++ told_round moment (map meaning (drop n rules)) (p ∷ drop (suc n) places) state) ep
+        ∙ ap (λ (ps : List RulePlace). events ++ told_round moment (map meaning (drop n rules)) ps state)
+        (sym (drop-cons places n place hp))
 
 -- groups --------------------------------------------------------------------------------------------------------------
 

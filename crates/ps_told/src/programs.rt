@@ -27,10 +27,7 @@ fn behind_groups<'p>(places: &'p [RulePlace], groups: &[List<CompiledRule<'_>>])
 }
 
 /// What stands after the places of the rules of a section.
-fn behind_section<'p>(
-    places: &'p [RulePlace],
-    section: &CompiledSection<'_>,
-) -> &'p [RulePlace]
+fn behind_section<'p>(places: &'p [RulePlace], section: &CompiledSection<'_>) -> &'p [RulePlace]
     requires { rules_in section.now ≤ length places.now }
     ensures { result.now ≡ drop (rules_in section.now) places.entry.now }
 {

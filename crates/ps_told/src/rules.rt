@@ -77,12 +77,7 @@ impl<'p, 'r, B: Scan> TracedRules<'p, 'r, B> {
     /// # Errors
     ///
     /// `Memory`, and a part of the sections may have been run.
-    fn tell(
-        &mut self,
-        board: &mut B,
-        queue: &Queue,
-        extent: Extent,
-    ) -> Result<ToldRun<B>, Memory> {
+    fn tell(&mut self, board: &mut B, queue: &Queue, extent: Extent) -> Result<ToldRun<B>, Memory> {
         let before = board.try_copy(self.alloc)?;
         let mut after = board.try_copy(self.alloc)?;
         let mut events = Vec::new(self.alloc);

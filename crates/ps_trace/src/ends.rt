@@ -1,12 +1,12 @@
 //! The lines on what became of a turn.
 
-use crate::lines::add_marked;
 use crate::cells::cell_count;
-use ps_told::ToldRun;
+use crate::lines::add_marked;
 use ps_board::Board;
 use ps_levels::Win;
 use ps_model::{Extent, LayerId, Memory, ObjectId};
 use ps_screen::OutputText;
+use ps_told::ToldRun;
 use ps_turn::{Queue, won};
 
 /// Whether one of these objects stands in a cell.

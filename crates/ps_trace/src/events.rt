@@ -3,11 +3,11 @@
 use crate::alike::{Alike, add_alike, spots};
 use crate::lines::{add_marked, doing, with_motion, word_of};
 use crate::spellings::Spellings;
-use ps_told::{Event, SlotChange, Told};
 use ps_compile::RulePlace;
 use ps_model::{Memory, Slot};
 use ps_screen::OutputText;
 use ps_text::{Source, without_blank_ends};
+use ps_told::{Event, SlotChange, Told};
 use ps_turn::Queue;
 use std::alloc::Global;
 
@@ -125,9 +125,7 @@ fn add_commands(alloc: Global, told: &Told, output: &mut OutputText) -> Result<(
 
 /// Whether rules of the line face other directions as well.
 fn has_others(places: &[RulePlace], place: RulePlace) -> bool {
-    places
-        .iter()
-        .any(|other| other.line == place.line && other.direction != place.direction)
+    places.iter().any(|other| other.line == place.line && other.direction != place.direction)
 }
 
 /// When an attempt was made: its direction, where there are others, its pass, if it is of a loop, and its round, where it
@@ -211,7 +209,10 @@ pub fn add_events(
                 add_marked(output, "! the group stops: it has made 200 rounds")?;
             }
             Event::LoopsStop => {
-                add_marked(output, "! the rules stop: loops have been repeated 200 times")?;
+                add_marked(
+                    output,
+                    "! the rules stop: loops have been repeated 200 times",
+                )?;
             }
         }
     }

@@ -1,7 +1,5 @@
 //! A game in play that is traced.
 
-use ps_told::TracedRules;
-use ps_told::ToldRun;
 use ps_board::ManyWords;
 use ps_compile::RulePlace;
 use ps_model::{Ending, Key, Memory, SIDE_LIMIT};
@@ -9,6 +7,7 @@ use ps_program::CompiledSection;
 use ps_rulebook::{RowBoard, RowHistory};
 use ps_screen::OutputText;
 use ps_session::{BoardSides, Phase, Session, SessionGame, Stop};
+use ps_told::{ToldRun, TracedRules};
 use ps_turn::TurnRules;
 use std::alloc::Global;
 

@@ -1,9 +1,9 @@
 //! The lines on motions that are given, and on the movement.
 
 use crate::alike::{Alike, add_alike, spot, spots};
+use crate::cells::cell_count;
 use crate::lines::{add_columns, doing, word_of};
 use crate::movement::{Fate, fate};
-use crate::cells::cell_count;
 use crate::spellings::Spellings;
 use ps_board::Board;
 use ps_model::{Direction, LayerId, Memory, Motion, ObjectId};
@@ -88,9 +88,10 @@ fn add_mover<B: Board>(
     layer: LayerId,
     movers: &mut Movers,
 ) -> Result<(), Memory> {
-    let (Some(object), Motion::Going(direction)) =
-        (board.object(cell, layer), board.motion(cell, layer))
-    else {
+    let (Some(object), Motion::Going(direction)) = (
+        board.object(cell, layer),
+        board.motion(cell, layer),
+    ) else {
         return Ok(());
     };
     let (_, height) = board.size();

@@ -70,8 +70,7 @@ impl<'g> TracedRun<'g> {
     /// Writes the opening, and before it what the rules did at the start of a level.
     fn open<W: ByteWriter>(&mut self, writer: &mut W) -> Result<(), RunFault> {
         let (plain, late) = self.game.told();
-        self.speaker
-            .add_turns(false, plain, late, &mut self.lines)?;
+        self.speaker.add_turns(false, plain, late, &mut self.lines)?;
         self.write(writer)
     }
 
@@ -133,8 +132,14 @@ fn trace_read<I: ByteReader, W: ByteWriter>(
     let traced = TracedGame::start(
         alloc,
         parts_of_game(game, entry),
-        PlacedProgram { sections: compiled.plain.sections(), places: &plain },
-        PlacedProgram { sections: compiled.late.sections(), places: &late },
+        PlacedProgram {
+            sections: compiled.plain.sections(),
+            places: &plain,
+        },
+        PlacedProgram {
+            sections: compiled.late.sections(),
+            places: &late,
+        },
         &mut output,
     )?;
     let mut run = TracedRun {
@@ -183,7 +188,8 @@ impl Tracer for GameTracer {
     ) -> Result<Ending, LevelFault> {
         let (source, game) = read_both(alloc, text).map_err(|fault| LevelFault::Run(fault))?;
         let entry = entry_of(&game, level)?;
-        trace_read(alloc, &source, &game, entry, reader, writer)
-            .map_err(|fault| LevelFault::Run(fault))
+        trace_read(alloc, &source, &game, entry, reader, writer).map_err(|fault| LevelFault::Run(
+            fault,
+        ))
     }
 }

@@ -5,13 +5,13 @@ use crate::events::{Speech, add_events};
 use crate::lines::add_marked;
 use crate::moves::{add_given, add_moves};
 use crate::spellings::Spellings;
-use ps_told::ToldRun;
 use ps_board::Board;
 use ps_compile::RulePlace;
 use ps_levels::Win;
 use ps_model::{Extent, Memory, ObjectId};
 use ps_screen::OutputText;
 use ps_text::Source;
+use ps_told::ToldRun;
 use std::alloc::Global;
 
 /// What the lines of a game's turns speak of: its text, what its objects are called, the places of its rules, its
