@@ -1,12 +1,13 @@
 //! The rules of a turn that tell what they do.
 
-ghost use Rattle.std.specs.Prelude.{◌≡◌, ◌≤◌, IfOk, OnOk, length};
+ghost use Rattle.std.specs.Prelude.{◌≡◌, ◌≤◌, [], All, IfOk, length};
 ghost use Rattle.ps_engine.specs.RulesInRoom.{sections_meaning};
+ghost use Rattle.ps_engine.specs.Scratch.{SectionsHaveScratch};
 ghost use Rattle.ps_match.specs.InRoom.{sides_of};
 ghost use Rattle.ps_model.specs.board.Programs.{program_run};
 ghost use Rattle.ps_turn.specs.States.{queue_shown, state_of};
 ghost use Rattle.ps_told.specs.Tellings.{rules_in_all};
-ghost use Rattle.ps_told.specs.ToldRuns.{told_program};
+ghost use Rattle.ps_told.specs.TrueRuns.{IsTrueRun, state_after, state_before};
 
 use crate::telling::Telling;
 use crate::told::ToldRun;
@@ -17,7 +18,6 @@ use ps_program::CompiledSection;
 use ps_rulebook::{lent, owned};
 use ps_turn::{Queue, Rules};
 use std::alloc::Global;
-use std::marker::Model;
 
 /// The rules of one part of a turn: the sections of a compiled program and the places of its rules, lent, and what its
 /// runs have told.
@@ -29,6 +29,9 @@ pub struct TracedRules<'p, 'r, B: Scan> {
     scratch: Vec<ScratchFor<B>>,
     /// What runs have told since they were forgotten last.
     runs: Vec<ToldRun<B>>,
+    ghost enough: { SectionsHaveScratch (length scratch.items) sections.now },
+    ghost placed: { rules_in_all sections.now ≤ length places.now },
+    ghost so: { All (IsTrueRun B.Board sections.now places.now) runs.items },
 }
 
 /// Written out, so that a function that owns rules calls this where it returns, instead of dropping their parts.
@@ -51,7 +54,12 @@ impl<'p, 'r, B: Scan> TracedRules<'p, 'r, B> {
         alloc: Global,
         sections: &'p [CompiledSection<'r>],
         places: &'p [RulePlace],
-    ) -> Result<TracedRules<'p, 'r, B>, Memory> {
+    ) -> Result<TracedRules<'p, 'r, B>, Memory>
+        requires { rules_in_all sections.now ≤ length places.now }
+        ensures sections { IfOk result (λ rules. rules.sections.now ≡ sections.entry.now) }
+        ensures places { IfOk result (λ rules. rules.places.now ≡ places.entry.now) }
+        ensures none { IfOk result (λ rules. rules.runs.items ≡ []) }
+    {
         let scratch = scratch_for(alloc, sections)?;
         Ok(TracedRules {
             alloc,
@@ -63,12 +71,18 @@ impl<'p, 'r, B: Scan> TracedRules<'p, 'r, B> {
     }
 
     /// What runs have told since they were forgotten last, in their order.
-    pub fn runs(&self) -> &[ToldRun<B>] {
+    pub fn runs(&self) -> &[ToldRun<B>]
+        ensures so { All (IsTrueRun B.Board self.now.sections.now self.now.places.now) result.now }
+    {
         self.runs.as_slice()
     }
 
     /// Forgets what runs have told.
-    pub fn forget(&mut self) {
+    pub fn forget(&mut self)
+        ensures none { self.new.runs.items ≡ [] }
+        ensures sections { self.new.sections ≡ self.old.sections }
+        ensures places { self.new.places ≡ self.old.places }
+    {
         self.runs.clear();
     }
 
@@ -77,7 +91,20 @@ impl<'p, 'r, B: Scan> TracedRules<'p, 'r, B> {
     /// # Errors
     ///
     /// `Memory`, and a part of the sections may have been run.
-    fn tell(&mut self, board: &mut B, queue: &Queue, extent: Extent) -> Result<ToldRun<B>, Memory> {
+    fn tell(&mut self, board: &mut B, queue: &Queue, extent: Extent) -> Result<ToldRun<B>, Memory>
+        ensures before { IfOk result (λ run. state_before B.Board run
+            ≡ state_of (B.grid board.old) (queue_shown queue.now)) }
+        ensures after { IfOk result (λ run. B.grid run.after ≡ B.grid board.new) }
+        ensures so { IfOk result (λ run. IsTrueRun B.Board self.old.sections.now self.old.places.now run) }
+        ensures came { IfOk result (λ run. state_after B.Board run
+            ≡ program_run (sections_meaning (B.table board.old) self.old.sections.now) (state_before B.Board run)) }
+        ensures sections { self.new.sections ≡ self.old.sections }
+        ensures places { self.new.places ≡ self.old.places }
+        ensures runs { self.new.runs ≡ self.old.runs }
+        ensures sides { sides_of (B.grid board.new) ≡ sides_of (B.grid board.old) }
+        ensures table { B.table board.new ≡ B.table board.old }
+        ensures origin { B.origin board.new ≡ B.origin board.old }
+    {
         let before = board.try_copy(self.alloc)?;
         let mut after = board.try_copy(self.alloc)?;
         let mut events = Vec::new(self.alloc);

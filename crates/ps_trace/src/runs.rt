@@ -123,10 +123,10 @@ fn trace_read<I: ByteReader, W: ByteWriter>(
         alloc,
         source,
         spellings: &spellings,
-        plain: &plain,
-        late: &late,
+        plain: plain.as_slice(),
+        late: late.as_slice(),
         players: game.names.players(),
-        wins: &game.wins,
+        wins: game.wins.as_slice(),
     };
     let mut output = OutputText::new(alloc);
     let traced = TracedGame::start(
@@ -134,11 +134,11 @@ fn trace_read<I: ByteReader, W: ByteWriter>(
         parts_of_game(game, entry),
         PlacedProgram {
             sections: compiled.plain.sections(),
-            places: &plain,
+            places: plain.as_slice(),
         },
         PlacedProgram {
             sections: compiled.late.sections(),
-            places: &late,
+            places: late.as_slice(),
         },
         &mut output,
     )?;
