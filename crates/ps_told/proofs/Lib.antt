@@ -1,2 +1,3 @@
 mod Growing
+mod Placed
 mod Steps

@@ -2,6 +2,7 @@ use Rattle.std.proofs.Common.{◌≡◌, ◌∙◌, ◌++◌, ◌≤◌, ℕ, Li
 use Rattle.std.proofs.lemmas.Result.{IfOk-from_err}
 use Rattle.ps_model.specs.board.Attempts.{State, Result}
 use Rattle.ps_model.specs.board.Programs.{group}
+use Rattle.ps_compile.specs.declared.places.RulePlace.{RulePlace}
 use Rattle.ps_program.specs.declared.rules.CompiledRule.{CompiledRule}
 use Rattle.ps_engine.specs.RulesInRoom.{rules_meaning}
 use Rattle.ps_engine.specs.Scratch.{HaveScratch}
@@ -9,8 +10,42 @@ use Rattle.ps_engine.proofs.Sequences.{pass_end, pass_more}
 use Rattle.ps_told.specs.declared.told.Event.{Event}
 use Rattle.ps_told.specs.Tellings.{same_layers, same_rows, state_of_telling}
 use Rattle.ps_told.specs.ToldRuns.{told_group}
+use Rattle.ps_told.proofs.Placed.{behind_rules}
 use Rattle.ps_told.proofs.Steps.{told_pass_end, told_pass_more}
 use Rattle.ps_told.proofs.groups.Telling.pass.Goals as goal
+
+pub loop-rules-preserved : goal.loop-rules-preserved
+loop-rules-preserved g c =
+    let table : Option (List ℕ) = g.B.Board.table c.args.self.now.board.now in
+    let was = c.loop-rules.invariant in
+    let here : Option (List ℕ) = g.B.Board.table c.loop-rules.self.board.now in
+    let rules : List CompiledRule = c.rules-item.result in
+    let now : State = state_of_telling g.B.Board c.loop-rules.self in
+    let next : State = state_of_telling g.B.Board c.group.new.self in
+    let events : List Event = c.loop-rules.self.events.now.items in
+    let places : List RulePlace = c.loop-rules.rest.now in
+    let after : Result = record { state = next; changed = c.in_ok-more.more } in
+    let made : after ≡ group (rules_meaning table rules) now =
+    c.in_ok-more.ensures.group
+    ∙ ap (λ (each : List CompiledRule). group (rules_meaning here each) now) c.as_slice.ensures
+    ∙ ap (λ (t : Option (List ℕ)). group (rules_meaning t rules) now) (same_layers was.fixed) in
+    let told : c.group.new.self.events.now.items ≡ events ++ told_group c.args.number (rules_meaning table rules) places now =
+    c.in_ok-more.ensures.told
+    ∙ ap (λ (each : List CompiledRule). events ++ told_group c.args.number (rules_meaning here each) places now)
+    c.as_slice.ensures
+    ∙ ap (λ (t : Option (List ℕ)). events ++ told_group c.args.number (rules_meaning t rules) places now)
+    (same_layers was.fixed) in
+    record {
+      pass = pass_more (rules_meaning table) c.args.groups.now c.loop-rules.rules-index rules c.loop-rules.changed
+          c.in_ok-more.more now next c.loop-rules-test.true c.rules-item.is made
+          ∙ was.pass;
+      told = told_pass_more (rules_meaning table) c.args.number c.args.groups.now c.loop-rules.rules-index rules
+          c.in_ok-more.more places _ events _ now next c.loop-rules-test.true c.rules-item.is made told
+          (behind_rules table rules places _ _ c.split_at.ensures.back (ap length c.as_slice-2.ensures))
+          ∙ was.told;
+      places = search rules;
+      fixed = c.group.ensures.fixed ∙ was.fixed;
+    }
 
 pub loop-rules-init : goal.loop-rules-init
 loop-rules-init g c = record { pass = refl; told = refl; places = c.requires.places; fixed = refl }
