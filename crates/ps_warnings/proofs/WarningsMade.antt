@@ -17,6 +17,7 @@ use Rattle.ps_warnings.specs.declared.kinds.Warning.{Warning}
 use Rattle.ps_warnings.specs.LevelStarts.{number_of}
 use Rattle.ps_warnings.specs.LevelWarnings.{level_warnings, warnings_at}
 use Rattle.ps_warnings.specs.OptionWarnings.{option_warnings}
+use Rattle.ps_warnings.specs.RowWarnings.{row_warnings}
 use Rattle.ps_warnings.specs.RuleWarnings.{rule_warnings}
 use Rattle.ps_warnings.specs.Sounds.{sounding_lines}
 use Rattle.ps_warnings.specs.Warnings.{warnings, warnings_in, warnings_of_lines}
@@ -95,25 +96,29 @@ levels_warned names lines numbers entries n e = ap₂ (warnings_at names) n e �
 
 -- section by section
 pub sections_warned : (lines prelude rules levels : List Line) (read : Game) (names : Names) (own : List RuleLine)
-    (entries : List Entry) (sounding numbers : List ℕ) (first second third : List Warning) →
+    (entries : List Entry) (sounding numbers : List ℕ) (first second third fourth : List Warning) →
     game_of_lines lines ≡ Some read → section_lines lines Prelude ≡ prelude → section_lines lines Rules ≡ rules →
     section_lines lines Levels ≡ levels → names ≡ read.names → own ≡ read.rules → entries ≡ read.entries →
     sounding ≡ sounding_lines rules → numbers ≡ map number_of (entry_lines levels) →
     first ≡ option_warnings prelude → second ≡ first ++ rule_warnings names sounding own →
-    third ≡ second ++ warnings_at names numbers entries → third ≡ warnings_in read lines
-sections_warned lines prelude rules levels read names own entries sounding numbers first second third is p r l n o e
-    s m a b c =
-    let options : first ≡ option_warnings (section_lines lines Prelude) = a ∙ ap option_warnings (sym p) in
+    third ≡ second ++ warnings_at names numbers entries → fourth ≡ third ++ row_warnings levels →
+    fourth ≡ warnings_in read lines
+sections_warned lines prelude rules levels read names own entries sounding numbers first second third fourth is p r l n o
+    e s m a b c d =
+    let O : List Warning = option_warnings (section_lines lines Prelude) in
+    let R : List Warning = rule_warnings read.names (sounding_lines (section_lines lines Rules)) read.rules in
+    let L : List Warning = level_warnings read.names (section_lines lines Levels) in
+    let W : List Warning = row_warnings (section_lines lines Levels) in
+    let options : first ≡ O = a ∙ ap option_warnings (sym p) in
     let sounds : sounding ≡ sounding_lines (section_lines lines Rules) = s ∙ ap sounding_lines (sym r) in
-    let ruled : rule_warnings names sounding own
-    ≡ rule_warnings read.names (sounding_lines (section_lines lines Rules)) read.rules =
-    rw (n, o, sounds) refl in
+    let ruled : rule_warnings names sounding own ≡ R = rw (n, o, sounds) refl in
     let starts : numbers ≡ map number_of (entry_lines (section_lines lines Levels)) =
     m ∙ ap (λ (ls : List Line). map number_of (entry_lines ls)) (sym l) in
-    let levelled : warnings_at names numbers entries ≡ level_warnings read.names (section_lines lines Levels) =
+    let levelled : warnings_at names numbers entries ≡ L =
     ap (λ (ns : Names). warnings_at ns numbers entries) n
     ∙ levels_warned read.names (section_lines lines Levels) numbers entries starts (e ∙ entries_are lines read is) in
-    c ∙ ap₂ (λ (xs ys : List Warning). xs ++ ys) (b ∙ ap₂ (λ (xs ys : List Warning). xs ++ ys) options ruled) levelled
-    ∙ append_assoc (option_warnings (section_lines lines Prelude))
-    (rule_warnings read.names (sounding_lines (section_lines lines Rules)) read.rules)
-    (level_warnings read.names (section_lines lines Levels))
+    let three : third ≡ (O ++ R) ++ L =
+    c ∙ ap₂ (λ (xs ys : List Warning). xs ++ ys) (b ∙ ap₂ (λ (xs ys : List Warning). xs ++ ys) options ruled) levelled in
+    d ∙ ap₂ (λ (xs ys : List Warning). xs ++ ys) three (ap row_warnings (sym l))
+    ∙ append_assoc (O ++ R) L W
+    ∙ append_assoc O R (L ++ W)

@@ -4,6 +4,7 @@ pub mod NearWords
 pub mod Numbers
 pub mod OptionWarnings
 pub mod PreludeWords
+pub mod RowWarnings
 pub mod RuleWarnings
 pub mod Sounds
 pub mod Warnings

@@ -1,5 +1,5 @@
 -- The warnings of a text: what is surely a mistake in a game, though it is no fault. A text with a fault has none, as
--- that is to be mended first. They come in the order of lines.
+-- that is to be mended first. They come section by section, and those of one kind in the order of lines.
 use Rattle.std.specs.Prelude.{ℕ, Some, None, List, [], ◌++◌}
 use Rattle.ps_model.specs.declared.texts.Section.TheVariants.{Prelude, Rules, Levels}
 use Rattle.ps_model.specs.text.Lines.{Line, lines_of}
@@ -8,6 +8,7 @@ use Rattle.ps_model.specs.text.TextFaults.{text_fault}
 use Rattle.ps_model.specs.game.Games.{Game, game_of_lines}
 use Rattle.ps_warnings.specs.declared.kinds.Warning.{Warning}
 use Rattle.ps_warnings.specs.OptionWarnings.{option_warnings}
+use Rattle.ps_warnings.specs.RowWarnings.{row_warnings}
 use Rattle.ps_warnings.specs.RuleWarnings.{rule_warnings}
 use Rattle.ps_warnings.specs.LevelWarnings.{level_warnings}
 use Rattle.ps_warnings.specs.Sounds.{sounding_lines}
@@ -17,7 +18,7 @@ abbrev pub warnings_in : Game → List Line → List Warning
 warnings_in read lines =
     option_warnings (section_lines lines Prelude)
     ++ (rule_warnings read.names (sounding_lines (section_lines lines Rules)) read.rules
-    ++ level_warnings read.names (section_lines lines Levels))
+    ++ (level_warnings read.names (section_lines lines Levels) ++ row_warnings (section_lines lines Levels)))
 
 -- those of lines
 abbrev pub warnings_of_lines : List Line → List Warning

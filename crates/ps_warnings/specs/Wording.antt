@@ -2,7 +2,8 @@
 use Rattle.std.specs.Prelude.{ℕ, List, ◌++◌, codes}
 use Rattle.ps_warnings.specs.declared.kinds.PreludeWord.{PreludeWord}
 use Rattle.ps_warnings.specs.declared.kinds.WarningKind.{WarningKind}
-use Rattle.ps_warnings.specs.declared.kinds.WarningKind.TheVariants.{NearWord, IdleRule, NoPlayer}
+use Rattle.ps_warnings.specs.declared.kinds.WarningKind.TheVariants.{NearWord, IdleRule, NoPlayer, LongRow}
+use Rattle.ps_warnings.specs.declared.kinds.WarningKind.TheVariants.{ShortRow}
 use Rattle.ps_warnings.specs.PreludeWords.{word_text}
 
 -- a line of the prelude is surely meant to begin with the word
@@ -14,3 +15,5 @@ abbrev pub sentence : WarningKind → List ℕ
 sentence (NearWord word) = near_sentence word
 sentence IdleRule = codes "this rule can do nothing"
 sentence NoPlayer = codes "this level shows no Player"
+sentence LongRow = codes "this row is cut off, as it is longer than the first of its level"
+sentence ShortRow = codes "this row is filled up, as it is shorter than the first of its level"

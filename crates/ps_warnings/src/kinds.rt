@@ -23,6 +23,10 @@ pub enum WarningKind {
     IdleRule,
     /// No cell of the level has an object of Player. The line is its first row.
     NoPlayer,
+    /// The row of a level is longer than its first row: what is past that is cut off.
+    LongRow,
+    /// The row of a level is shorter than its first row: it is filled up with its last character.
+    ShortRow,
 }
 
 /// A warning at a line of a text, whose number counts from 1.

@@ -6,6 +6,7 @@
 
 mod first_words;
 mod kinds;
+mod level_rows;
 mod level_starts;
 mod levels;
 mod near_words;

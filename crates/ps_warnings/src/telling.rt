@@ -8,6 +8,7 @@ ghost use Rattle.ps_warnings.specs.Warnings.{warnings_in, warnings_of_lines, war
 
 use crate::kinds::Warning;
 use crate::level_starts::entry_numbers;
+use crate::level_rows::warn_of_rows;
 use crate::levels::warn_of_levels;
 use crate::options::warn_of_options;
 use crate::rules::warn_of_rules;
@@ -35,6 +36,7 @@ fn warnings_in(
     warn_of_rules(alloc, &game.names, &game.rules, &sounding, &mut told)?;
     let numbers = entry_numbers(alloc, source, &sections.levels)?;
     warn_of_levels(&game.names, &numbers, &game.entries, &mut told)?;
+    warn_of_rows(alloc, source, &sections.levels, &mut told)?;
     Ok(told)
 }
 

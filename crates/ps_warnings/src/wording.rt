@@ -36,5 +36,19 @@ pub fn sentence_of(alloc: Global, kind: WarningKind) -> Result<String, Memory>
             let words = String::from_str(alloc, "this level shows no Player")?;
             Ok(words)
         }
+        WarningKind::LongRow => {
+            let words = String::from_str(
+                alloc,
+                "this row is cut off, as it is longer than the first of its level",
+            )?;
+            Ok(words)
+        }
+        WarningKind::ShortRow => {
+            let words = String::from_str(
+                alloc,
+                "this row is filled up, as it is shorter than the first of its level",
+            )?;
+            Ok(words)
+        }
     }
 }

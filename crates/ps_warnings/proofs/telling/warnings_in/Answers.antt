@@ -14,6 +14,7 @@ returns c =
     let prelude = lines_between text c.args.sections.now.prelude.start c.args.sections.now.prelude.end in
     sections_warned (lines_of text) _ _ _ c.args.game.now _ _ _ _ _
     c.warn_of_options.new.told.items c.warn_of_rules.new.told.items c.warn_of_levels.new.told.items
+    c.warn_of_rows.new.told.items
     c.requires.game c.requires.sections.prelude.same c.requires.sections.rules.same c.requires.sections.levels.same
     (ap (λ (g : Game). g.names) c.game.view_is) (ap (λ (g : Game). g.rules) c.game.view_is)
     (ap entries_shown c.deref-3.ensures.value ∙ ap (λ (g : Game). g.entries) c.game.view_is)
@@ -21,3 +22,4 @@ returns c =
     (c.in_ok-warn_of_options.ensures
     ∙ ap (λ (told : List Warning). told ++ option_warnings prelude) c.new-told.ensures.items)
     c.in_ok-warn_of_rules.ensures c.in_ok-warn_of_levels.ensures
+    c.in_ok-warn_of_rows.ensures
