@@ -5,7 +5,8 @@ use Rattle.std.specs.Str.{chars, is_utf8}
 use Rattle.std.specs.Str.Lossy.{utf8_valid_len}
 use Rattle.std.proofs.Math.Utf8.{encode}
 use Rattle.ps_warnings.specs.declared.kinds.PreludeWord.TheVariants.{NoUndo, RequirePlayerMovement}
-use Rattle.ps_warnings.specs.declared.kinds.WarningKind.TheVariants.{NearWord, IdleRule, NoPlayer}
+use Rattle.ps_warnings.specs.declared.kinds.WarningKind.TheVariants.{NearWord, IdleRule, IdleWin, NoPlayer}
+use Rattle.ps_warnings.specs.declared.kinds.WarningKind.TheVariants.{LongRow, ShortRow}
 use Rattle.ps_warnings.specs.NearWords.{is_near}
 use Rattle.ps_warnings.specs.PreludeWords.{misspelt}
 use Rattle.ps_warnings.specs.Warnings.{warnings}
@@ -49,6 +50,21 @@ all_of_them : warnings (codes "noudno\nOBJECTS\nBackground .\ngreen\nPlayer P\nw
     ∷ record { line = 18; kind = NoPlayer } ∷ []
 unfolding warnings misspelt chars is_utf8 encode utf8_valid_len
 all_of_them = refl
+
+-- every cell with a Player has one, and nothing is asked of where all of them are
+wins_that_always_hold : warnings (codes "OBJECTS\nBackground .\ngreen\nPlayer P\nwhite\nCOLLISIONLAYERS\nBackground\n"
+    ++ (codes "Player\nWINCONDITIONS\nAll P on player\nall Player\nall Player on P\nAll Player on PLAYER\n"
+    ++ codes "Some Player\nLEVELS\nP\n"))
+    ≡ record { line = 11; kind = IdleWin } ∷ record { line = 13; kind = IdleWin } ∷ []
+unfolding warnings misspelt chars is_utf8 encode utf8_valid_len
+wins_that_always_hold = refl
+
+-- rows are measured by the first of their level, and no row by that of another level
+rows_of_other_widths : warnings (codes "OBJECTS\nBackground .\ngreen\nPlayer P\nwhite\nCOLLISIONLAYERS\nBackground\n"
+    ++ codes "Player\nLEVELS\nP.\nP\nP..\n\nP...\nP...\n")
+    ≡ record { line = 11; kind = ShortRow } ∷ record { line = 12; kind = LongRow } ∷ []
+unfolding warnings misspelt chars is_utf8 encode utf8_valid_len
+rows_of_other_widths = refl
 
 -- a text with a fault has none
 none_of_a_fault : warnings (codes "noudno\nOBJECTS\n") ≡ []

@@ -2,7 +2,7 @@
 use Rattle.std.proofs.Common.{◌≡◌, ◌∙◌, ◌++◌, ℕ, List, [], ◌∷◌, Option, Some, None, map, refl, sym, ap, ap₂, subst}
 use Rattle.std.proofs.Common.{append_assoc}
 use Rattle.std.proofs.lemmas.Option.{same_Some}
-use Rattle.ps_model.specs.declared.texts.Section.TheVariants.{Prelude, Rules, Levels}
+use Rattle.ps_model.specs.declared.texts.Section.TheVariants.{Prelude, Rules, Wins, Levels}
 use Rattle.ps_model.specs.declared.faults.Fault.{Fault}
 use Rattle.ps_model.specs.text.Faults.{first_fault}
 use Rattle.ps_model.specs.text.TextFaults.{text_fault}
@@ -20,6 +20,7 @@ use Rattle.ps_warnings.specs.OptionWarnings.{option_warnings}
 use Rattle.ps_warnings.specs.RowWarnings.{row_warnings}
 use Rattle.ps_warnings.specs.RuleWarnings.{rule_warnings}
 use Rattle.ps_warnings.specs.Sounds.{sounding_lines}
+use Rattle.ps_warnings.specs.WinWarnings.{win_warnings}
 use Rattle.ps_warnings.specs.Warnings.{warnings, warnings_in, warnings_of_lines}
 use Rattle.ps_warnings.proofs.EntriesWarned.{warned_alike}
 
@@ -95,20 +96,22 @@ levels_warned : (names : Names) (lines : List Line) (numbers : List ℕ) (entrie
 levels_warned names lines numbers entries n e = ap₂ (warnings_at names) n e ∙ warned_alike names (entry_lines lines)
 
 -- section by section
-pub sections_warned : (lines prelude rules levels : List Line) (read : Game) (names : Names) (own : List RuleLine)
-    (entries : List Entry) (sounding numbers : List ℕ) (first second third fourth : List Warning) →
+pub sections_warned : (lines prelude rules wins levels : List Line) (read : Game) (names : Names) (own : List RuleLine)
+    (entries : List Entry) (sounding numbers : List ℕ) (first second third fourth fifth : List Warning) →
     game_of_lines lines ≡ Some read → section_lines lines Prelude ≡ prelude → section_lines lines Rules ≡ rules →
-    section_lines lines Levels ≡ levels → names ≡ read.names → own ≡ read.rules → entries ≡ read.entries →
-    sounding ≡ sounding_lines rules → numbers ≡ map number_of (entry_lines levels) →
+    section_lines lines Wins ≡ wins → section_lines lines Levels ≡ levels → names ≡ read.names → own ≡ read.rules →
+    entries ≡ read.entries → sounding ≡ sounding_lines rules → numbers ≡ map number_of (entry_lines levels) →
     first ≡ option_warnings prelude → second ≡ first ++ rule_warnings names sounding own →
-    third ≡ second ++ warnings_at names numbers entries → fourth ≡ third ++ row_warnings levels →
-    fourth ≡ warnings_in read lines
-sections_warned lines prelude rules levels read names own entries sounding numbers first second third fourth is p r l n o
-    e s m a b c d =
+    third ≡ second ++ win_warnings wins → fourth ≡ third ++ warnings_at names numbers entries →
+    fifth ≡ fourth ++ row_warnings levels → fifth ≡ warnings_in read lines
+sections_warned lines prelude rules wins levels read names own entries sounding numbers first second third fourth fifth
+    is p r w l n o e s m a b c d f =
     let O : List Warning = option_warnings (section_lines lines Prelude) in
     let R : List Warning = rule_warnings read.names (sounding_lines (section_lines lines Rules)) read.rules in
+    let W : List Warning = win_warnings (section_lines lines Wins) in
     let L : List Warning = level_warnings read.names (section_lines lines Levels) in
-    let W : List Warning = row_warnings (section_lines lines Levels) in
+    let Rows : List Warning = row_warnings (section_lines lines Levels) in
+    let join : List Warning → List Warning → List Warning = λ xs ys. xs ++ ys in
     let options : first ≡ O = a ∙ ap option_warnings (sym p) in
     let sounds : sounding ≡ sounding_lines (section_lines lines Rules) = s ∙ ap sounding_lines (sym r) in
     let ruled : rule_warnings names sounding own ≡ R = rw (n, o, sounds) refl in
@@ -117,8 +120,10 @@ sections_warned lines prelude rules levels read names own entries sounding numbe
     let levelled : warnings_at names numbers entries ≡ L =
     ap (λ (ns : Names). warnings_at ns numbers entries) n
     ∙ levels_warned read.names (section_lines lines Levels) numbers entries starts (e ∙ entries_are lines read is) in
-    let three : third ≡ (O ++ R) ++ L =
-    c ∙ ap₂ (λ (xs ys : List Warning). xs ++ ys) (b ∙ ap₂ (λ (xs ys : List Warning). xs ++ ys) options ruled) levelled in
-    d ∙ ap₂ (λ (xs ys : List Warning). xs ++ ys) three (ap row_warnings (sym l))
-    ∙ append_assoc (O ++ R) L W
-    ∙ append_assoc O R (L ++ W)
+    let two : second ≡ O ++ R = b ∙ ap₂ join options ruled in
+    let three : third ≡ (O ++ R) ++ W = c ∙ ap₂ join two (ap win_warnings (sym w)) in
+    let four : fourth ≡ ((O ++ R) ++ W) ++ L = d ∙ ap₂ join three levelled in
+    f ∙ ap₂ join four (ap row_warnings (sym l))
+    ∙ append_assoc ((O ++ R) ++ W) L Rows
+    ∙ append_assoc (O ++ R) W (L ++ Rows)
+    ∙ append_assoc O R (W ++ (L ++ Rows))

@@ -8,4 +8,5 @@ pub mod RowWarnings
 pub mod RuleWarnings
 pub mod Sounds
 pub mod Warnings
+pub mod WinWarnings
 pub mod Wording

@@ -1,7 +1,7 @@
 -- The warnings of a text: what is surely a mistake in a game, though it is no fault. A text with a fault has none, as
 -- that is to be mended first. They come section by section, and those of one kind in the order of lines.
 use Rattle.std.specs.Prelude.{ℕ, Some, None, List, [], ◌++◌}
-use Rattle.ps_model.specs.declared.texts.Section.TheVariants.{Prelude, Rules, Levels}
+use Rattle.ps_model.specs.declared.texts.Section.TheVariants.{Prelude, Rules, Wins, Levels}
 use Rattle.ps_model.specs.text.Lines.{Line, lines_of}
 use Rattle.ps_model.specs.text.Sections.{section_lines}
 use Rattle.ps_model.specs.text.TextFaults.{text_fault}
@@ -12,13 +12,15 @@ use Rattle.ps_warnings.specs.RowWarnings.{row_warnings}
 use Rattle.ps_warnings.specs.RuleWarnings.{rule_warnings}
 use Rattle.ps_warnings.specs.LevelWarnings.{level_warnings}
 use Rattle.ps_warnings.specs.Sounds.{sounding_lines}
+use Rattle.ps_warnings.specs.WinWarnings.{win_warnings}
 
 -- those of lines that are this game
 abbrev pub warnings_in : Game → List Line → List Warning
 warnings_in read lines =
     option_warnings (section_lines lines Prelude)
     ++ (rule_warnings read.names (sounding_lines (section_lines lines Rules)) read.rules
-    ++ (level_warnings read.names (section_lines lines Levels) ++ row_warnings (section_lines lines Levels)))
+    ++ (win_warnings (section_lines lines Wins)
+    ++ (level_warnings read.names (section_lines lines Levels) ++ row_warnings (section_lines lines Levels))))
 
 -- those of lines
 abbrev pub warnings_of_lines : List Line → List Warning

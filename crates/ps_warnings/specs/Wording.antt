@@ -2,8 +2,8 @@
 use Rattle.std.specs.Prelude.{ℕ, List, ◌++◌, codes}
 use Rattle.ps_warnings.specs.declared.kinds.PreludeWord.{PreludeWord}
 use Rattle.ps_warnings.specs.declared.kinds.WarningKind.{WarningKind}
-use Rattle.ps_warnings.specs.declared.kinds.WarningKind.TheVariants.{NearWord, IdleRule, NoPlayer, LongRow}
-use Rattle.ps_warnings.specs.declared.kinds.WarningKind.TheVariants.{ShortRow}
+use Rattle.ps_warnings.specs.declared.kinds.WarningKind.TheVariants.{NearWord, IdleRule, IdleWin, NoPlayer}
+use Rattle.ps_warnings.specs.declared.kinds.WarningKind.TheVariants.{LongRow, ShortRow}
 use Rattle.ps_warnings.specs.PreludeWords.{word_text}
 
 -- a line of the prelude is surely meant to begin with the word
@@ -14,6 +14,7 @@ near_sentence word = codes "this line says nothing, but its first word is much l
 abbrev pub sentence : WarningKind → List ℕ
 sentence (NearWord word) = near_sentence word
 sentence IdleRule = codes "this rule can do nothing"
+sentence IdleWin = codes "this win condition always holds"
 sentence NoPlayer = codes "this level shows no Player"
 sentence LongRow = codes "this row is cut off, as it is longer than the first of its level"
 sentence ShortRow = codes "this row is filled up, as it is shorter than the first of its level"

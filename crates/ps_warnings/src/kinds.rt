@@ -21,6 +21,8 @@ pub enum WarningKind {
     NearWord(PreludeWord),
     /// The rule can do nothing: whatever it may mean fits nothing, or changes nothing and asks for nothing.
     IdleRule,
+    /// The win condition always holds: it asks for nothing.
+    IdleWin,
     /// No cell of the level has an object of Player. The line is its first row.
     NoPlayer,
     /// The row of a level is longer than its first row: what is past that is cut off.

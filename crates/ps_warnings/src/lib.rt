@@ -16,6 +16,7 @@ mod prelude_words;
 mod rules;
 mod sounds;
 mod telling;
+mod wins;
 mod wording;
 
 pub use kinds::{PreludeWord, Warning, WarningKind};

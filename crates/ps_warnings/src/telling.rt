@@ -13,6 +13,7 @@ use crate::levels::warn_of_levels;
 use crate::options::warn_of_options;
 use crate::rules::warn_of_rules;
 use crate::sounds::sounding_lines;
+use crate::wins::warn_of_wins;
 use ps_game::{Game, read_game};
 use ps_model::{Memory, Refusal};
 use ps_sections::{Sections, read_sections};
@@ -34,6 +35,7 @@ fn warnings_in(
     warn_of_options(alloc, source, &sections.prelude, &mut told)?;
     let sounding = sounding_lines(alloc, source, &sections.rules)?;
     warn_of_rules(alloc, &game.names, &game.rules, &sounding, &mut told)?;
+    warn_of_wins(alloc, source, &sections.wins, &mut told)?;
     let numbers = entry_numbers(alloc, source, &sections.levels)?;
     warn_of_levels(&game.names, &numbers, &game.entries, &mut told)?;
     warn_of_rows(alloc, source, &sections.levels, &mut told)?;

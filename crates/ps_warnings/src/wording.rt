@@ -32,6 +32,10 @@ pub fn sentence_of(alloc: Global, kind: WarningKind) -> Result<String, Memory>
             let words = String::from_str(alloc, "this rule can do nothing")?;
             Ok(words)
         }
+        WarningKind::IdleWin => {
+            let words = String::from_str(alloc, "this win condition always holds")?;
+            Ok(words)
+        }
         WarningKind::NoPlayer => {
             let words = String::from_str(alloc, "this level shows no Player")?;
             Ok(words)
