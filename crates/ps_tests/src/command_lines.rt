@@ -503,7 +503,10 @@ const CHECKS: [(Told, &[Line]); 16] = [
             printed: "",
             complained: "",
         },
-        &[(&["ps_play", "--check", "--warn", "warned.game"], "warned.game\n")],
+        &[(
+            &["ps_play", "--check", "--warn", "warned.game"],
+            "warned.game\n",
+        )],
     ),
     // It is 1 where that is asked for, and a game without a mistake is well all the same.
     (
@@ -519,7 +522,13 @@ const CHECKS: [(Told, &[Line]); 16] = [
         },
         &[(
             &[
-                "ps_play", "--check", "--warn", "--strict", "--format", "gnu", "a.game",
+                "ps_play",
+                "--check",
+                "--warn",
+                "--strict",
+                "--format",
+                "gnu",
+                "a.game",
                 "warned.game",
             ],
             "a.game\nwarned.game\n",

@@ -21,7 +21,7 @@ const KEYS: &[u8] = b"q";
 const SIZE: &[u8] = b"10x20\n";
 
 /// A machine with the words of a command line. Each file whose name ends with `.keys` has the same keys, and one with
-/// `.size` the same size; `cut.game` has a text that ends before its levels, `two.game` the game [`TWO_LEVELS`],
+/// `.size` the same size. `cut.game` has a text that ends before its levels. `two.game` has the game [`TWO_LEVELS`],
 /// `three.game` the game [`THREE_LEVELS`], `warned.game` the game [`WARNED`], and each other one the game [`PUSHING`].
 /// In `long.game` and `too-long.game` line feeds stand before it. With them it has as many bytes as a text may have, and
 /// one more. There is neither a `lost.game` nor a `lost.size`, nor a clock.

@@ -31,12 +31,7 @@ fn width_of(alloc: Global, source: &Source, line: u32) -> Result<usize, Memory>
 }
 
 /// Warns of a row at a line that is so wide, in a level of that width, if it is longer or shorter.
-fn warn_of_width(
-    told: &mut Vec<Warning>,
-    width: usize,
-    own: usize,
-    line: u32,
-) -> Result<(), Memory>
+fn warn_of_width(told: &mut Vec<Warning>, width: usize, own: usize, line: u32) -> Result<(), Memory>
     ensures { OnOk result (told.new.items ≡ told.old.items ++ warned_of_width width own line) }
 {
     if own == width {

@@ -7,8 +7,8 @@ ghost use Rattle.ps_sections.specs.SectionPlaces.{AreSections};
 ghost use Rattle.ps_warnings.specs.Warnings.{warnings_in, warnings_of_lines, warnings};
 
 use crate::kinds::Warning;
-use crate::level_starts::entry_numbers;
 use crate::level_rows::warn_of_rows;
+use crate::level_starts::entry_numbers;
 use crate::levels::warn_of_levels;
 use crate::options::warn_of_options;
 use crate::rules::warn_of_rules;
