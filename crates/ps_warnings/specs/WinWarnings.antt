@@ -6,11 +6,15 @@ use Rattle.ps_warnings.specs.declared.kinds.Warning.{Warning}
 use Rattle.ps_warnings.specs.declared.kinds.WarningKind.TheVariants.{IdleWin}
 use Rattle.ps_warnings.specs.Sounds.{is_same}
 
+-- four words say `All X on X`
+abbrev pub is_all_on_itself : List ℕ → List ℕ → List ℕ → List ℕ → Bool
+is_all_on_itself word subject on place =
+    is_same word (codes "all") && (is_same on (codes "on") && is_same subject place)
+
 -- a win condition of these words always holds
 abbrev pub always_holds : List (List ℕ) → Bool
 always_holds (word ∷ subject ∷ []) = is_same word (codes "all")
-always_holds (word ∷ subject ∷ on ∷ place ∷ []) =
-    is_same word (codes "all") && (is_same on (codes "on") && is_same subject place)
+always_holds (word ∷ subject ∷ on ∷ place ∷ []) = is_all_on_itself word subject on place
 always_holds words = false
 
 -- one at a line, if it always holds

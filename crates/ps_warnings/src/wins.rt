@@ -4,13 +4,21 @@ ghost use Rattle.std.specs.Prelude.{◌≡◌, ◌++◌, map, OnOk};
 ghost use Rattle.std.specs.List.{flat_map};
 ghost use Rattle.ps_model.specs.text.LineNumbers.{HasLine, HasLines, here, lines_between};
 ghost use Rattle.ps_text.specs.WordViews.{text_of};
-ghost use Rattle.ps_warnings.specs.WinWarnings.{always_holds, warned_of_win, warnings_of_win, win_warnings};
+ghost use Rattle.ps_warnings.specs.WinWarnings.{always_holds, is_all_on_itself, warned_of_win};
+ghost use Rattle.ps_warnings.specs.WinWarnings.{warnings_of_win, win_warnings};
 
 use crate::kinds::{Warning, WarningKind};
 use ps_model::{Cut, Memory};
 use ps_text::{Source, Word, same_name, words};
 use std::alloc::Global;
 use std::ops::Range;
+
+/// Whether four words say `All X on X`.
+fn is_all_on_itself(word: &str, subject: &str, on: &str, place: &str) -> bool
+    ensures { result ≡ is_all_on_itself word.now subject.now on.now place.now }
+{
+    same_name(word, "all") && same_name(on, "on") && same_name(subject, place)
+}
 
 /// Whether a win condition of these words always holds.
 fn always_holds(words: &[Word<'_>]) -> bool
@@ -22,9 +30,12 @@ fn always_holds(words: &[Word<'_>]) -> bool
     if words.len() != 4 {
         return false;
     }
-    same_name(words[0].text(), "all")
-        && same_name(words[2].text(), "on")
-        && same_name(words[1].text(), words[3].text())
+    is_all_on_itself(
+        words[0].text(),
+        words[1].text(),
+        words[2].text(),
+        words[3].text(),
+    )
 }
 
 /// Warns of a win condition at a line, if it always holds.
