@@ -1,11 +1,11 @@
 -- Where the entries of LEVELS begin, a line further.
-use Rattle.std.proofs.Common.{◌≡◌, ◌∙◌, ◌++◌, ◌+◌, ◌<◌, ◌≤◌, ℕ, Bool, true, false, List, [], ◌∷◌, length, map, refl}
+use Rattle.std.proofs.Common.{◌≡◌, ◌∙◌, ◌++◌, ◌+◌, ◌≤◌, ℕ, Bool, true, false, List, [], ◌∷◌, length, map, refl}
 use Rattle.std.proofs.Common.{sym, ap, append_assoc}
 use Rattle.std.specs.Prelude.{◌&&◌, ◌||◌, not}
 use Rattle.std.specs.List.{take_while}
 use Rattle.std.proofs.lemmas.List.{map-append}
 use Rattle.ps_model.specs.text.Lines.{Line, lines_of}
-use Rattle.ps_model.specs.text.LineNumbers.{here, line_at, lines_between}
+use Rattle.ps_model.specs.text.LineNumbers.{here, line_at}
 use Rattle.ps_model.specs.session.LevelLines.{EntryLines, MessageLine, LevelRows, entry_at, entries_at, is_message, is_row}
 use Rattle.ps_laws.proofs.common.LinesInOrder.{here-there, line_at-number}
 use Rattle.ps_warnings.specs.LevelStarts.{number_of, numbers_at, begins}

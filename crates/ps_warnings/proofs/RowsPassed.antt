@@ -1,16 +1,17 @@
 -- Rows of LEVELS, a line further.
 use Rattle.std.proofs.Common.{◌≡◌, ◌∙◌, ◌++◌, ◌≤◌, ℕ, Bool, true, false, Option, Some, None, List, [], ◌∷◌, length, take}
-use Rattle.std.proofs.Common.{refl, sym, ap, append_assoc}
-use Rattle.std.specs.Prelude.{cond, ◌+◌, ◌&&◌, nat_eq, not, unwrap_or}
+use Rattle.std.proofs.Common.{suc, refl, sym, ap, append_assoc, arith}
+use Rattle.std.specs.Prelude.{cond, ◌+◌, ◌&&◌, nat_lt, not, unwrap_or, if◌then◌else◌}
 use Rattle.std.specs.List.{flat_map, prefix_len, take_while}
 use Rattle.std.proofs.lemmas.Bool.{eq-eqb}
 use Rattle.std.proofs.lemmas.Grind.{flat_map-append}
 use Rattle.std.proofs.lemmas.List.{append-nil}
 use Rattle.ps_model.specs.text.Lines.{Line, is_blank_line, lines_of}
 use Rattle.ps_model.specs.text.LineNumbers.{here, line_at, lines_between}
-use Rattle.ps_model.specs.session.LevelLines.{EntryLines, LevelRows, entry_at, entries_at, is_message, is_row}
+use Rattle.ps_model.specs.session.LevelLines.{entry_at, entries_at, is_message, is_row}
 use Rattle.ps_laws.proofs.common.LinesInOrder.{between-end, here-there, line_at-number}
 use Rattle.ps_warnings.specs.declared.kinds.Warning.{Warning}
+use Rattle.ps_warnings.specs.declared.kinds.WarningKind.TheVariants.{LongRow, ShortRow}
 use Rattle.ps_warnings.specs.RowWarnings.{told_below, warned_of_width, warnings_of_row, warnings_of_rows, width_of}
 use Rattle.ps_warnings.proofs.EntriesBegun.{entry_by}
 
@@ -62,6 +63,12 @@ first_rows : (line : Line) (rest : List Line) (row : Bool) → is_row line ≡ r
 first_rows line rest row e =
     ap (λ (own : Bool). take (cond own (1 + prefix_len is_row rest) 0) (line ∷ rest)) e
 
+rows_on : (line : Line) (rest : List Line) → is_row line ≡ true →
+    take_while is_row (line ∷ rest) ≡ line ∷ take_while is_row rest
+rows_on line rest e =
+    let one : 1 + prefix_len is_row rest ≡ suc (prefix_len is_row rest) = omega arith in
+    first_rows line rest true e ∙ ap (λ (n : ℕ). take n (line ∷ rest)) one
+
 -- a line that is no row
 no_row : (above : Option ℕ) (line : Line) (rest : List Line) → is_row line ≡ false →
     told_below above (line ∷ rest) ≡ told_below None rest
@@ -71,10 +78,17 @@ no_row (Some width) line rest e =
     ++ flat_map warnings_of_rows (entries_at true (line ∷ rest))) (first_rows line rest false e)
     ∙ without_row true line rest e
 
+-- a row by whether it is as wide as its level
+abbrev warned_by : Bool → ℕ → ℕ → ℕ → List Warning
+warned_by same width own line =
+    if same then [] else record {
+      line = line;
+      kind = if nat_lt own width then ShortRow else LongRow;
+    } ∷ []
+
 same_width : (width line : ℕ) → warned_of_width width width line ≡ []
 same_width width line =
-    ap (λ (is : Bool). elim is as (λ b. List Warning) [ true ↦ [] | false ↦ warned_of_width width width line ])
-    (eq-eqb width width refl)
+    ap (λ (same : Bool). warned_by same width width line) (eq-eqb width width refl)
 
 -- a row
 row : (above : Option ℕ) (line : Line) (rest : List Line) → is_row line ≡ true →
@@ -89,7 +103,7 @@ row None line rest e =
     (same_width (width_of line) line.number))
 row (Some width) line rest e =
     ap (λ (rows : List Line). flat_map (warnings_of_row width) rows
-    ++ flat_map warnings_of_rows (entries_at true (line ∷ rest))) (first_rows line rest true e)
+    ++ flat_map warnings_of_rows (entries_at true (line ∷ rest))) (rows_on line rest e)
     ∙ ap (λ (told : List Warning). (warnings_of_row width line
     ++ flat_map (warnings_of_row width) (take_while is_row rest)) ++ told) (entry_of_row true line rest e)
     ∙ append_assoc (warnings_of_row width line) (flat_map (warnings_of_row width) (take_while is_row rest))

@@ -1,6 +1,7 @@
 -- Rows of levels that are longer or shorter than the first row of their level, which says how wide the level is. What is
 -- past the width of a longer row is cut off, and a shorter row is filled up with its last character.
-use Rattle.std.specs.Prelude.{ℕ, nat_eq, nat_lt, if◌then◌else◌, Option, Some, None, List, [], ◌∷◌, ◌++◌, length}
+use Rattle.std.specs.Prelude.{ℕ, nat_eq, nat_lt, true, false, if◌then◌else◌, Option, Some, None, List, []}
+use Rattle.std.specs.Prelude.{◌∷◌, ◌++◌, length}
 use Rattle.std.specs.List.{flat_map, take_while}
 use Rattle.ps_model.specs.text.Lines.{Line}
 use Rattle.ps_model.specs.session.LevelLines.{EntryLines, MessageLine, LevelRows, characters_of, entries_at, entry_lines}
