@@ -16,6 +16,7 @@ use crate::details::show_detail;
 use crate::engine::Engine;
 use crate::files::{STANDARD_INPUT, read_game_file, read_input, read_text};
 use crate::playing::play_asked;
+use crate::replaying::replay_asked;
 use crate::reporting::{report_alone, report_texts};
 use crate::showing::show_asked;
 use crate::solving::solve_asked;
@@ -23,6 +24,7 @@ use crate::stops::{Stop, stop_for, tell};
 use ps_answers::LevelSolver;
 use ps_check::{check, check_named};
 use ps_devices::{ByteReader, ByteWriter, Player, RunFault};
+use ps_records::Replayer;
 use ps_report::{Detail, explanation};
 use std::alloc::Global;
 use std::rt::{Env, Files};
@@ -37,9 +39,10 @@ pub fn run_command_line<
     R: Env + Files + AllocGlobal + Clock + Print + Eprint,
     P: Player,
     S: LevelSolver,
+    Y: Replayer,
     I: ByteReader,
     O: ByteWriter,
->(rt: &R, engine: &Engine<'_, P, S>, keys: &mut I, screen: &mut O) -> u8
+>(rt: &R, engine: &Engine<'_, P, S, Y>, keys: &mut I, screen: &mut O) -> u8
     requires heard { (I.state keys.old).has_failed ≡ false }
     requires well { (O.state screen.old).has_failed ≡ false }
     ensures { result ≤ 2 }
@@ -55,9 +58,10 @@ fn act<
     R: Env + Files + AllocGlobal + Clock + Print + Eprint,
     P: Player,
     S: LevelSolver,
+    Y: Replayer,
     I: ByteReader,
     O: ByteWriter,
->(rt: &R, engine: &Engine<'_, P, S>, keys: &mut I, screen: &mut O) -> Result<(), Stop>
+>(rt: &R, engine: &Engine<'_, P, S, Y>, keys: &mut I, screen: &mut O) -> Result<(), Stop>
     requires heard { (I.state keys.old).has_failed ≡ false }
     requires well { (O.state screen.old).has_failed ≡ false }
 {
@@ -76,6 +80,7 @@ fn act<
         Asked::Description(path) => describe_game(rt, path, keys, screen),
         Asked::Show(asked) => show_asked(rt, asked, keys, screen),
         Asked::Solve(asked) => solve_asked(rt, engine, &asked, keys, screen),
+        Asked::Replay(asked) => replay_asked(rt, engine.replayer, &asked, keys, screen),
         Asked::Play(asked) => play_asked(rt, engine.player, asked, keys, screen),
     }
 }

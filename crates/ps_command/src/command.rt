@@ -1,6 +1,7 @@
 //! The command line.
 
 use crate::files::STANDARD_INPUT;
+use crate::replay_options::{asked_replay, replay_option};
 use crate::report_options::{
     all_option, asked_report, format_option, limit_option, strict_option, wants_report, warn_option,
 };
@@ -58,6 +59,15 @@ pub struct Solve<'w> {
     pub stop_file: Option<&'w str>,
 }
 
+/// Streams of keys that are played again in a game.
+#[derive(Drop)]
+pub struct Replay<'w> {
+    /// The file with the game's text, or `-` for standard input.
+    pub game: &'w str,
+    /// The files with the keys, of which one may be `-` for standard input.
+    pub streams: Vec<&'w str>,
+}
+
 /// The version, which `--version` tells.
 const VERSION: &str = "0.3.0";
 
@@ -93,6 +103,8 @@ pub enum Asked<'w> {
     Show(Show<'w>),
     /// Whether levels can be won, and in how few keys.
     Solve(Solve<'w>),
+    /// How far recorded keys get.
+    Replay(Replay<'w>),
 }
 
 /// What the words of a command line ask for, of which the first is the program's own name.
@@ -113,6 +125,7 @@ pub fn read_command<'w, S: AsStr>(alloc: Global, words: &'w [S]) -> Result<Asked
         .arg(solve_option(alloc)?)?
         .arg(states_option(alloc)?)?
         .arg(stop_option(alloc)?)?
+        .arg(replay_option(alloc)?)?
         .arg(level_option(alloc)?)?
         .arg(keys_option(alloc))?
         .arg(view_option(alloc))?
@@ -145,6 +158,9 @@ fn asked_by<'w>(alloc: Global, matches: &ArgMatches<'w>) -> Result<Asked<'w>, St
     };
     if matches.get_flag("solve") {
         return asked_solve(alloc, matches, path, level);
+    }
+    if matches.get_flag("replay") {
+        return asked_replay(alloc, matches, path);
     }
     if wants_report(matches)? {
         return asked_report(alloc, matches, path);
@@ -267,7 +283,7 @@ pub fn all_paths<'w>(
 /// Further texts behind `GAME`, which are checked as well.
 fn further_argument(alloc: Global) -> Result<Arg<'static>, AllocError> {
     Arg::new(alloc, "FURTHER")
-        .help("With --check or --solve, further texts; each line begins with the name of its text")
+        .help("With --check or --solve, further texts; with --replay, files of keys; each line begins with the name of its file")
         .action(ArgAction::Append)
         .num_args(1..)
         .requires_arg("TASK")
@@ -400,6 +416,7 @@ fn explain_option(alloc: Global) -> Result<Arg<'static>, AllocError> {
             "solve",
             "states",
             "stop-file",
+            "replay",
             "level",
             "keys",
             "view",

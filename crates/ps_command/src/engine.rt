@@ -2,12 +2,14 @@
 
 use ps_answers::LevelSolver;
 use ps_devices::Player;
+use ps_records::Replayer;
 
-/// What plays games and searches their levels, and whether somebody looks on.
+/// What plays games, searches their levels and replays keys, and whether somebody looks on.
 #[derive(Drop)]
-pub struct Engine<'e, P: Player, S: LevelSolver> {
+pub struct Engine<'e, P: Player, S: LevelSolver, Y: Replayer> {
     pub player: &'e P,
     pub solver: &'e S,
+    pub replayer: &'e Y,
     /// Whether standard error is a terminal. There it is said how far a search is, while it goes on.
     pub is_watched: bool,
 }

@@ -14,7 +14,7 @@ use std::rt::Files;
 use std::{fs, io};
 
 /// How many bytes of a text are read: one more than a game may have, so that a longer one is known.
-const MOST_READ: usize = TEXT_LIMIT + 1;
+pub const MOST_READ: usize = TEXT_LIMIT + 1;
 
 /// The name of standard input, where a file's is asked for.
 pub const STANDARD_INPUT: &str = "-";

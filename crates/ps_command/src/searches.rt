@@ -46,7 +46,7 @@ pub fn stop_option(alloc: Global) -> Result<Arg<'static>, AllocError> {
 
 /// What several texts can be given for: one of these.
 pub fn tasks(alloc: Global) -> Result<ArgGroup<'static>, AllocError> {
-    ArgGroup::new(alloc, "TASK").args(&["check", "solve"])
+    ArgGroup::new(alloc, "TASK").args(&["check", "solve", "replay"])
 }
 
 /// How many states a word lets be kept, from 1.

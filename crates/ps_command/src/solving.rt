@@ -17,6 +17,7 @@ use ps_answers::{
     Form, LevelSolver, LevelTeller, Refusal, SearchProgress, SolvableGame, TellFault,
 };
 use ps_devices::{ByteReader, ByteWriter, Player, RunFault};
+use ps_records::Replayer;
 use ps_report::{Detail, Format, How};
 use std::rt::Files;
 use std::time::Clock;
@@ -28,11 +29,12 @@ pub fn solve_asked<
     R: Files + AllocGlobal + Clock + Eprint,
     P: Player,
     S: LevelSolver,
+    Y: Replayer,
     I: ByteReader,
     O: ByteWriter,
 >(
     rt: &R,
-    engine: &Engine<'_, P, S>,
+    engine: &Engine<'_, P, S, Y>,
     asked: &Solve<'_>,
     input: &mut I,
     screen: &mut O,

@@ -5,6 +5,7 @@
 
 use ps_command::{Engine, run_command_line};
 use ps_devices::FromStd;
+use ps_replay::GameReplayer;
 use ps_run::GamePlayer;
 use ps_solve::GameSolver;
 use std::io::IsTerminal;
@@ -16,6 +17,7 @@ fn main(rt: HostRuntime) -> ExitCode {
     let engine = Engine {
         player: &GamePlayer,
         solver: &GameSolver,
+        replayer: &GameReplayer,
         is_watched: rt.stderr().is_terminal(),
     };
     ExitCode::from(run_command_line(&rt, &engine, &mut keys, &mut screen))

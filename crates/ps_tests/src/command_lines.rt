@@ -6,6 +6,7 @@ use crate::watched::Watched;
 use ps_command::{Engine, run_command_line};
 use ps_devices::{MemoryReader, MemoryWriter};
 use ps_model::CALL_LIMIT;
+use ps_replay::GameReplayer;
 use ps_run::GamePlayer;
 use ps_solve::GameSolver;
 use std::process::Abort;
@@ -778,6 +779,7 @@ pub fn obey_on(
     let engine = Engine {
         player: &GamePlayer,
         solver: &GameSolver,
+        replayer: &GameReplayer,
         is_watched: true,
     };
     let status = run_command_line(&machine, &engine, &mut keys, &mut screen);

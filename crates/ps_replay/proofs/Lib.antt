@@ -1,0 +1,4 @@
+pub mod Courses
+pub mod Places
+pub mod Sources
+pub mod StreamKeys
