@@ -2,7 +2,7 @@
 use Rattle.std.proofs.Common.{◌≡◌, ◌≢◌, ℕ, ◌+◌, ◌<◌, ◌≤◌, ◌⊎◌, inl, inr, Bool, true, false, Some, refl, sym, ◌∙◌, arith}
 use Rattle.std.specs.Prelude.{nat_eq}
 use Rattle.std.specs.List.{list_any}
-use Rattle.std.proofs.lemmas.Bool.{cases_lt, ne_eqb, false≢true}
+use Rattle.std.proofs.lemmas.Bool.{cases_eq, cases_lt, ne_eqb, false≢true}
 use Rattle.std.proofs.lemmas.Option.{none-some, same_Some}
 use Rattle.ps_model.specs.declared.pieces.Direction.TheVariants.{Up, Down, Left, Right}
 use Rattle.ps_model.specs.declared.pieces.Motion.{Motion}
@@ -46,6 +46,23 @@ five_true first (Going Down) q h = rw (← same_Some (first + 1) q h) (listed_at
 five_true first (Going Left) q h = rw (← same_Some (first + 2) q h) (listed_at (motion_planes first) 2 0 (omega arith))
 five_true first (Going Right) q h = rw (← same_Some (first + 3) q h) (listed_at (motion_planes first) 3 0 (omega arith))
 five_true first Acting q h = rw (← same_Some (first + 4) q h) (listed_at (motion_planes first) 4 0 (omega arith))
+
+pub five_within : (first q : ℕ) → first ≤ q → q ≤ first + 4 → list_any (nat_eq q) (motion_planes first) ≡ true
+five_within first q low high = elim (cases_eq q first) [
+  | inl e ↦ rw e (listed_at (motion_planes first) 0 0 (omega arith))
+  | inr a ↦ elim (cases_eq q (first + 1)) [
+    | inl e ↦ rw e (listed_at (motion_planes first) 1 0 (omega arith))
+    | inr b ↦ elim (cases_eq q (first + 2)) [
+      | inl e ↦ rw e (listed_at (motion_planes first) 2 0 (omega arith))
+      | inr c ↦ elim (cases_eq q (first + 3)) [
+        | inl e ↦ rw e (listed_at (motion_planes first) 3 0 (omega arith))
+        | inr d ↦
+            let e : q ≡ first + 4 = omega (arith, low, high, a, b, c, d) in
+            rw e (listed_at (motion_planes first) 4 0 (omega arith))
+      ]
+    ]
+  ]
+]
 
 pub five_none : (first q : ℕ) → q ≢ first → q ≢ first + 1 → q ≢ first + 2 → q ≢ first + 3 → q ≢ first + 4 →
     list_any (nat_eq q) (motion_planes first) ≡ false

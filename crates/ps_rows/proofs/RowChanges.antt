@@ -1,9 +1,9 @@
 -- Rows of planes behind a change.
 use Rattle.std.proofs.Common.{◌≡◌, ◌≢◌, ◌∙◌, ℕ, ◌+◌, ◌*◌, ◌<◌, ◌≤◌, inl, inr, Bool, true, false, not, ◌&&◌, ◌||◌, List}
-use Rattle.std.proofs.Common.{Option, None, [], length, get_or, take, refl, sym, ap, ap₂, subst, arith}
+use Rattle.std.proofs.Common.{Option, None, Some, [], length, get_or, take, refl, sym, ap, ap₂, subst, arith}
 use Rattle.std.specs.Prelude.{nat_eq, slice_set, if◌then◌else◌}
 use Rattle.std.specs.List.{list_any}
-use Rattle.std.proofs.lemmas.Bool.{cases_Bool, cases_eq, eq-eqb, eqb-true, or_parts, false_from_ne_true, false≢true}
+use Rattle.std.proofs.lemmas.Bool.{cases_Bool, cases_eq, eq-eqb, eqb-true, ne_eqb, or_parts, false_from_ne_true, false≢true}
 use Rattle.std.proofs.Math.Nat.{mul-le-mul_left}
 use Rattle.std.proofs.lemmas.Nat.{same_from_place}
 use Rattle.std.proofs.lemmas.List.{get_or-set_same, get_or-set_other, length-set, set-get_or}
@@ -163,6 +163,30 @@ module _ (h row : ℕ) (change : Change) (under : row < h) where
         was_listed : (b : Bool) (p q : ℕ) → (b || nat_eq p q) ≡ true → p ≢ q → b ≡ true
         was_listed true p q either other = refl
         was_listed false p q either other = absurd (other (eqb-true p q either))
+
+  -- the row of one plane alone, which the change names, where none of all of them has a column in it
+  pub changed_alone : (words : List (List Bool)) (planes : List ℕ) (q : ℕ) → list_any (nat_eq q) planes ≡ true →
+      HavePlanes h words planes → change.plane ≡ Some q →
+      ((p : ℕ) → list_any (nat_eq p) planes ≡ true → row_of words (p * h + row) ≡ no_columns) →
+      AreRowsChanged h row change words (row_after h row change words q) planes
+  changed_alone words planes q among have named clear =
+      let within : q * h + row < length words = place_in h q row (length words) under (have q among) in
+      record {
+        long = length-set words (q * h + row) (word_after change q (row_of words (q * h + row)));
+        there = λ p x listed low. elim (cases_eq p q) [
+          | inl same ↦ rw same (one_there words q x low within)
+          | inr other ↦
+              let none : column_at (row_of words (p * h + row)) x ≡ false =
+              ap (λ (w : List Bool). column_at w x) (clear p listed) ∙ none_at x in
+              ap (λ (w : List Bool). column_at w x) (one_elsewhere words q p row under (λ r. other))
+              ∙ none
+              ∙ sym (ap₂ (λ (b : Bool) (n : Option ℕ). (b && not (column_at change.cleared x)) ||
+              (is_number n p && column_at change.set x)) none named
+              ∙ ap (λ (b : Bool). b && column_at change.set x) (ne_eqb q p (λ e. other (sym e))))
+        ];
+        elsewhere = λ p y inside apart. one_elsewhere words q p y inside
+            (λ r same. false≢true (sym (apart r) ∙ ap (λ (n : ℕ). list_any (nat_eq n) planes) same ∙ among));
+      }
 
   -- a row that stays
   pub row_stays : (words : List (List Bool)) (plane : ℕ) (word after : List Bool) → AreSets words →

@@ -1,9 +1,10 @@
 //! What becomes of the rows of planes, many columns at a time.
 
-ghost use Rattle.std.specs.Prelude.{◌≡◌, ◌+◌, ◌*◌, ◌<◌, ◌≤◌, ◌^◌, ℕ, [], None, Some, false, nat_eq, true, vec_len};
+ghost use Rattle.std.specs.Prelude.{◌≡◌, ◌+◌, ◌*◌, ◌<◌, ◌≤◌, ◌^◌, ℕ, [], IfSome, None, Some, false, nat_eq, true};
+ghost use Rattle.std.specs.Prelude.{vec_len};
 ghost use Rattle.std.specs.List.{list_any};
 ghost use Rattle.ps_board.specs.ColumnSets.{either_columns, no_columns, set_columns};
-ghost use Rattle.ps_rows.specs.Planes.{HavePlanes};
+ghost use Rattle.ps_rows.specs.Planes.{HavePlanes, row_of};
 ghost use Rattle.ps_rows.specs.RowChanges.{AreRowsChanged, AreRowsLeft, IsLayerWritten, IsRowLeft};
 ghost use Rattle.ps_rows.specs.RowChanges.{clearing, motions_change, moves_kept, objects_change};
 ghost use Rattle.ps_rows.specs.RowChanges.{row_after, set_in, word_after};
@@ -231,9 +232,36 @@ fn change_five<W: ColumnWords>(
     change_rows(planes, row, change, &five, changed)
 }
 
+/// The plane in which a change sets columns, if it is one of five from the first on of which none has a column in the
+/// row, by the index: then it alone is changed there.
+#[inline(always)]
+fn plane_alone<W: ColumnWords>(
+    planes: &Planes<W>,
+    row: u32,
+    first: u32,
+    change: RowChange<Columns<W>>,
+) -> Option<u32>
+    requires row { row < planes.now.height }
+    requires few { first + 4 < 2 ^ 32 }
+    requires motions { (first + 5) * planes.now.height ≤ vec_len planes.now.words }
+    ensures named { IfSome result (λ plane. change.plane ≡ Some plane) }
+    ensures among { IfSome result (λ plane. list_any (nat_eq plane) (motion_planes first) ≡ true) }
+    ensures clear { let p = planes.now in IfSome result (λ plane. (other : ℕ) →
+        list_any (nat_eq other) (motion_planes first) ≡ true →
+        row_of p.words.items (other * p.height + row) ≡ no_columns) }
+{
+    let Some(plane) = change.plane else {
+        return None;
+    };
+    if plane < first || first + 4 < plane || planes.five_rows_of(first).has(row) {
+        return None;
+    }
+    Some(plane)
+}
+
 /// Changes the row of a layer's motions, which have five planes from the first on, and answers whether one has other
-/// columns then, or something had `changed` before. No plane is read where nothing is to be set, and the index knows of
-/// no motion in the row.
+/// columns then, or something had `changed` before. Where the index knows of no motion in the row, no plane is read but
+/// the one in which something is to be set.
 #[inline(always)]
 fn change_motions<W: ColumnWords>(
     planes: &mut Planes<W>,
@@ -259,6 +287,9 @@ fn change_motions<W: ColumnWords>(
     }
     if only_clears(change) && !planes.five_rows_of(first).has(row) {
         return changed;
+    }
+    if let Some(plane) = plane_alone(planes, row, first, change) {
+        return change_row(planes, row, change, plane, changed);
     }
     change_five(planes, row, first, change, changed)
 }

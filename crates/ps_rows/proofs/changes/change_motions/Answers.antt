@@ -15,3 +15,14 @@ returns-then-not-has-clause-words g c =
     (c.only_clears.ensures c.if-only_clears.true)
     (λ plane listed. c.five_rows_of.ensures plane c.args.row listed c.requires.row
     (sym c.has.ensures ∙ c.if-not-has.true))
+
+pub returns-in-Some-clause-words : goal.returns-in-Some-clause-words
+returns-in-Some-clause-words g c =
+    let p = c.args.planes.now in
+    let P : List (List Bool) → Type 0 = λ words.
+    AreRowsChanged p.height c.args.row c.args.change p.words.items words (motion_planes c.args.first) in
+    subst P (sym c.change_row.ensures.words)
+    (changed_alone p.height c.args.row c.args.change c.requires.row p.words.items (motion_planes c.args.first)
+    c.in-Some.plane c.plane_alone.ensures.among
+    (motions_whole p.height p.words.len c.args.first (motion_planes c.args.first) refl c.requires.motions p.words.items
+    (sym p.words.ok.0)) c.plane_alone.ensures.named c.plane_alone.ensures.clear)
