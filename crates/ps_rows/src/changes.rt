@@ -132,7 +132,8 @@ fn word_after<W: ColumnWords>(
     word.without(change.cleared).either(set_in(change, plane))
 }
 
-/// Changes the row of a plane, and answers whether it has other columns then, or something had `changed` before.
+/// Changes the row of a plane, and answers whether it has other columns then, or something had `changed` before. A row
+/// that isn't marked isn't read, unless columns are to be set in it: most objects of a layer stand in few rows.
 fn change_row<W: ColumnWords>(
     planes: &mut Planes<W>,
     row: u32,
@@ -150,6 +151,9 @@ fn change_row<W: ColumnWords>(
     ensures left { let p = planes.old in
         changed ≡ false → IsRowLeft p.height row change p.words.items plane → result ≡ false }
 {
+    if !planes.rows_of(plane).has(row) && !is_chosen(change.plane, plane) {
+        return changed;
+    }
     let word = planes.row(plane, row);
     let after = word_after(change, plane, word);
     if after.unlike(word).is_empty() {
