@@ -540,6 +540,9 @@ impl<W: ColumnWords> Planes<W> {
         ensures count { vec_len other.new.words ≡ vec_len other.old.words }
     {
         let within = rows.both(Columns::below(self.height));
+        if within.is_empty() {
+            return;
+        }
         let words = other.words.as_mut_slice();
         copy_row_sets(self.words.as_slice(), words, self.height, planes, within);
         let index = other.index.as_mut_slice();

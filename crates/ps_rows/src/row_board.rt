@@ -649,10 +649,13 @@ impl<W: ColumnWords> Board for RowBoard<W> {
     }
 
     /// Where nothing moves on either board, these rows alone are compared, in the planes of objects, layer by layer as
-    /// all rows else are.
+    /// all rows else are. Without rows there is nothing to compare.
     fn same_on(&self, other: &RowBoard<W>, rows: &Columns<W>) -> bool {
         if !self.stand_still(other) {
             return self.same(other);
+        }
+        if rows.is_empty() {
+            return true;
         }
         for step in 0..self.layers {
             if !self.same_layer_on(other, self.layers - 1 - step, *rows) {

@@ -1,7 +1,9 @@
-use Rattle.std.proofs.Common.{◌≡◌, ◌∙◌, ◌*◌, ◌≤◌, ℕ, Bool, List, length, ap, sym, subst}
+use Rattle.std.proofs.Common.{◌≡◌, ◌∙◌, ◌*◌, ◌≤◌, ℕ, Bool, List, length, ap, refl, sym, subst, arith}
+use Rattle.std.proofs.lemmas.Bool.{false≢true}
 use Rattle.std.specs.Vec.{with_items}
 use Rattle.std.proofs.lemmas.List.{with_items_is}
 use Rattle.ps_board.specs.ColumnSets.{both_columns}
+use Rattle.ps_board.proofs.ColumnLaws.{none_in}
 use Rattle.ps_board.proofs.Taken.{below-init}
 use Rattle.ps_rows.specs.PlaneCopies.{AreMarksTaken, AreRowsOf}
 use Rattle.ps_rows.specs.RowIndex.{AreRowsMarked}
@@ -81,6 +83,21 @@ invariant_of-other-clause-marked g c =
     (marked_rows p.index.len o.index.len p.height end within p.words.items o.words.items (with_items o.words left).items
     p.index.items o.index.items (with_items o.index mine).items p.rows counted copied taken p.marked
     (subst M c.requires.height o.marked))
+
+pub returns-then-is_empty-clause-words : goal.returns-then-is_empty-clause-words
+returns-then-is_empty-clause-words g c =
+    let p = c.args.self.now in
+    let o = c.args.other.now in
+    let within : List Bool = c.both-within.result in
+    rows_within p.height 0 c.args.planes c.args.rows within p.words.items o.words.items o.words.items p.rows
+    (c.both-within.ensures ∙ ap (both_columns c.args.rows) c.below.ensures)
+    (record {
+      below = λ plane row under less. refl;
+      behind = λ plane row under more. refl;
+      copied = λ plane row under low high on. absurd (false≢true (sym (none_in within row
+          (c.is_empty.ensures.none c.if-is_empty.true) (omega (arith, under, p.rows))) ∙ on));
+      left = λ plane row under clear. refl;
+    })
 
 pub returns-clause-words : goal.returns-clause-words
 returns-clause-words g c =

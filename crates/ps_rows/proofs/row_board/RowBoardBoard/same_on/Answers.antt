@@ -1,5 +1,7 @@
-use Rattle.std.proofs.Common.{◌≡◌, ◌*◌, ◌-◌, ◌<◌, ◌≤◌, ℕ, List, arith}
+use Rattle.std.proofs.Common.{◌≡◌, ◌∙◌, ◌*◌, ◌-◌, ◌<◌, ◌≤◌, ℕ, List, sym, arith}
+use Rattle.std.proofs.lemmas.Bool.{false≢true}
 use Rattle.std.proofs.lemmas.Option.{same_Some}
+use Rattle.ps_board.proofs.ColumnLaws.{none_in}
 use Rattle.ps_rows.specs.Members.{on_layer}
 use Rattle.ps_rows.specs.Sameness.{AreSamePlanesOn}
 use Rattle.ps_rows.specs.Showing.{AreObjectsShown}
@@ -40,6 +42,22 @@ returns-then-not-same_layer_on g c =
     c.same_layer_on.result on c.if-not-same_layer_on.true
     (λ same. c.same_layer_on.ensures.other (same_objects table b.width b.planes.height b.planes.words.items
     o.planes.words.items layer b.objects showing same)))
+
+pub returns-then-is_empty : goal.returns-then-is_empty
+returns-then-is_empty g c =
+    let b = c.args.self.now in
+    let o = c.args.other.now in
+    let table : List ℕ = b.members.table.items in
+    let tables : o.members.table.items ≡ table = same_Some o.members.table.items table c.requires.table in
+    let apart = other_apart table o.members.table.items b.width o.width b.planes.height o.planes.height b.layers
+    o.layers c.args.rows.now b.planes.words.items o.planes.words.items tables c.requires.width c.requires.height
+    c.requires.layers c.requires.only in
+    rw (tables, c.requires.layers, c.requires.height, c.requires.width)
+    (board_same table b.width b.planes.height b.layers b.planes.words.items o.planes.words.items
+    (λ layer low. layer_apart table b.width b.planes.height b.layers c.args.rows.now b.planes.words.items
+    o.planes.words.items b.planes.some_row (c.stand_still.ensures c.if-not-stand_still.false) apart layer low
+    (λ plane among row under on. absurd (false≢true (sym (none_in c.args.rows.now row
+    (c.is_empty.ensures.none c.if-is_empty.true) (omega (arith, under, b.planes.rows))) ∙ on)))))
 
 pub returns : goal.returns
 returns g c =
