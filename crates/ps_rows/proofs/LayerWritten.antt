@@ -1,10 +1,11 @@
 -- A layer behind the change of its row.
-use Rattle.std.proofs.Common.{◌≡◌, ◌≢◌, ◌∙◌, ℕ, ◌+◌, ◌*◌, ◌/◌, ◌%◌, ◌<◌, ◌≤◌, inl, inr, Bool, true, ◌&&◌, Option, Some}
+use Rattle.std.proofs.Common.{◌≡◌, ◌≢◌, ◌∙◌, ℕ, ◌+◌, ◌*◌, ◌/◌, ◌%◌, ◌<◌, ◌≤◌, inl, inr, Bool, true, false, not, ◌&&◌, ◌||◌, Option, None, Some}
 use Rattle.std.proofs.Common.{List, length, refl, sym, ap, ap₂, arith}
 use Rattle.std.specs.Prelude.{nat_eq, option_map, slice_get}
 use Rattle.std.specs.List.{list_any}
-use Rattle.std.proofs.lemmas.Bool.{cases_Bool, cases_eq, cases_lt, eq-eqb, ne_eqb, false≢true}
-use Rattle.std.proofs.lemmas.Nat.{mod_below, mul-add-lt, div-mul-add, mod-mul-add}
+use Rattle.std.proofs.Math.Nat.{div-add-mod}
+use Rattle.std.proofs.lemmas.Bool.{cases_Bool, cases_eq, cases_lt, eq-eqb, false_from_ne_true, ne_eqb, false≢true}
+use Rattle.std.proofs.lemmas.Nat.{le-div, mod_below, mul-add-lt, div-mul-add, mod-mul-add}
 use Rattle.std.proofs.lemmas.Option.{same_Some, slice_get_within}
 use Rattle.std.proofs.Math.Bool.{and-true, and-false}
 use Rattle.ps_model.specs.declared.pieces.Motion.{Motion}
@@ -15,7 +16,7 @@ use Rattle.ps_model.specs.board.Grid.{Grid, motion_in, slot_at, slot_of}
 use Rattle.ps_model.specs.board.Movement.{is_number}
 use Rattle.ps_model.specs.meaning.Fitting.{same_motion}
 use Rattle.ps_laws.proofs.common.SameThings.{same_slot-own}
-use Rattle.ps_rows.specs.Planes.{has_cell, row_of}
+use Rattle.ps_rows.specs.Planes.{AreEmptyFrom, AreSets, has_cell, row_of}
 use Rattle.ps_rows.specs.Members.{on_layer}
 use Rattle.ps_rows.specs.RowChanges.{AreRowsLeft, Change, IsLayerWritten, bit_after}
 use Rattle.ps_rows.specs.Showing.{numbered, motion_plane, motion_planes, motions_from, object_shown, motion_shown}
@@ -30,7 +31,8 @@ use Rattle.ps_rows.proofs.Puts.{apart_from}
 use Rattle.ps_rows.proofs.Rests.{slot_read}
 use Rattle.ps_rows.proofs.MemberRanges.{listed_member, member_listed, not_listed}
 use Rattle.ps_rows.proofs.Whole.{columns_low}
-use Rattle.ps_board.specs.ColumnSets.{column_at}
+use Rattle.ps_rows.proofs.Sets.{none_at, same_set, set_where}
+use Rattle.ps_board.specs.ColumnSets.{column_at, no_columns}
 use Rattle.ps_model.specs.declared.limits.TheConstants.{SIDE_LIMIT}
 
 slot_again : (t : Slot) → slot_of (option_map numbered (slot_number t)) (motion_in t) ≡ t
@@ -44,6 +46,41 @@ listed_below table layer planes first e f p listed =
     let below : p < length table = slice_get_within table p layer
     (listed_member table layer p (ap (list_any (nat_eq p)) (sym e) ∙ listed)) in
     omega (arith, below, f)
+
+-- where nothing moves, and no motion is set, nothing moves behind the change
+pub rests_again : (table : List ℕ) (height : ℕ) (words written : List (List Bool)) (planes : List ℕ)
+    (layer first row : ℕ) (objects motions : Change) → 0 < height → row < height → planes ≡ on_layer table layer →
+    AreSets written → motions.plane ≡ None → IsLayerWritten height row words written planes objects first motions →
+    AreEmptyFrom (length table * height) words → AreEmptyFrom (length table * height) written
+rests_again table height words written planes layer first row objects motions some under e sets unnamed made empty place
+    from =
+    let plane : ℕ = place / height in
+    let y : ℕ = place % height in
+    let back : plane * height + y ≡ place = div-add-mod place height in
+    let low : y < height = mod_below place height some in
+    let blank : row_of words (plane * height + y) ≡ no_columns = ap (row_of words) back ∙ empty place from in
+    let high : length table ≤ plane = le-div (length table) place height some from in
+    let out : list_any (nat_eq plane) planes ≡ false =
+    false_from_ne_true (list_any (nat_eq plane) planes) (λ listed.
+    let below : plane < length table = slice_get_within table plane layer
+    (listed_member table layer plane (ap (list_any (nat_eq plane)) (sym e) ∙ listed)) in
+    absurd (omega (arith, high, below))) in
+    ap (row_of written) (sym back) ∙ elim (cases_eq y row) [
+      | inr other ↦ made.elsewhere plane y low (λ r. out) (λ r. absurd (other r)) ∙ blank
+      | inl same ↦ elim (cases_Bool (list_any (nat_eq plane) (motion_planes first))) [
+        | inr no ↦ made.elsewhere plane y low (λ r. out) (λ r. no) ∙ blank
+        | inl yes ↦ same_set (row_of written (plane * height + y)) no_columns (sets (plane * height + y))
+            (set_where (λ x. false)) (λ x few.
+            let none : column_at (row_of words (plane * height + row)) x ≡ false =
+            ap (λ (k : ℕ). column_at (row_of words (plane * height + k)) x) (sym same)
+            ∙ ap (λ (w : List Bool). column_at w x) blank ∙ none_at x in
+            ap (λ (k : ℕ). column_at (row_of written (plane * height + k)) x) same
+            ∙ made.motions_there plane x yes few
+            ∙ ap₂ (λ (b : Bool) (n : Option ℕ). (b && not (column_at motions.cleared x)) ||
+            (is_number n plane && column_at motions.set x)) none unnamed
+            ∙ sym (none_at x))
+      ]
+    ]
 
 module _ (table : List ℕ) (width height layers : ℕ) (words written : List (List Bool)) (layer row : ℕ)
     (columns : List Bool) (after : ℕ → Slot → Slot) (objects motions : Change) (some : 0 < height)

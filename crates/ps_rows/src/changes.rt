@@ -201,7 +201,7 @@ pub fn change_rows<W: ColumnWords>(
 }
 
 /// Whether a change names no plane in which it sets columns.
-fn only_clears<W: ColumnWords>(change: RowChange<Columns<W>>) -> bool
+pub fn only_clears<W: ColumnWords>(change: RowChange<Columns<W>>) -> bool
     ensures { result ≡ true → change.plane ≡ None }
 {
     match change.plane {

@@ -19,7 +19,7 @@ ghost use Rattle.ps_rows.specs.Showing.{motions_from, numbered, object_shown, wi
 ghost use Rattle.ps_rows.specs.SlotsWritten.{AreSlotsLeft, AreSlotsWritten, in_columns};
 ghost use Rattle.ps_rows.specs.SlotsWritten.{slot_by, stands_on};
 
-use crate::changes::change_layer;
+use crate::changes::{change_layer, only_clears};
 use crate::members::Members;
 use crate::motions::{choose_motion, first_motion};
 use crate::planes::Planes;
@@ -234,7 +234,7 @@ impl<W: ColumnWords> RowBoard<W> {
     }
 
     /// Writes a layer of a row in these columns, and answers whether one of its slots changed. The row is noted where
-    /// an object came or went.
+    /// an object came or went. Where nothing moves, and the write gives no motion, nothing moves then.
     #[inline(always)]
     pub(crate) fn write_layer(
         &mut self,
@@ -264,7 +264,7 @@ impl<W: ColumnWords> RowBoard<W> {
         let (objects, motions) = self.layer_change(write, layer, row, columns);
         let first = self.motions_from(layer);
         let places = self.members.of(layer);
-        self.may_move = true;
+        self.may_move = self.may_move | !only_clears(motions);
         let (moved, any) = change_layer(&mut self.planes, row, places, objects, first, motions);
         note_row(&mut self.touched, row, moved);
         any

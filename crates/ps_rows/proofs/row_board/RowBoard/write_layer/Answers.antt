@@ -1,4 +1,5 @@
-use Rattle.std.proofs.Common.{◌∙◌, ℕ, Bool, List, Some, length, sym, subst, arith}
+use Rattle.std.proofs.Common.{◌≡◌, ◌∙◌, ℕ, Bool, false, true, not, List, Some, length, refl, sym, subst, arith}
+use Rattle.std.proofs.lemmas.Bool.{or_parts}
 use Rattle.ps_model.specs.declared.pieces.Slot.{Slot}
 use Rattle.ps_program.specs.ProgramShown.{write_shown}
 use Rattle.ps_match.specs.InRoom.{slot_after, write_in_room}
@@ -7,9 +8,13 @@ use Rattle.ps_rows.specs.RowChanges.{AreRowsLeft, IsLayerWritten}
 use Rattle.ps_rows.specs.Showing.{motion_planes, motions_from}
 use Rattle.ps_rows.proofs.Puts.{planes_whole}
 use Rattle.ps_rows.proofs.LayerWritten.{listed_below, motions_again, motions_left, objects_again, objects_left}
-use Rattle.ps_rows.proofs.LayerWritten.{slots_left, slots_written}
+use Rattle.ps_rows.proofs.LayerWritten.{rests_again, slots_left, slots_written}
 use Rattle.ps_rows.proofs.Touched.{row_noted}
 use Rattle.ps_rows.proofs.row_board.RowBoard.write_layer.Goals as goal
+
+was_true : (b : Bool) → not b ≡ false → b ≡ true
+was_true true e = refl
+was_true false e = sym e
 
 pub change_layer-moved-requires-clause-planes : goal.change_layer-moved-requires-clause-planes
 change_layer-moved-requires-clause-planes g c =
@@ -72,6 +77,17 @@ invariant_of-self-clause-noted g c =
     moved
     (λ none plane below.
     c.change_layer-moved.ensures.objects none plane (omega (arith, below, c.motions_from-first.ensures.first))))
+
+pub invariant_of-self-clause-rest : goal.invariant_of-self-clause-rest
+invariant_of-self-clause-rest g c = λ still.
+    let b = c.args.self.now in
+    let parts = or_parts b.may_move (not c.only_clears.result) still in
+    rw c.change_layer-moved.ensures.height
+    (rests_again b.members.table.items b.planes.height b.planes.words.items
+    c.change_layer-moved.new.planes.words.items c.of-places.result.now c.args.layer c.motions_from-first.result
+    c.args.row c.layer_change-objects.result.0 c.layer_change-objects.result.1 b.planes.some_row c.requires.row
+    c.of-places.ensures c.change_layer-moved.new.planes.sets
+    (c.only_clears.ensures (was_true c.only_clears.result parts.1)) c.change_layer-moved.ensures.words (b.rest parts.0))
 
 pub returns-clause-slots : goal.returns-clause-slots
 returns-clause-slots g c =
