@@ -1,6 +1,6 @@
 -- Objects that show each cell in which they stand on the ground, and on nothing else.
-use Rattle.std.proofs.Common.{◌≡◌, ◌∙◌, ◌||◌, ◌&&◌, ◌+◌, ℕ, Bool, true, false, cond, inl, inr, not}
-use Rattle.std.proofs.Common.{List, [], ◌∷◌, ◌++◌, Option, Some, None, refl, sym, ap, length, get_or, option_map, arith}
+use Rattle.std.proofs.Common.{◌≡◌, ◌∙◌, ◌||◌, ◌&&◌, ℕ, Bool, true, false, cond, inl, inr, not}
+use Rattle.std.proofs.Common.{List, [], ◌∷◌, ◌++◌, Option, Some, None, refl, sym, ap, length, get_or, option_map}
 use Rattle.std.specs.Prelude.{nat_eq, find, filter}
 use Rattle.std.specs.List.{list_all, list_any}
 use Rattle.std.proofs.lemmas.Bool.{and_parts, cases_Bool, eq-eqb, eqb-true, false≢true, or_cases}
@@ -9,7 +9,7 @@ use Rattle.std.proofs.lemmas.List.Folds.{list_any-append}
 use Rattle.ps_model.specs.declared.pieces.ObjectId.{ObjectId}
 use Rattle.ps_model.specs.names.Names.{Glyph, Names, is_among, members, same_object}
 use Rattle.ps_model.specs.board.Levels.{is_ground}
-use Rattle.ps_model.specs.session.Frames.{character_of, glyph_for, same_objects, topmost}
+use Rattle.ps_model.specs.session.Frames.{glyph_for, same_objects, topmost}
 use Rattle.ps_screen.specs.Glyphs.{AreLookedUp, AreOnGround, AreThinned, ShowsOnGround, character_for, single_place}
 use Rattle.ps_screen.specs.Glyphs.{has_several_above, is_other_above}
 use Rattle.ps_screen.proofs.LookedUp.{place_of_member}

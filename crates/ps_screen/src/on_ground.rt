@@ -7,42 +7,54 @@
 ghost use Rattle.std.specs.Prelude.{◌≡◌, ◌&&◌, IfOk, length, map, not};
 ghost use Rattle.std.specs.List.{list_any};
 ghost use Rattle.ps_model.specs.names.Names.{is_among, object_count};
-ghost use Rattle.ps_model.specs.board.Levels.{background_layer, is_ground};
+ghost use Rattle.ps_model.specs.board.Levels.{is_ground};
 ghost use Rattle.ps_names.specs.GlyphsShown.{glyph_shown};
 ghost use Rattle.ps_screen.specs.Glyphs.{AreLookedUp, AreOnGround, AreThinned};
 ghost use Rattle.ps_screen.specs.Glyphs.{has_several_above, is_other_above};
 
 use crate::covering::{above_ground, leave_out};
 use crate::meanings::ground_layer;
-use ps_model::{LayerId, Memory, ObjectId};
+use ps_model::{Memory, ObjectId};
 use ps_names::{Glyph, Names};
 use std::alloc::Global;
 
+/// Whether an object doesn't lie on the layer of the ground.
+fn lies_above(names: &Names, object: ObjectId) -> bool
+    ensures { result ≡ not (is_ground names.now object) }
+{
+    names.layer_of(object).0 != ground_layer(names).0
+}
+
 /// Whether an object is another one than the first, and doesn't lie on the layer of the ground.
-fn is_other_above(names: &Names, ground: LayerId, first: ObjectId, other: ObjectId) -> bool
-    requires { ground.0 ≡ background_layer names.now }
+fn is_other_above(names: &Names, first: ObjectId, other: ObjectId) -> bool
     ensures { result ≡ is_other_above names.now first other }
 {
-    names.layer_of(other).0 != ground.0 && first.0 != other.0
+    lies_above(names, other) && first.0 != other.0
+}
+
+/// Whether one of a list is another object than the first, and doesn't lie on the layer of the ground.
+fn is_beside_other(names: &Names, first: ObjectId, objects: &[ObjectId]) -> bool
+    ensures { result ≡ list_any (is_other_above names.now first) objects.now }
+{
+    objects
+        .iter()
+        .any(|other| is_other_above(names, first, *other))
 }
 
 /// Whether an object doesn't lie on the layer of the ground, and neither does another one of a list.
-fn has_other_above(names: &Names, ground: LayerId, first: ObjectId, objects: &[ObjectId]) -> bool
-    requires { ground.0 ≡ background_layer names.now }
+fn has_other_above(names: &Names, first: ObjectId, objects: &[ObjectId]) -> bool
     ensures { result ≡ (not (is_ground names.now first) && list_any (is_other_above names.now first) objects.now) }
 {
-    if names.layer_of(first).0 == ground.0 {
-        return false;
-    }
-    objects.iter().any(|other| is_other_above(names, ground, first, *other))
+    lies_above(names, first) && is_beside_other(names, first, objects)
 }
 
 /// Whether two different objects of a list don't lie on the layer of the ground.
 fn has_several_above(names: &Names, objects: &[ObjectId]) -> bool
     ensures { result ≡ has_several_above names.now objects.now }
 {
-    let ground = ground_layer(names);
-    objects.iter().any(|object| has_other_above(names, ground, *object, objects))
+    objects
+        .iter()
+        .any(|object| has_other_above(names, *object, objects))
 }
 
 /// Leaves out the characters of the objects that a glyph shows, unless two of these don't lie on the layer of the

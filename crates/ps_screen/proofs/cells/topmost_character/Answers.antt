@@ -15,7 +15,7 @@ returns-in-Some g c =
 pub returns-then-has_only_ground : goal.returns-then-has_only_ground
 returns-then-has_only_ground g c =
     let slots : List Slot = cell_at (g.B.Board.grid c.args.board.now) c.args.cell in
-    c.in-Some-2.ensures (objects_in (take c.args.layer slots))
+    c.in-Some-on_ground.ensures (objects_in (take c.args.layer slots))
     (c.has_only_ground.ensures c.if-has_only_ground.true)
     ∙ ap (λ (objects : List ObjectId). character_of (glyph_of_objects c.args.look.now objects))
     (sym c.requires.topmost)
