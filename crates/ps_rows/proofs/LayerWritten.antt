@@ -3,9 +3,8 @@ use Rattle.std.proofs.Common.{◌≡◌, ◌≢◌, ◌∙◌, ℕ, ◌+◌, ◌
 use Rattle.std.proofs.Common.{List, length, refl, sym, ap, ap₂, arith}
 use Rattle.std.specs.Prelude.{nat_eq, option_map, slice_get}
 use Rattle.std.specs.List.{list_any}
-use Rattle.std.proofs.Math.Nat.{div-add-mod}
 use Rattle.std.proofs.lemmas.Bool.{cases_Bool, cases_eq, cases_lt, eq-eqb, false_from_ne_true, ne_eqb, false≢true}
-use Rattle.std.proofs.lemmas.Nat.{le-div, mod_below, mul-add-lt, div-mul-add, mod-mul-add}
+use Rattle.std.proofs.lemmas.Nat.{div-add-mod', le-div, mod_below, mul-add-lt, div-mul-add, mod-mul-add}
 use Rattle.std.proofs.lemmas.Option.{same_Some, slice_get_within}
 use Rattle.std.proofs.Math.Bool.{and-true, and-false}
 use Rattle.ps_model.specs.declared.pieces.Motion.{Motion}
@@ -56,7 +55,7 @@ rests_again table height words written planes layer first row objects motions so
     from =
     let plane : ℕ = place / height in
     let y : ℕ = place % height in
-    let back : plane * height + y ≡ place = div-add-mod place height in
+    let back : plane * height + y ≡ place = div-add-mod' place height in
     let low : y < height = mod_below place height some in
     let blank : row_of words (plane * height + y) ≡ no_columns = ap (row_of words) back ∙ empty place from in
     let high : length table ≤ plane = le-div (length table) place height some from in
@@ -68,14 +67,14 @@ rests_again table height words written planes layer first row objects motions so
     ap (row_of written) (sym back) ∙ elim (cases_eq y row) [
       | inr other ↦ made.elsewhere plane y low (λ r. out) (λ r. absurd (other r)) ∙ blank
       | inl same ↦ elim (cases_Bool (list_any (nat_eq plane) (motion_planes first))) [
-        | inr no ↦ made.elsewhere plane y low (λ r. out) (λ r. no) ∙ blank
-        | inl yes ↦ same_set (row_of written (plane * height + y)) no_columns (sets (plane * height + y))
+        | inr apart ↦ made.elsewhere plane y low (λ r. out) (λ r. apart) ∙ blank
+        | inl among ↦ same_set (row_of written (plane * height + y)) no_columns (sets (plane * height + y))
             (set_where (λ x. false)) (λ x few.
             let none : column_at (row_of words (plane * height + row)) x ≡ false =
             ap (λ (k : ℕ). column_at (row_of words (plane * height + k)) x) (sym same)
             ∙ ap (λ (w : List Bool). column_at w x) blank ∙ none_at x in
             ap (λ (k : ℕ). column_at (row_of written (plane * height + k)) x) same
-            ∙ made.motions_there plane x yes few
+            ∙ made.motions_there plane x among few
             ∙ ap₂ (λ (b : Bool) (n : Option ℕ). (b && not (column_at motions.cleared x)) ||
             (is_number n plane && column_at motions.set x)) none unnamed
             ∙ sym (none_at x))

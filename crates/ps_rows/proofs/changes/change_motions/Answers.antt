@@ -1,6 +1,7 @@
-use Rattle.std.proofs.Common.{◌∙◌, sym}
+use Rattle.std.proofs.Common.{◌∙◌, Bool, List, refl, subst, sym}
+use Rattle.ps_rows.specs.RowChanges.{AreRowsChanged}
 use Rattle.ps_rows.specs.Showing.{motion_planes}
-use Rattle.ps_rows.proofs.RowChanges.{rows_clear, rows_kept}
+use Rattle.ps_rows.proofs.RowChanges.{changed_alone, motions_whole, rows_clear, rows_kept}
 use Rattle.ps_rows.proofs.changes.change_motions.Goals as goal
 
 pub returns-then-changes_nothing-clause-words : goal.returns-then-changes_nothing-clause-words
@@ -23,6 +24,6 @@ returns-in-Some-clause-words g c =
     AreRowsChanged p.height c.args.row c.args.change p.words.items words (motion_planes c.args.first) in
     subst P (sym c.change_row.ensures.words)
     (changed_alone p.height c.args.row c.args.change c.requires.row p.words.items (motion_planes c.args.first)
-    c.in-Some.plane c.plane_alone.ensures.among
+    c.in-Some.plane c.in-Some.ensures.among
     (motions_whole p.height p.words.len c.args.first (motion_planes c.args.first) refl c.requires.motions p.words.items
-    (sym p.words.ok.0)) c.plane_alone.ensures.named c.plane_alone.ensures.clear)
+    (sym p.words.ok.0)) c.in-Some.ensures.named c.in-Some.ensures.clear)

@@ -35,16 +35,16 @@ invariant_of-self-clause-objects g c =
     let after : ℕ → Slot → Slot = slot_after (write_in_room (Some table) (write_shown c.args.write.now)) in
     let P : List ℕ → Type 0 =
     λ places. IsLayerWritten b.planes.height c.args.row b.planes.words.items c.change_layer-moved.new.planes.words.items
-    places c.layer_change-objects.result.0 c.motions_from-first.result c.layer_change-objects.result.1 in
+    places c.layer_change.result.0 c.motions_from-first.result c.layer_change.result.1 in
     let Q : ℕ → Type 0 =
     λ first. IsLayerWritten b.planes.height c.args.row b.planes.words.items c.change_layer-moved.new.planes.words.items
-    (on_layer table c.args.layer) c.layer_change-objects.result.0 first c.layer_change-objects.result.1 in
+    (on_layer table c.args.layer) c.layer_change.result.0 first c.layer_change.result.1 in
     let made : Q (motions_from table c.args.layer) =
     subst Q c.motions_from-first.ensures.first (subst P c.of-places.ensures c.change_layer-moved.ensures.words) in
     rw c.change_layer-moved.ensures.height (objects_again table b.width b.planes.height b.layers b.planes.words.items
     c.change_layer-moved.new.planes.words.items c.args.layer c.args.row c.args.columns after
-    c.layer_change-objects.result.0 c.layer_change-objects.result.1 b.planes.some_row b.columns c.requires.row
-    c.requires.layer c.layer_change-objects.ensures made b.objects b.motions)
+    c.layer_change.result.0 c.layer_change.result.1 b.planes.some_row b.columns c.requires.row
+    c.requires.layer c.layer_change.ensures made b.objects b.motions)
 
 pub invariant_of-self-clause-motions : goal.invariant_of-self-clause-motions
 invariant_of-self-clause-motions g c =
@@ -53,16 +53,16 @@ invariant_of-self-clause-motions g c =
     let after : ℕ → Slot → Slot = slot_after (write_in_room (Some table) (write_shown c.args.write.now)) in
     let P : List ℕ → Type 0 =
     λ places. IsLayerWritten b.planes.height c.args.row b.planes.words.items c.change_layer-moved.new.planes.words.items
-    places c.layer_change-objects.result.0 c.motions_from-first.result c.layer_change-objects.result.1 in
+    places c.layer_change.result.0 c.motions_from-first.result c.layer_change.result.1 in
     let Q : ℕ → Type 0 =
     λ first. IsLayerWritten b.planes.height c.args.row b.planes.words.items c.change_layer-moved.new.planes.words.items
-    (on_layer table c.args.layer) c.layer_change-objects.result.0 first c.layer_change-objects.result.1 in
+    (on_layer table c.args.layer) c.layer_change.result.0 first c.layer_change.result.1 in
     let made : Q (motions_from table c.args.layer) =
     subst Q c.motions_from-first.ensures.first (subst P c.of-places.ensures c.change_layer-moved.ensures.words) in
     rw c.change_layer-moved.ensures.height (motions_again table b.width b.planes.height b.layers b.planes.words.items
     c.change_layer-moved.new.planes.words.items c.args.layer c.args.row c.args.columns after
-    c.layer_change-objects.result.0 c.layer_change-objects.result.1 b.planes.some_row b.columns c.requires.row
-    c.requires.layer c.layer_change-objects.ensures made b.objects b.motions)
+    c.layer_change.result.0 c.layer_change.result.1 b.planes.some_row b.columns c.requires.row
+    c.requires.layer c.layer_change.ensures made b.objects b.motions)
 
 pub invariant_of-self-clause-noted : goal.invariant_of-self-clause-noted
 invariant_of-self-clause-noted g c =
@@ -85,7 +85,7 @@ invariant_of-self-clause-rest g c = λ still.
     rw c.change_layer-moved.ensures.height
     (rests_again b.members.table.items b.planes.height b.planes.words.items
     c.change_layer-moved.new.planes.words.items c.of-places.result.now c.args.layer c.motions_from-first.result
-    c.args.row c.layer_change-objects.result.0 c.layer_change-objects.result.1 b.planes.some_row c.requires.row
+    c.args.row c.layer_change.result.0 c.layer_change.result.1 b.planes.some_row c.requires.row
     c.of-places.ensures c.change_layer-moved.new.planes.sets
     (c.only_clears.ensures (was_true c.only_clears.result parts.1)) c.change_layer-moved.ensures.words (b.rest parts.0))
 
@@ -96,16 +96,16 @@ returns-clause-slots g c =
     let after : ℕ → Slot → Slot = slot_after (write_in_room (Some table) (write_shown c.args.write.now)) in
     let P : List ℕ → Type 0 =
     λ places. IsLayerWritten b.planes.height c.args.row b.planes.words.items c.change_layer-moved.new.planes.words.items
-    places c.layer_change-objects.result.0 c.motions_from-first.result c.layer_change-objects.result.1 in
+    places c.layer_change.result.0 c.motions_from-first.result c.layer_change.result.1 in
     let Q : ℕ → Type 0 =
     λ first. IsLayerWritten b.planes.height c.args.row b.planes.words.items c.change_layer-moved.new.planes.words.items
-    (on_layer table c.args.layer) c.layer_change-objects.result.0 first c.layer_change-objects.result.1 in
+    (on_layer table c.args.layer) c.layer_change.result.0 first c.layer_change.result.1 in
     let made : Q (motions_from table c.args.layer) =
     subst Q c.motions_from-first.ensures.first (subst P c.of-places.ensures c.change_layer-moved.ensures.words) in
     rw c.change_layer-moved.ensures.height (slots_written table b.width b.planes.height b.layers b.planes.words.items
     c.change_layer-moved.new.planes.words.items c.args.layer c.args.row c.args.columns after
-    c.layer_change-objects.result.0 c.layer_change-objects.result.1 b.planes.some_row b.columns c.requires.row
-    c.requires.layer c.layer_change-objects.ensures made b.objects b.motions)
+    c.layer_change.result.0 c.layer_change.result.1 b.planes.some_row b.columns c.requires.row
+    c.requires.layer c.layer_change.ensures made b.objects b.motions)
 
 pub returns-clause-quiet : goal.returns-clause-quiet
 returns-clause-quiet g c = λ none.
@@ -114,15 +114,15 @@ returns-clause-quiet g c = λ none.
     let after : ℕ → Slot → Slot = slot_after (write_in_room (Some table) (write_shown c.args.write.now)) in
     let P : List ℕ → Type 0 =
     λ places. IsLayerWritten b.planes.height c.args.row b.planes.words.items c.change_layer-moved.new.planes.words.items
-    places c.layer_change-objects.result.0 c.motions_from-first.result c.layer_change-objects.result.1 in
+    places c.layer_change.result.0 c.motions_from-first.result c.layer_change.result.1 in
     let Q : ℕ → Type 0 =
     λ first. IsLayerWritten b.planes.height c.args.row b.planes.words.items c.change_layer-moved.new.planes.words.items
-    (on_layer table c.args.layer) c.layer_change-objects.result.0 first c.layer_change-objects.result.1 in
+    (on_layer table c.args.layer) c.layer_change.result.0 first c.layer_change.result.1 in
     let made : Q (motions_from table c.args.layer) =
     subst Q c.motions_from-first.ensures.first (subst P c.of-places.ensures c.change_layer-moved.ensures.words) in
     slots_left table b.width b.planes.height b.layers b.planes.words.items c.change_layer-moved.new.planes.words.items
-    c.args.layer c.args.row c.args.columns after c.layer_change-objects.result.0 c.layer_change-objects.result.1
-    b.planes.some_row b.columns c.requires.row c.requires.layer c.layer_change-objects.ensures made b.objects
+    c.args.layer c.args.row c.args.columns after c.layer_change.result.0 c.layer_change.result.1
+    b.planes.some_row b.columns c.requires.row c.requires.layer c.layer_change.ensures made b.objects
     b.motions (c.change_layer-moved.ensures.quiet none)
 
 pub returns-clause-left : goal.returns-clause-left
@@ -132,24 +132,24 @@ returns-clause-left g c = λ all.
     let after : ℕ → Slot → Slot = slot_after (write_in_room (Some table) (write_shown c.args.write.now)) in
     let P : List ℕ → Type 0 =
     λ places. IsLayerWritten b.planes.height c.args.row b.planes.words.items c.change_layer-moved.new.planes.words.items
-    places c.layer_change-objects.result.0 c.motions_from-first.result c.layer_change-objects.result.1 in
+    places c.layer_change.result.0 c.motions_from-first.result c.layer_change.result.1 in
     let Q : ℕ → Type 0 =
     λ first. IsLayerWritten b.planes.height c.args.row b.planes.words.items c.change_layer-moved.new.planes.words.items
-    (on_layer table c.args.layer) c.layer_change-objects.result.0 first c.layer_change-objects.result.1 in
+    (on_layer table c.args.layer) c.layer_change.result.0 first c.layer_change.result.1 in
     let made : Q (motions_from table c.args.layer) =
     subst Q c.motions_from-first.ensures.first (subst P c.of-places.ensures c.change_layer-moved.ensures.words) in
-    let A : List ℕ → Type 0 = λ places. AreRowsLeft b.planes.height c.args.row c.layer_change-objects.result.0
+    let A : List ℕ → Type 0 = λ places. AreRowsLeft b.planes.height c.args.row c.layer_change.result.0
     b.planes.words.items places in
-    let B : ℕ → Type 0 = λ first. AreRowsLeft b.planes.height c.args.row c.layer_change-objects.result.1
+    let B : ℕ → Type 0 = λ first. AreRowsLeft b.planes.height c.args.row c.layer_change.result.1
     b.planes.words.items (motion_planes first) in
     c.change_layer-moved.ensures.left
     (subst A (sym c.of-places.ensures) (objects_left table b.width b.planes.height b.layers b.planes.words.items
     c.change_layer-moved.new.planes.words.items c.args.layer c.args.row c.args.columns after
-    c.layer_change-objects.result.0 c.layer_change-objects.result.1 b.planes.some_row b.columns c.requires.row
-    c.requires.layer c.layer_change-objects.ensures made b.objects b.motions all))
+    c.layer_change.result.0 c.layer_change.result.1 b.planes.some_row b.columns c.requires.row
+    c.requires.layer c.layer_change.ensures made b.objects b.motions all))
     (subst B (sym c.motions_from-first.ensures.first)
     (motions_left table b.width b.planes.height b.layers b.planes.words.items
     c.change_layer-moved.new.planes.words.items
-    c.args.layer c.args.row c.args.columns after c.layer_change-objects.result.0 c.layer_change-objects.result.1
-    b.planes.some_row b.columns c.requires.row c.requires.layer c.layer_change-objects.ensures made b.objects
+    c.args.layer c.args.row c.args.columns after c.layer_change.result.0 c.layer_change.result.1
+    b.planes.some_row b.columns c.requires.row c.requires.layer c.layer_change.ensures made b.objects
     b.motions all))
