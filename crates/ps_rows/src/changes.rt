@@ -133,7 +133,9 @@ fn word_after<W: ColumnWords>(
 }
 
 /// Changes the row of a plane, and answers whether it has other columns then, or something had `changed` before. A row
-/// that isn't marked isn't read, unless columns are to be set in it: most objects of a layer stand in few rows.
+/// that isn't marked isn't read, unless columns are to be set in it: most objects of a layer stand in few rows. A call
+/// for each plane would be felt: this is in line.
+#[inline(always)]
 fn change_row<W: ColumnWords>(
     planes: &mut Planes<W>,
     row: u32,
