@@ -1,6 +1,6 @@
 //! The objects of each layer.
 
-ghost use Rattle.std.specs.Prelude.{◌≡◌, ◌++◌, ◌+◌, ◌<◌, ◌≤◌, ◌∷◌, [], IfOk, OnOk, cond, length, map, slice_get, true};
+ghost use Rattle.std.specs.Prelude.{◌≡◌, ◌++◌, ◌+◌, ◌<◌, ◌≤◌, ◌∷◌, [], IfOk, OnOk, Some, cond, length, map, slice_get, true};
 ghost use Rattle.std.specs.Prelude.{slice_range, vec_len};
 ghost use Rattle.ps_model.specs.board.Movement.{is_number};
 ghost use Rattle.ps_rows.specs.Members.{AreRangesOf, on_layer};
@@ -133,6 +133,14 @@ impl Members {
         ensures { result ≡ true → other.now.table.items ≡ self.now.table.items }
     {
         self.table.as_slice() == other.table.as_slice()
+    }
+
+    /// The layer of an object.
+    pub fn layer_of(&self, object: u32) -> u32
+        requires { object < length self.now.table.items }
+        ensures { slice_get self.now.table.items object ≡ Some result }
+    {
+        self.table[object as usize]
     }
 
     /// Whether an object is one of a layer.

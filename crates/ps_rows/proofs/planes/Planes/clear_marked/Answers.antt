@@ -8,6 +8,7 @@ use Rattle.std.specs.Vec.{with_items}
 use Rattle.std.proofs.lemmas.List.{with_items_is}
 use Rattle.ps_rows.specs.PlaneCopies.{ArePlanesOf}
 use Rattle.ps_rows.proofs.Sets.{set_where}
+use Rattle.ps_rows.proofs.UsedPlanes.{uses_cleared}
 use Rattle.ps_rows.proofs.planes.Planes.clear_marked.Goals as goal
 
 pub returns-then-is_empty-clause-words : goal.returns-then-is_empty-clause-words
@@ -88,3 +89,20 @@ returns-clause-count g c = refl
 
 pub returns-clause-marks : goal.returns-clause-marks
 returns-clause-marks g c = refl
+
+pub invariant_of-self-clause-noted : goal.invariant_of-self-clause-noted
+invariant_of-self-clause-noted g c = λ many.
+    let p = c.args.self.now in
+    let left : List (List Bool) = c.clear_plane.new.words in
+    let long : length left ≡ p.words.len = c.clear_plane.auto.words ∙ c.as_mut_slice.ensures.len in
+    let B : List (List Bool) → Type 0 = λ ws. ArePlanesOf p.height c.args.plane (c.args.plane + 1) [] ws left in
+    let D : List (List Bool) → Type 0 = λ ws. ArePlanesOf p.height c.args.plane (c.args.plane + 1) [] p.words.items ws
+    in
+    let changed : ArePlanesOf p.height c.args.plane (c.args.plane + 1) [] p.words.items (with_items p.words left).items
+    =
+    subst D (sym (with_items_is p.words left long)) (subst B c.as_mut_slice.ensures.value c.clear_plane.ensures) in
+    uses_cleared p.index.len p.height c.args.plane p.words.items (with_items p.words left).items p.used.words.items changed
+    (p.noted many)
+
+pub invariant_of-self-clause-room : goal.invariant_of-self-clause-room
+invariant_of-self-clause-room g c = c.args.self.now.room

@@ -19,6 +19,28 @@ all_of_marked height planes marked count long source others after some all whole
     (λ plane from below. same_from height planes source others rest plane from)
     (planes_and_rest height marked planes source others after few same copied))
 
+pub copy_marked-requires : goal.copy_marked-requires
+copy_marked-requires g c =
+    record {
+      many = c.are_many.ensures c.if-are_many.true;
+      height = c.requires.height;
+      here = c.requires.within;
+      count = c.requires.count;
+    }
+
+pub returns-then-are_many-clause-words : goal.returns-then-are_many-clause-words
+returns-then-are_many-clause-words g c =
+    let p = c.args.self.now in
+    let after = c.copy_marked.new.other.words in
+    all_copied p.height p.index.len p.words.items c.args.other.now.words.items after.items p.some_row
+    (words_whole p.index.len p.height p.words.len p.words.items p.words.ok.0 p.whole)
+    (sym after.ok.0 ∙ c.copy_marked.ensures.count ∙ p.words.ok.0)
+    (planes_and_rest p.height c.args.planes p.index.len p.words.items c.args.other.now.words.items after.items
+    (planes_counted p.height c.args.planes p.index.len p.words.len p.some_row p.whole c.requires.within)
+    (λ plane from below. same_from p.height c.args.planes p.words.items c.args.other.now.words.items c.requires.rest
+    plane from)
+    c.copy_marked.ensures.words)
+
 pub returns-then-marked-most-clause-words : goal.returns-then-marked-most-clause-words
 returns-then-marked-most-clause-words g c =
     let p = c.args.self.now in
@@ -59,6 +81,7 @@ copy_planes-requires g c =
       here = planes_enough p.height marked c.args.planes p.words.len p.words.len few c.requires.within refl;
       there = planes_enough p.height marked c.args.planes p.words.len c.args.other.now.words.len few c.requires.within
           c.requires.count;
+      count = c.requires.count;
     }
 
 pub copy_pieces-requires : goal.copy_pieces-requires

@@ -76,6 +76,7 @@ copy_planes-requires g c =
       here = planes_enough p.height c.loop-plane.plane c.args.planes p.words.len p.words.len order c.requires.here refl;
       there = planes_enough p.height c.loop-plane.plane c.args.planes p.words.len c.loop-plane.other.words.len order
           c.requires.here c.loop-plane.invariant.count;
+      count = c.loop-plane.invariant.count;
     }
 
 pub copy_planes-requires-then-most-plane : goal.copy_planes-requires-then-most-plane
@@ -88,6 +89,7 @@ copy_planes-requires-then-most-plane g c =
       here = planes_enough p.height c.loop-plane.plane c.args.planes p.words.len p.words.len order c.requires.here refl;
       there = planes_enough p.height c.loop-plane.plane c.args.planes p.words.len c.loop-plane.other.words.len order
           c.requires.here c.loop-plane.invariant.count;
+      count = c.loop-plane.invariant.count;
     }
 
 pub copy_planes-requires-2 : goal.copy_planes-requires-2
@@ -100,6 +102,7 @@ copy_planes-requires-2 g c =
       here = c.requires.here;
       there = planes_enough p.height c.args.planes c.args.planes p.words.len c.loop-plane.other.words.len
           (own_order c.args.planes) c.requires.here was.count;
+      count = was.count;
     }
 
 pub returns-clause-height : goal.returns-clause-height

@@ -1,4 +1,7 @@
-use Rattle.std.proofs.Common.{◌≡◌, ◌∙◌, ◌*◌, ◌≤◌, ℕ, Bool, List, length, ap, sym, subst}
+use Rattle.std.proofs.Common.{◌≡◌, ◌∙◌, ◌+◌, ◌*◌, ◌/◌, ◌≤◌, ℕ, Bool, List, length, ap, sym, subst}
+use Rattle.ps_rows.specs.UsedPlanes.{AreUsesNoted, sets_for}
+use Rattle.ps_rows.specs.declared.used_planes.TheConstants.{MANY_PLANES}
+use Rattle.ps_rows.proofs.UsedPlanes.{counts_same, uses_rows}
 use Rattle.std.specs.Vec.{with_items}
 use Rattle.std.proofs.lemmas.List.{with_items_is}
 use Rattle.ps_board.specs.ColumnSets.{both_columns}
@@ -100,3 +103,39 @@ returns-clause-words g c =
 
 pub returns-clause-height : goal.returns-clause-height
 returns-clause-height g c = c.requires.height
+
+pub invariant_of-other-clause-noted : goal.invariant_of-other-clause-noted
+invariant_of-other-clause-noted g c = λ many.
+    let p = c.args.self.now in
+    let o = c.args.other.now in
+    let end : ℕ = c.args.planes in
+    let within : List Bool = c.both-within.result in
+    let left : List (List Bool) = c.copy_row_sets.new.others in
+    let long : length left ≡ o.words.len = c.copy_row_sets.ensures.long ∙ c.as_mut_slice-words.ensures.len in
+    let A : List (List Bool) → Type 0 = λ ws. AreRowsOf p.height 0 end within ws c.as_mut_slice-words.result.now left in
+    let B : List (List Bool) → Type 0 = λ ws. AreRowsOf p.height 0 end within p.words.items ws left in
+    let D : List (List Bool) → Type 0 = λ ws. AreRowsOf p.height 0 end within p.words.items o.words.items ws in
+    let N : ℕ → Type 0 = λ h. AreUsesNoted o.index.len h o.words.items o.used.words.items in
+    let Q : ℕ → Type 0 = λ h. AreUsesNoted o.index.len h (with_items o.words left).items c.join.new.self.words.items in
+    let M : ℕ → Type 0 = λ n. AreUsesNoted n p.height p.words.items p.used.words.items in
+    let L : ℕ → Type 0 = λ n. MANY_PLANES ≤ n in
+    let same : o.index.len ≡ p.index.len = counts_same o.index.len p.index.len o.height p.height o.words.len p.words.len
+    p.some_row o.whole p.whole c.requires.height c.requires.count in
+    subst Q (sym c.requires.height)
+    (uses_rows o.index.len p.height end within p.words.items o.words.items (with_items o.words left).items
+    p.used.words.items o.used.words.items c.join.new.self.words.items
+    (subst D (sym (with_items_is o.words left long))
+    (subst B c.as_mut_slice-words.ensures.value (subst A c.as_slice.ensures.value c.copy_row_sets.ensures.words)))
+    (λ each off. (c.join.ensures.joined each off).1) (λ each off. (c.join.ensures.joined each off).0)
+    (subst M (sym same) (p.noted (subst L same many))) (subst N c.requires.height (o.noted many)))
+
+pub invariant_of-other-clause-room : goal.invariant_of-other-clause-room
+invariant_of-other-clause-room g c = c.join.ensures.long ∙ c.args.other.now.room
+
+pub join-requires : goal.join-requires
+join-requires g c =
+    let p = c.args.self.now in
+    let o = c.args.other.now in
+    let same : o.index.len ≡ p.index.len = counts_same o.index.len p.index.len o.height p.height o.words.len p.words.len
+    p.some_row o.whole p.whole c.requires.height c.requires.count in
+    p.room ∙ ap sets_for (sym same) ∙ sym o.room

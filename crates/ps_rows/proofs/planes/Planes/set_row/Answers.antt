@@ -3,6 +3,7 @@ use Rattle.std.specs.Prelude.{slice_set}
 use Rattle.std.proofs.lemmas.List.{get_or_read}
 use Rattle.ps_rows.specs.RowIndex.{AreRowsMarked}
 use Rattle.ps_rows.proofs.Marked.{marked_row, plane_indexed, sets_row}
+use Rattle.ps_rows.proofs.UsedPlanes.{place_below, uses_row}
 use Rattle.ps_board.specs.ColumnSets.{no_columns, with_column}
 use Rattle.ps_rows.specs.Planes.{row_of}
 use Rattle.ps_rows.proofs.planes.Planes.set_row.Goals as goal
@@ -32,3 +33,16 @@ invariant_of-self-clause-sets g c =
     let within : c.args.plane * p.height + c.args.row < length p.words.items =
     omega (arith, c.requires.plane, c.requires.row, p.words.ok.0) in
     sets_row p.words.items (c.args.plane * p.height + c.args.row) c.args.word within c.requires.set p.sets
+
+pub invariant_of-self-clause-noted : goal.invariant_of-self-clause-noted
+invariant_of-self-clause-noted g c = λ many.
+    let p = c.args.self.now in
+    let counted : c.args.plane < p.index.len = plane_indexed p.index.len p.height c.args.plane p.words.len p.some_row
+    p.whole c.requires.plane in
+    uses_row p.index.len p.height c.args.plane c.args.row c.args.word p.words.items p.used.words.items
+    c.note.new.self.words.items c.requires.row
+    (c.note.ensures.noted (place_below c.args.plane p.index.len p.used.words.len many counted p.room))
+    c.note.ensures.kept (p.noted many)
+
+pub invariant_of-self-clause-room : goal.invariant_of-self-clause-room
+invariant_of-self-clause-room g c = c.note.ensures.long ∙ c.args.self.now.room

@@ -1,0 +1,298 @@
+-- Planes that may have a column, in sets of `WORD_BITS` planes each.
+use Rattle.std.proofs.Common.{◌≡◌, ◌≢◌, ◌∙◌, ◌×◌, ℕ, ◌+◌, ◌*◌, ◌/◌, ◌%◌, ◌<◌, ◌≤◌, inl, inr, Bool, true, false, not, List, [], ◌∷◌}
+use Rattle.std.proofs.Common.{◌&&◌, length, get_or, replicate, refl, sym, ap, subst, arith}
+use Rattle.std.proofs.Math.Bool.{and-true}
+use Rattle.std.specs.Prelude.{if◌then◌else◌, slice_set}
+use Rattle.std.proofs.lemmas.Bool.{and_parts, cases_Bool, cases_eq, cases_lt, false≢true, le-ltb, ltb-false, or_parts}
+use Rattle.std.proofs.lemmas.List.{get_or-replicate, get_or-set_other, get_or-set_same, get_or_past, length-replicate, length-set}
+use Rattle.std.proofs.Math.Nat.{div-add-mod, div-mul-le_self}
+use Rattle.std.proofs.lemmas.Nat.{le-div, mod_below, same_from_place}
+use Rattle.ps_model.specs.declared.limits.TheConstants.{SIDE_LIMIT}
+use Rattle.ps_board.specs.ColumnSets.{column_at, columns_below, columns_without, either_columns, no_columns}
+use Rattle.ps_board.specs.ColumnSets.{set_columns, with_column}
+use Rattle.ps_board.specs.declared.one_word.TheConstants.{WORD_BITS}
+use Rattle.ps_board.proofs.ColumnLaws.{below_at, first_in, none_in, with_here, with_other}
+use Rattle.ps_board.proofs.Taken.{first_least}
+use Rattle.ps_rows.specs.BlankPlanes.{AreBlank}
+use Rattle.ps_rows.specs.PlaneCopies.{ArePlanesOf, AreRowsOf}
+use Rattle.ps_rows.specs.Planes.{row_of}
+use Rattle.ps_rows.specs.UsedPlanes.{AreNotUsed, AreUsesNoted, IsNextUsed, is_used, sets_for}
+use Rattle.ps_rows.specs.declared.used_planes.TheConstants.{MANY_PLANES}
+use Rattle.ps_rows.proofs.PlaneCopies.{planes_within}
+use Rattle.ps_rows.proofs.Sets.{either_at, none_at, without_at}
+
+-- one plane is noted --------------------------------------------------------------------------------------------------
+
+module _ (words : List (List Bool)) (plane : ℕ) (inside : plane / WORD_BITS < length words) where
+  abbrev place : ℕ
+  place = plane / WORD_BITS
+
+  abbrev bit : ℕ
+  bit = plane % WORD_BITS
+
+  abbrev noted : List (List Bool)
+  noted = slice_set words place (with_column (row_of words place) bit true)
+
+  low_bit : bit < SIDE_LIMIT
+  low_bit = let low : plane % WORD_BITS < WORD_BITS = mod_below plane WORD_BITS (omega arith) in omega (arith, low)
+
+  pub noted_here : is_used noted plane ≡ true
+  noted_here =
+      ap (λ (w : List Bool). column_at w bit)
+      (get_or-set_same words place (with_column (row_of words place) bit true) no_columns inside)
+      ∙ with_here (row_of words place) bit true low_bit
+
+  pub noted_kept : (each : ℕ) → is_used noted each ≡ false → is_used words each ≡ false
+  noted_kept each off = elim (cases_eq (each / WORD_BITS) place) [
+    | inl same ↦ elim (cases_eq (each % WORD_BITS) bit) [
+      | inl e ↦
+          let here : is_used noted each ≡ true =
+          rw (same, e) noted_here in
+          absurd (false≢true (sym off ∙ here))
+      | inr n ↦
+          let few : each % WORD_BITS < WORD_BITS = mod_below each WORD_BITS (omega arith) in
+          let now : row_of noted (each / WORD_BITS) ≡ with_column (row_of words place) bit true =
+          rw same (get_or-set_same words place (with_column (row_of words place) bit true) no_columns inside) in
+          let other = with_other (row_of words place) bit (each % WORD_BITS) true (omega (arith, few)) n in
+          ap (λ (k : ℕ). column_at (row_of words k) (each % WORD_BITS)) same
+          ∙ sym other ∙ sym (ap (λ (w : List Bool). column_at w (each % WORD_BITS)) now) ∙ off
+    ]
+    | inr apart ↦
+        ap (λ (w : List Bool). column_at w (each % WORD_BITS))
+        (sym (get_or-set_other words place (each / WORD_BITS) (with_column (row_of words place) bit true) no_columns
+        apart)) ∙ off
+  ]
+
+-- behind a change of planes -------------------------------------------------------------------------------------------
+
+-- what isn't noted then wasn't noted before
+abbrev pub AreNotedMore : List (List Bool) → List (List Bool) → Type 0
+AreNotedMore before after = (each : ℕ) → is_used after each ≡ false → is_used before each ≡ false
+
+-- one row of a noted plane
+pub uses_row : (count height plane row : ℕ) (word : List Bool) (words used used' : List (List Bool)) → row < height →
+    is_used used' plane ≡ true → AreNotedMore used used' → AreUsesNoted count height words used →
+    AreUsesNoted count height (slice_set words (plane * height + row) word) used'
+uses_row count height plane row word words used used' inside here kept noted each y below under off =
+    elim (cases_eq each plane) [
+      | inl e ↦ absurd (false≢true (sym off ∙ ap (is_used used') e ∙ here))
+      | inr n ↦
+          let other : each * height + y ≢ plane * height + row =
+          λ same. n (same_from_place each y plane row height under inside same).0 in
+          get_or-set_other words (plane * height + row) (each * height + y) word no_columns other
+          ∙ noted each y below under (kept each off)
+    ]
+
+-- planes that are cleared
+pub uses_cleared : (count height plane : ℕ) (before after used : List (List Bool)) →
+    ArePlanesOf height plane (plane + 1) [] before after → AreUsesNoted count height before used →
+    AreUsesNoted count height after used
+uses_cleared count height plane before after used changed noted each y below under off =
+    elim (cases_lt each plane) [
+      | inl low ↦ changed.below each y under low ∙ noted each y below under off
+      | inr from ↦ elim (cases_eq each plane) [
+        | inl e ↦ rw e (changed.copied plane y under (omega arith) (omega arith))
+        | inr n ↦ changed.behind each y under (omega (arith, from, n)) ∙ noted each y below under off
+      ]
+    ]
+
+-- planes that are copied
+pub uses_copied : (count height first end : ℕ) (source before after mine theirs used : List (List Bool)) →
+    ArePlanesOf height first end source before after → AreNotedMore mine used → AreNotedMore theirs used →
+    AreUsesNoted count height source mine → AreUsesNoted count height before theirs →
+    AreUsesNoted count height after used
+uses_copied count height first end source before after mine theirs used changed own other noted noted' each y below
+    under off =
+    elim (cases_lt each first) [
+      | inl low ↦ changed.below each y under low ∙ noted' each y below under (other each off)
+      | inr from ↦ elim (cases_lt each end) [
+        | inl within ↦ changed.copied each y under from within ∙ noted each y below under (own each off)
+        | inr beyond ↦ changed.behind each y under beyond ∙ noted' each y below under (other each off)
+      ]
+    ]
+
+-- rows that are copied
+pub uses_rows : (count height end : ℕ) (rows : List Bool) (source before after mine theirs used : List (List Bool)) →
+    AreRowsOf height 0 end rows source before after → AreNotedMore mine used → AreNotedMore theirs used →
+    AreUsesNoted count height source mine → AreUsesNoted count height before theirs →
+    AreUsesNoted count height after used
+uses_rows count height end rows source before after mine theirs used changed own other noted noted' each y below under
+    off =
+    elim (cases_lt each end) [
+      | inr beyond ↦ changed.behind each y under beyond ∙ noted' each y below under (other each off)
+      | inl within ↦ elim (cases_Bool (column_at rows y)) [
+        | inl on ↦ changed.copied each y under (omega arith) within on ∙ noted each y below under (own each off)
+        | inr clear ↦ changed.left each y under clear ∙ noted' each y below under (other each off)
+      ]
+    ]
+
+-- planes that neither board has noted
+pub blank_unused : (count height first end : ℕ) (words used : List (List Bool)) → end ≤ count →
+    AreUsesNoted count height words used →
+    ((plane : ℕ) → first ≤ plane → plane < end → is_used used plane ≡ false) → AreBlank height first end words
+blank_unused count height first end words used counted noted none plane row low high under =
+    noted plane row (omega (arith, high, counted)) under (none plane low high)
+
+-- counts and places ---------------------------------------------------------------------------------------------------
+
+-- two boards of planes with as many rows have as many planes
+pub counts_same : (count count' height height' long long' : ℕ) → 0 < height' → long ≡ count * height →
+    long' ≡ count' * height' → height ≡ height' → long ≡ long' → count ≡ count'
+counts_same count count' height height' long long' some whole whole' high same =
+    let E : ℕ → Type 0 = λ h. long ≡ count * h in
+    let mine : long ≡ count * height' = subst E high whole in
+    let less : count ≤ count' = planes_within height' count count' some (omega (arith, mine, whole', same)) in
+    let more : count' ≤ count = planes_within height' count' count some (omega (arith, mine, whole', same)) in
+    omega (arith, less, more)
+
+-- the set of a plane is one of the sets
+sets_many : (count : ℕ) → MANY_PLANES ≤ count → sets_for count ≡ count / WORD_BITS + 1
+sets_many count many =
+    ap (λ (b : Bool). if b then 0 else count / WORD_BITS + 1) (le-ltb count MANY_PLANES many)
+
+pub place_below : (plane count sets : ℕ) → MANY_PLANES ≤ count → plane < count → sets ≡ sets_for count →
+    plane / WORD_BITS < sets
+place_below plane count sets many below made =
+    let room : sets ≡ count / WORD_BITS + 1 = made ∙ sets_many count many in
+    let down : plane / WORD_BITS * WORD_BITS ≤ plane = div-mul-le_self plane WORD_BITS in
+    let order : plane / WORD_BITS ≤ count / WORD_BITS =
+    le-div (plane / WORD_BITS) count WORD_BITS (omega arith) (omega (arith, down, below)) in
+    omega (arith, order, room)
+
+-- the sets have room for so many planes
+pub planes_below : (planes count sets : ℕ) → MANY_PLANES ≤ count → planes ≤ count → sets ≡ sets_for count →
+    planes ≤ sets * WORD_BITS
+planes_below planes count sets many below made =
+    let room : sets ≡ count / WORD_BITS + 1 = made ∙ sets_many count many in
+    let back : count / WORD_BITS * WORD_BITS + count % WORD_BITS ≡ count = div-add-mod count WORD_BITS in
+    let low : count % WORD_BITS < WORD_BITS = mod_below count WORD_BITS (omega arith) in
+    omega (arith, back, low, below, room)
+
+-- nothing stands in new planes
+pub uses_none : (count height n : ℕ) (used : List (List Bool)) →
+    AreUsesNoted count height (replicate n no_columns) used
+uses_none count height n used plane row below under off = elim (cases_lt (plane * height + row) n) [
+  | inl low ↦ get_or-replicate n (plane * height + row) no_columns no_columns low
+  | inr high ↦ get_or_past (replicate n no_columns) (plane * height + row) no_columns (rw length-replicate high)
+]
+
+-- sets that are joined, up to a place
+pub record AreJoinedBelow (end : ℕ) (before others now : List (List Bool)) : Type 0 where
+  pub joined : (each : ℕ) → each / WORD_BITS < end → is_used now each ≡ false →
+      (is_used before each ≡ false) × (is_used others each ≡ false)
+  pub left : (place : ℕ) → end ≤ place → row_of now place ≡ row_of before place
+  pub long : length now ≡ length before
+
+pub none_joined : (before others : List (List Bool)) → AreJoinedBelow 0 before others before
+none_joined before others =
+    record { joined = λ each below off. absurd (omega (arith, below)); left = λ place from. refl; long = refl; }
+
+pub joined_more : (end : ℕ) (before others now : List (List Bool)) (word : List Bool) → end < length before →
+    word ≡ either_columns (row_of before end) (row_of others end) → AreJoinedBelow end before others now →
+    AreJoinedBelow (end + 1) before others (slice_set now end word)
+joined_more end before others now word inside made was =
+    let low : end < length now = omega (arith, inside, was.long) in
+    record {
+      joined = λ each below off. elim (cases_eq (each / WORD_BITS) end) [
+        | inl e ↦
+            let bit : ℕ = each % WORD_BITS in
+            let few : bit < SIDE_LIMIT =
+            let fewer : each % WORD_BITS < WORD_BITS = mod_below each WORD_BITS (omega arith) in omega (arith, fewer) in
+            let here : row_of (slice_set now end word) (each / WORD_BITS) ≡ either_columns (row_of before end) (row_of others end) =
+            ap (row_of (slice_set now end word)) e ∙ get_or-set_same now end word no_columns low ∙ made in
+            let parts = or_parts (column_at (row_of before end) bit) (column_at (row_of others end) bit)
+            (sym (either_at (row_of before end) (row_of others end) bit few)
+            ∙ sym (ap (λ (w : List Bool). column_at w bit) here) ∙ off) in
+            (ap (λ (k : ℕ). column_at (row_of before k) bit) e ∙ parts.0,
+             ap (λ (k : ℕ). column_at (row_of others k) bit) e ∙ parts.1)
+        | inr n ↦
+            was.joined each (omega (arith, below, n))
+            (ap (λ (w : List Bool). column_at w (each % WORD_BITS))
+            (sym (get_or-set_other now end (each / WORD_BITS) word no_columns n)) ∙ off)
+      ];
+      left = λ place from.
+          let other : place ≢ end = λ e. absurd (omega (arith, from, e)) in
+          get_or-set_other now end place word no_columns other ∙ was.left place (omega (arith, from));
+      long = length-set now end word ∙ was.long;
+    }
+
+-- all sets, of as many others
+pub all_joined : (end : ℕ) (before others now : List (List Bool)) → length before ≤ end →
+    length others ≡ length before → AreJoinedBelow end before others now → (each : ℕ) → is_used now each ≡ false →
+    (is_used before each ≡ false) × (is_used others each ≡ false)
+all_joined end before others now whole same was each off = elim (cases_lt (each / WORD_BITS) end) [
+  | inl low ↦ was.joined each low off
+  | inr high ↦
+      let bit : ℕ = each % WORD_BITS in
+      let none : row_of before (each / WORD_BITS) ≡ no_columns =
+      get_or_past before (each / WORD_BITS) no_columns (omega (arith, high, whole)) in
+      let none' : row_of others (each / WORD_BITS) ≡ no_columns =
+      get_or_past others (each / WORD_BITS) no_columns (omega (arith, high, whole, same)) in
+      (ap (λ (w : List Bool). column_at w bit) none ∙ none_at bit,
+       ap (λ (w : List Bool). column_at w bit) none' ∙ none_at bit)
+]
+
+-- the next plane of a set ---------------------------------------------------------------------------------------------
+
+-- a plane behind another one, in the same set
+beside : (from plane : ℕ) → from ≤ plane → plane < (from / WORD_BITS + 1) * WORD_BITS →
+    (plane / WORD_BITS ≡ from / WORD_BITS) × (from % WORD_BITS ≤ plane % WORD_BITS)
+beside from plane low high =
+    let mine : from / WORD_BITS * WORD_BITS + from % WORD_BITS ≡ from = div-add-mod from WORD_BITS in
+    let theirs : plane / WORD_BITS * WORD_BITS + plane % WORD_BITS ≡ plane = div-add-mod plane WORD_BITS in
+    let few : plane % WORD_BITS < WORD_BITS = mod_below plane WORD_BITS (omega arith) in
+    let less : from % WORD_BITS < WORD_BITS = mod_below from WORD_BITS (omega arith) in
+    let same : plane / WORD_BITS ≡ from / WORD_BITS = omega (arith, mine, theirs, few, less, low, high) in
+    (same, omega (arith, mine, theirs, same, low))
+
+module _ (words others : List (List Bool)) (from : ℕ) (both left : List Bool)
+    (joined : both ≡ either_columns (row_of words (from / WORD_BITS)) (row_of others (from / WORD_BITS)))
+    (cut : left ≡ columns_without both (columns_below (from % WORD_BITS))) where
+  not_there : (plane : ℕ) → from ≤ plane → plane < (from / WORD_BITS + 1) * WORD_BITS →
+      column_at left (plane % WORD_BITS) ≡ false → (is_used words plane ≡ false) × (is_used others plane ≡ false)
+  not_there plane low high off =
+      let here = beside from plane low high in
+      let bit : ℕ = plane % WORD_BITS in
+      let fewer : plane % WORD_BITS < WORD_BITS = mod_below plane WORD_BITS (omega arith) in
+      let few : bit < SIDE_LIMIT = omega (arith, fewer) in
+      let kept : column_at both bit ≡ false =
+      sym (and-true (column_at both bit))
+      ∙ ap (λ (b : Bool). column_at both bit && not b)
+      (sym (below_at (from % WORD_BITS) bit few ∙ le-ltb bit (from % WORD_BITS) here.1))
+      ∙ sym (without_at both (columns_below (from % WORD_BITS)) bit few)
+      ∙ ap (λ (w : List Bool). column_at w bit) (sym cut) ∙ off in
+      let parts = or_parts (column_at (row_of words (from / WORD_BITS)) bit)
+      (column_at (row_of others (from / WORD_BITS)) bit)
+      (sym (either_at (row_of words (from / WORD_BITS)) (row_of others (from / WORD_BITS)) bit few)
+      ∙ ap (λ (w : List Bool). column_at w bit) (sym joined) ∙ kept) in
+      (ap (λ (k : ℕ). column_at (row_of words k) bit) here.0 ∙ parts.0,
+       ap (λ (k : ℕ). column_at (row_of others k) bit) here.0 ∙ parts.1)
+
+  pub none_beside : set_columns left ≡ [] → AreNotUsed words others from ((from / WORD_BITS + 1) * WORD_BITS)
+  none_beside none plane low high =
+      let fewer : plane % WORD_BITS < WORD_BITS = mod_below plane WORD_BITS (omega arith) in
+      not_there plane low high (none_in left (plane % WORD_BITS) none (omega (arith, fewer)))
+
+  pub next_of : (first : ℕ) (more : List ℕ) → first < WORD_BITS → set_columns left ≡ first ∷ more →
+      IsNextUsed words others from (from / WORD_BITS * WORD_BITS + first)
+  next_of first more few is =
+      let there = first_in left first more is in
+      let cutting : Bool = column_at (columns_below (from % WORD_BITS)) first in
+      let parts = and_parts (column_at both first) (not cutting)
+      (sym (without_at both (columns_below (from % WORD_BITS)) first there.1)
+      ∙ ap (λ (w : List Bool). column_at w first) (sym cut) ∙ there.0) in
+      let clear : cutting ≡ false = elim (cases_Bool cutting) [
+        | inl on ↦ absurd (false≢true (sym (ap not on) ∙ parts.1))
+        | inr off ↦ off
+      ] in
+      let low : from % WORD_BITS ≤ first =
+      ltb-false first (from % WORD_BITS) (sym (below_at (from % WORD_BITS) first there.1) ∙ clear) in
+      let whole : from / WORD_BITS * WORD_BITS + from % WORD_BITS ≡ from = div-add-mod from WORD_BITS in (
+        omega (arith, low, whole),
+        λ plane from-low high.
+        let within : plane < (from / WORD_BITS + 1) * WORD_BITS = omega (arith, high, few) in
+        let here = beside from plane from-low within in
+        let back : plane / WORD_BITS * WORD_BITS + plane % WORD_BITS ≡ plane = div-add-mod plane WORD_BITS in
+        let less : plane % WORD_BITS < first = omega (arith, back, here.0, high) in
+        not_there plane from-low within (first_least left first (plane % WORD_BITS) more is less),
+      )
