@@ -1,22 +1,25 @@
-/* Lizhakoven for C and C++: checks texts of PuzzleScript games, and plays them with keys.
+/* Lizhakoven for C and C++: checks texts of PuzzleScript games, and plays them with keys, at once or in sessions.
 
    Texts, keys and outputs are bytes. A length counts bytes; a text or an output has no zero at its end. docs/LANGUAGE.md says what
    a text and a key mean.
 
-   Pointers. A pointer is never NULL, also where its length is 0. Texts and keys are only read. They, the output and what a call tells
-   don't overlap. A call keeps none of them: when it has returned, nothing of the caller's memory is used any more, and all memory
-   that the call took is free again.
+   Pointers. A pointer is never NULL, also where its length is 0. Texts and keys are only read. They, outputs, cells, sessions and what a
+   call tells don't overlap. A call keeps none of them: when it has returned, nothing of the caller's memory is used any more. All memory
+   that a call took is free again, but for that of the sessions that it leaves open.
 
    Errors. A call answers one of the statuses below. It prints nothing, ends no program, and returns on every input; errno may be
    another afterwards. A game made for it can keep a run busy for hours: a caller that plays strangers' texts limits the time.
 
-   Threads. Nothing is kept between calls. Any number of threads may call at once, each with an output of its own and with memory of
-   its own for what the call tells. No call is made in a signal handler, nor in a forked child of a process with threads.
+   Threads. Nothing but sessions is kept between calls. Any number of threads may call at once, each with memory of its own for outputs,
+   cells and what the call tells. A session and all its copies share their game: they are used by one thread at a time. No call is made in
+   a signal handler, nor in a forked child of a process with threads.
 
-   Memory is taken by malloc and realloc, and given back by free: a run takes that of its game, and up to twice its output. */
+   Memory is taken by malloc and realloc, and given back by free: a run takes that of its game, and up to twice its output. A session
+   keeps its game, which its copies share, and a byte for each key. */
 #ifndef LIZHAKOVEN_H
 #define LIZHAKOVEN_H
 
+#include <stdbool.h>
 #include <stddef.h>
 #include <stdint.h>
 
@@ -31,11 +34,13 @@ extern "C" {
 
 /* What a call came to. */
 enum lzk_status {
-    LZK_DONE = 0,         /* all that was asked for is done */
-    LZK_REFUSED = 1,      /* the text is no game: its first fault is told */
-    LZK_MEMORY = 2,       /* out of memory */
-    LZK_NO_ROOM = 3,      /* the output is longer than the room for it */
-    LZK_TOO_MANY_KEYS = 4 /* there are more keys than a run reads: 16,777,216 times 4,096 bytes */
+    LZK_DONE = 0,          /* all that was asked for is done */
+    LZK_REFUSED = 1,       /* the text is no game: its first fault is told */
+    LZK_MEMORY = 2,        /* out of memory */
+    LZK_NO_ROOM = 3,       /* the output, or the cells, are longer than the room for them */
+    LZK_TOO_MANY_KEYS = 4, /* there are more keys than a run reads: 16,777,216 times 4,096 bytes */
+    LZK_NO_LEVEL = 5,      /* the game has no level of that number */
+    LZK_CLOSED = 6         /* the session isn't open */
 };
 
 /* How a run ended. */
@@ -45,6 +50,18 @@ enum lzk_ending {
     LZK_QUIT = 2,       /* the player quit */
     LZK_END_OF_KEYS = 3 /* the keys ended before the game */
 };
+
+/* Where a session is. */
+enum lzk_phase {
+    LZK_NO_PHASE = 0, /* nothing is told: see the status */
+    LZK_PLAYING = 1,  /* in a level */
+    LZK_MESSAGE = 2,  /* at a message, which the key x dismisses */
+    LZK_OVER = 3,     /* the game is over */
+    LZK_HAS_QUIT = 4  /* the player quit */
+};
+
+/* Stands in a cell where a layer is bare: no object has this number. */
+#define LZK_NOTHING UINT32_MAX
 
 /* The first fault of a text. Without a fault all of it is zeros. */
 typedef struct lzk_fault {
@@ -73,6 +90,24 @@ typedef struct lzk_outcome {
     lzk_fault fault; /* zeros, unless the status is LZK_REFUSED */
 } lzk_outcome;
 
+/* Where a session is. In a level, also where a message waits there, its size and its number are told; elsewhere these are zeros. */
+typedef struct lzk_place {
+    uint32_t phase;  /* one of lzk_phase */
+    uint32_t width;  /* columns */
+    uint32_t height; /* rows */
+    uint32_t layers; /* collision layers */
+    size_t level;    /* levels alone are counted, from 1 */
+} lzk_place;
+
+/* A session, which owns its game. It begins as LZK_NO_SESSION, and is opaque: only the calls below read or write it. It may be moved to
+   another place in memory. Of a value that was copied as bytes only one is used. Memory that is dropped without lzk_end is lost. */
+typedef struct lzk_session {
+    void *at;
+    bool is_open;
+} lzk_session;
+
+#define LZK_NO_SESSION {NULL, false}
+
 /* Tells the version of the library that is called. */
 void lzk_version(uint32_t *major, uint32_t *minor, uint32_t *patch);
 
@@ -94,6 +129,39 @@ uint32_t lzk_check(const uint8_t *text, size_t text_length, lzk_finding *finding
    LZK_TOO_MANY_KEYS  a front of the output is written, but not all of it */
 uint32_t lzk_run(const uint8_t *text, size_t text_length, const uint8_t *keys, size_t keys_length, uint8_t *output, size_t room,
                  lzk_outcome *outcome);
+
+/* Starts a session at a level of the game of a text. Levels alone are counted, from 1. The fault is written anew, whatever stood there.
+
+   LZK_DONE      the session is open, and begins there; one that was open at that place is ended
+   LZK_REFUSED   the text is no game: its first fault is told
+   LZK_NO_LEVEL  the game has no such level
+   LZK_MEMORY    out of memory
+
+   But for LZK_DONE the session is as before. */
+uint32_t lzk_start(const uint8_t *text, size_t text_length, size_t level, lzk_session *session, lzk_fault *fault);
+
+/* Plays keys in a session, and tells where they lead; without keys, where it is. The place is written anew, whatever stood there.
+
+   `cells` has room for `room` numbers. What stands in the cells of the level is written to its front: width * height * layers numbers.
+   The cells come column by column from the left, each column from the top, and of each cell its layers, the lowest first. A number is
+   that of an object, from 0 in the order of OBJECTS, or LZK_NOTHING. In no level no number is written. The numbers after those that
+   are written stay as they were.
+
+   LZK_DONE     the keys are played, and place and cells are told
+   LZK_NO_ROOM  the keys are played, and the place is told; the cells have too little room, and stay as they were
+   LZK_MEMORY   the session and the cells are as before: the same keys may be given again
+   LZK_CLOSED   the session isn't open, and nothing is done */
+uint32_t lzk_keys(lzk_session *session, const uint8_t *keys, size_t keys_length, uint32_t *cells, size_t room, lzk_place *place);
+
+/* Copies a session. From then on each of the two goes its own way.
+
+   LZK_DONE    the copy is open, and is where the session is; one that was open at that place is ended
+   LZK_MEMORY  out of memory: the copy is as before
+   LZK_CLOSED  the session isn't open: the copy is as before */
+uint32_t lzk_copy(lzk_session *session, lzk_session *copy);
+
+/* Ends a session: it is closed, and its memory is free. A session that isn't open stays so. */
+void lzk_end(lzk_session *session);
 
 #ifdef __cplusplus
 }

@@ -29,7 +29,13 @@ fn main(rt: HostRuntime) -> std::process::ExitCode {
     let mut output = [0u8; 1];
     let checked = lzk_check(rt.alloc(), b"", &mut finding);
     let ran = lzk_run(rt.alloc(), b"", b"", &mut output, &mut outcome);
-    std::process::ExitCode::from(if checked == ran { 0 } else { 1 })
+    let (mut session, mut copy) = (SessionHandle::closed(), SessionHandle::closed());
+    let (mut place, mut told, mut cells) = (Place::nowhere(0), fault, [0u32; 1]);
+    let started = lzk_start(rt.alloc(), b"", 1, &mut session, &mut told);
+    let copied = lzk_copy(rt.alloc(), &mut session, &mut copy);
+    let keyed = lzk_keys(rt.alloc(), &mut copy, b"", &mut cells, &mut place);
+    lzk_end(rt.alloc(), &mut session);
+    std::process::ExitCode::from(if checked == ran && started == ran && copied == keyed { 0 } else { 1 })
 }
 """
 

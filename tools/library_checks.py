@@ -15,7 +15,9 @@ GAMES = TOP / "games"
 AFTER = 0xA5
 # The game whose growths are refused, and how many of its keys are played.
 GROWN, GROWN_KEYS = "moths", 3
-DONE, REFUSED, MEMORY, NO_ROOM = range(4)
+DONE, REFUSED, MEMORY, NO_ROOM, TOO_MANY_KEYS, NO_LEVEL, CLOSED = range(7)
+# How many sessions are started and ended in a row, and the longest keys that are played one by one.
+ROUNDS, MOST_BY_ONE = 300, 40
 # What stands in front of the C library: it refuses growths, all from one on, and counts them and the blocks that aren't free.
 REFUSING = r"""
 #include <stddef.h>
@@ -37,7 +39,11 @@ LAYOUT = r"""
 #include "lizhakoven.h"
 int main(void) {
     printf("%d %d %d\n", LZK_VERSION_MAJOR, LZK_VERSION_MINOR, LZK_VERSION_PATCH);
-    printf("%d %d %d %d %d\n", LZK_DONE, LZK_REFUSED, LZK_MEMORY, LZK_NO_ROOM, LZK_TOO_MANY_KEYS);
+    printf("%d %d %d %d %d ", LZK_DONE, LZK_REFUSED, LZK_MEMORY, LZK_NO_ROOM, LZK_TOO_MANY_KEYS);
+    printf("%d %d\n", LZK_NO_LEVEL, LZK_CLOSED);
+    printf("%d %d %d %d %d %u\n", LZK_NO_PHASE, LZK_PLAYING, LZK_MESSAGE, LZK_OVER, LZK_HAS_QUIT, (unsigned)LZK_NOTHING);
+    printf("%zu %zu %zu\n", sizeof(lzk_session), offsetof(lzk_session, is_open), sizeof(lzk_place));
+    printf("%zu %zu\n", offsetof(lzk_place, layers), offsetof(lzk_place, level));
     printf("%d %d %d %d\n", LZK_NO_ENDING, LZK_THE_END, LZK_QUIT, LZK_END_OF_KEYS);
     printf("%zu %zu %zu\n", sizeof(lzk_finding), offsetof(lzk_finding, fault), offsetof(lzk_size, levels));
     printf("%zu %zu %zu\n", sizeof(lzk_outcome), offsetof(lzk_outcome, fault), sizeof(lzk_fault));
@@ -55,7 +61,7 @@ class Raw:
 
     def __init__(self, engine, library):
         self.engine, self.library = engine, library
-        for name in ("lzk_check", "lzk_run"):
+        for name in ("lzk_check", "lzk_run", "lzk_start", "lzk_copy", "lzk_keys", "lzk_end"):
             ours, theirs = getattr(library, name), getattr(engine._library, name)
             ours.restype, ours.argtypes = theirs.restype, theirs.argtypes
 
@@ -86,6 +92,75 @@ def wrong_rooms(raw):
             status, outcome, written = raw.run(text, keys, room)
             if status != DONE or written != wanted or outcome.ending != 1 or outcome.fault.line:
                 yield f"{game.stem}: with room for {room} bytes it comes to status {status}"
+
+
+def frame_of(output, place):
+    """The rows of the last frame of an output, where it shows the whole board of a place."""
+    rows = output.decode(errors="replace").split("\n")
+    for last in range(len(rows) - place.height, -1, -1):
+        frame = rows[last:last + place.height]
+        if all(len(row) == place.width for row in frame) and rows[last + place.height:last + place.height + 1] == [""]:
+            return frame
+    return None
+
+
+def wrong_of_cells(place, output):
+    """What is wrong with the cells of a place, by a run's last frame: cells with the same objects have the same character."""
+    frame, shown = frame_of(output, place), {}
+    for column in range(place.width if frame else 0):
+        for row in range(place.height):
+            if shown.setdefault(place.objects(column, row), frame[row][column]) != frame[row][column]:
+                return "has other cells than its last frame"
+    return None
+
+
+def wrong_of_session(engine, text, keys):
+    """What is wrong with a session that plays a game's keys from its first level, where the game begins with that; or nothing."""
+    made = engine.run(text, keys)
+    if not re.match(rb"= [^\n]*\n# level 1\n", made.output):
+        return None
+    with engine.start(text) as session:
+        place = session.keys(keys)
+        phases = {"THE_END": "OVER", "QUIT": "QUIT"}
+        if phases.get(made.ending.name, place.phase.name) != place.phase.name or session.keys(b"") != place:
+            return f"comes to {place.phase}, where a run comes to {made.ending}"
+        if made.ending.name == "END_OF_KEYS" and place.phase.name in phases.values():
+            return f"comes to {place.phase}, where a run goes on"
+        levels = re.findall(rb"^# level (\d+)$", made.output, re.M)
+        if place.phase.name == "PLAYING" and place.level != int(levels[-1]):
+            return f"is in level {place.level}, and a run in level {int(levels[-1])}"
+        if place.phase.name == "PLAYING" and (wrong := wrong_of_cells(place, made.output)):
+            return wrong
+    if len(keys) > MOST_BY_ONE:
+        return None
+    with engine.start(text) as one:
+        halves = [one.copy()]
+        for at in range(len(keys)):
+            one.keys(keys[at:at + 1])
+            halves.append(one.copy())
+        if any(half.keys(keys[at:]) != place for at, half in enumerate(halves)) or one.keys(b"") != place:
+            return "comes elsewhere key by key, or by a copy"
+    return None
+
+
+def wrong_misuse(engine):
+    """What is wrong with sessions that are misused."""
+    text = (GAMES / f"{GROWN}.game").read_bytes()
+    ended, levels = engine.start(text), engine.check(text).levels
+    ended.end()
+    ended.end()
+    if not raises(ValueError, ended.keys, b"d") or not raises(ValueError, ended.copy) or not raises(ValueError, engine.Session().keys, b""):
+        yield "a session that has ended may be played"
+    for level in (0, -1, levels + 1, 1 << 70):
+        if not raises(IndexError, engine.start, text, level):
+            yield f"a session begins at level {level}"
+    for given in (text.decode(), None, 5, [1, 2]):
+        if not raises(TypeError, engine.start, given) or not raises(TypeError, engine.start(text).keys, given):
+            yield f"a text or keys may be of the type {type(given).__name__}"
+    if not raises(TypeError, engine.start, text, "1") or not raises(TypeError, engine.start, text, True):
+        yield "a level may be of another type than a number"
+    if not raises(engine.Refused, engine.start, b"") or not raises(IndexError, engine.start(text).keys(b"").objects, 99, 0):
+        yield "a text that is no game, or a cell that isn't there, is answered for"
 
 
 def raises(error, call, *given):
@@ -139,12 +214,15 @@ def wrong_declarations(engine, room):
         return
     numbers = [tuple(map(int, line.split())) for line in subprocess.run([room / "layout"], stdout=subprocess.PIPE, text=True).stdout.splitlines()]
     finding, outcome, fault = engine._Finding, engine._Outcome, engine._Fault
-    statuses = (engine._DONE, engine._REFUSED, engine._MEMORY, engine._NO_ROOM, engine._TOO_MANY_KEYS)
-    wanted = [version(), statuses, (0, *(ending.value for ending in engine.Ending)),
+    statuses = (engine._DONE, engine._REFUSED, engine._MEMORY, engine._NO_ROOM, engine._TOO_MANY_KEYS, engine._NO_LEVEL, engine._CLOSED)
+    handle, place = engine._Handle, engine._Place
+    wanted = [version(), statuses, (0, *(phase.value for phase in engine.Phase), engine._NOTHING),
+              (ctypes.sizeof(handle), handle.is_open.offset, ctypes.sizeof(place)), (place.layers.offset, place.level.offset),
+              (0, *(ending.value for ending in engine.Ending)),
               (ctypes.sizeof(finding), finding.fault.offset, engine._Size.levels.offset),
               (ctypes.sizeof(outcome), outcome.fault.offset, ctypes.sizeof(fault))]
     yield from (f"the header says {told}, and the module {other}" for told, other in zip(numbers, wanted) if told != other)
-    names = [["Done", "Refused", "Memory", "NoRoom", "TooManyKeys"], ["TheEnd", "Quit", "EndOfKeys"]]
+    names = [["Done", "Refused", "Memory", "NoRoom", "TooManyKeys", "NoLevel", "Closed"], ["TheEnd", "Quit", "EndOfKeys"]]
     for file, listed in zip(("crates/lizhakoven/src/statuses.rt", "crates/ps_model/src/play.rt"), names):
         variants = re.findall(r"^    (\w+),$", (TOP / file).read_text(), re.M)
         if variants[-len(listed):] != listed:
@@ -178,6 +256,57 @@ def wrong_growths(engine, archive, room):
         yield "a run without a refused growth does otherwise"
     if blocks.value:
         yield f"{blocks.value} blocks of memory aren't free after the calls"
+    first.value = -1
+    yield from wrong_held(engine, raw.library, text, keys)
+
+
+def wrong_held(engine, library, text, keys):
+    """What is wrong with a session of which each growth is refused in turn, and with what its calls leave."""
+    growths, first, blocks = (ctypes.c_long.in_dll(library, name) for name in ("growths", "from", "blocks"))
+    with engine.start(text) as own:
+        wanted = own.keys(keys)
+    room = len(wanted.cells) // 4
+
+    def refused_in_turn(call):
+        """Makes a call again and again, each time with one growth more before they are refused, until it is done."""
+        for number in range(1 << 20):
+            growths.value, first.value = 0, number
+            status = call()
+            first.value = -1
+            if status == DONE:
+                return True
+            if status != MEMORY:
+                return False
+
+    def told(session, given):
+        cells, place = (ctypes.c_uint32 * room)(*[AFTER] * room), engine._Place(9, 9, 9, 9, 9)
+        status = library.lzk_keys(session, given, len(given), cells, room, place)
+        if status != DONE and (any(cell != AFTER for cell in cells) or place.phase):
+            return -1
+        return status if status != DONE or not given or bytes(cells) == wanted.cells else -1
+
+    session, copy, fault = engine._Handle(), engine._Handle(), engine._Fault()
+    calls = [lambda: library.lzk_start(text, len(text), 1, session, fault), lambda: told(session, keys),
+             lambda: library.lzk_copy(session, copy)]
+    if not all(map(refused_in_turn, calls)):
+        yield "a call on a session comes to something else than it is out of memory"
+    if told(copy, b"z" * len(keys)) != DONE or told(session, b"") != DONE or not copy.is_open:
+        yield "a copy isn't where its session is, or isn't apart from it"
+    if library.lzk_start(text, len(text), 99, session, fault) != NO_LEVEL or not session.is_open:
+        yield "a start at no level ends a session"
+    small, place = (ctypes.c_uint32 * room)(), engine._Place()
+    if library.lzk_keys(session, b"", 0, small, room - 1, place) != NO_ROOM or place.phase != 1 or any(small):
+        yield "cells without room are told, or their place isn't"
+    library.lzk_end(session)
+    if session.is_open or library.lzk_keys(session, b"", 0, small, room, place) != CLOSED or library.lzk_copy(session, copy) != CLOSED:
+        yield "a session that has ended is open"
+    library.lzk_end(copy)
+    for _ in range(ROUNDS):
+        if library.lzk_start(text, len(text), 1, session, fault) != DONE:
+            yield "a session can't be started again"
+        library.lzk_end(session)
+    if blocks.value:
+        yield f"{blocks.value} blocks of memory aren't free after sessions"
 
 
 def blocks_of(kind):

@@ -1,1 +1,6 @@
+pub mod Boxes
+pub mod Handles
 pub mod InMemory
+pub mod KeyedBytes
+pub mod SeenPlaces
+pub mod ToldCells

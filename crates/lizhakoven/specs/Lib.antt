@@ -1,6 +1,10 @@
+pub mod Calls
 pub mod Findings
 pub mod FreshDevices
+pub mod Handles
+pub mod HeldSessions
 pub mod Outcomes
+pub mod Places
 pub mod Runs
 pub mod Statuses
 pub mod ToldFaults

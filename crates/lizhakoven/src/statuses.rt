@@ -16,6 +16,10 @@ pub enum Status {
     NoRoom,
     /// There are more keys than a run reads.
     TooManyKeys,
+    /// The game has no level of that number.
+    NoLevel,
+    /// The handle is closed.
+    Closed,
 }
 
 impl Status {

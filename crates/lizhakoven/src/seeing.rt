@@ -1,0 +1,105 @@
+//! Where a game in play is.
+
+ghost use Rattle.std.specs.Prelude.{◌≡◌, IfOk, OnErr};
+ghost use Rattle.ps_levels.specs.EntriesShown.{entries_shown};
+ghost use Rattle.lizhakoven.specs.Places.{IsSeen, IsTold, status_seen};
+
+use crate::cells::numbers_of;
+use crate::places::{Place, number_of_level, number_of_phase};
+use crate::statuses::Status;
+use ps_board::{Board, History};
+use ps_levels::Entry;
+use ps_model::Memory;
+use ps_run::{GamePlay, SizedPlay};
+use ps_session::Session;
+use std::alloc::Global;
+
+/// Where keys lead, and whether its cells are told: they aren't where there is too little room for them.
+#[derive(Clone, Copy)]
+pub struct Seen {
+    pub place: Place,
+    pub is_told: bool,
+}
+
+impl Seen {
+    /// The status of keys that were played.
+    pub fn status(self) -> Status
+        ensures { result ≡ status_seen self.is_told }
+    {
+        if self.is_told {
+            return Status::Done;
+        }
+        Status::NoRoom
+    }
+}
+
+/// Writes numbers to the front of other ones, where these have room for them. Whether they have.
+fn write_front(numbers: &[u32], cells: &mut [u32]) -> bool
+    ensures { IsTold numbers.now cells.old cells.new result }
+{
+    let count = numbers.len();
+    if cells.len() < count {
+        return false;
+    }
+    cells[..count].copy_from_slice(numbers);
+    true
+}
+
+/// Where a session is, and its cells at the front of `cells`.
+///
+/// # Errors
+///
+/// `Memory`, and the cells are as before.
+fn see_session<B: Board, H: History<B>>(
+    alloc: Global,
+    entries: &[Entry],
+    session: &Session<'_, B, H>,
+    cells: &mut [u32],
+) -> Result<Seen, Memory>
+    ensures seen { IfOk result (λ seen.
+        IsSeen (entries_shown entries.now) session.now.session cells.old cells.new seen) }
+    ensures kept { OnErr result (cells.new ≡ cells.old) }
+{
+    let phase = number_of_phase(session.phase());
+    let Some((level, _)) = session.level() else {
+        let place = Place::nowhere(phase);
+        return Ok(Seen { place, is_told: true });
+    };
+    let board = level.board();
+    let numbers = numbers_of(alloc, board)?;
+    let (width, height) = board.size();
+    let layers = board.layers();
+    let level = number_of_level(entries, level.entry().number());
+    let is_told = write_front(&numbers, cells);
+    let place = Place {
+        phase,
+        width,
+        height,
+        layers,
+        level,
+    };
+    Ok(Seen { place, is_told })
+}
+
+/// Where a game in play is, and its cells at the front of `cells`.
+///
+/// # Errors
+///
+/// `Memory`, and the cells are as before.
+pub fn see(
+    alloc: Global,
+    entries: &[Entry],
+    play: &GamePlay<'_>,
+    cells: &mut [u32],
+) -> Result<Seen, Memory>
+    ensures seen { IfOk result (λ seen.
+        IsSeen (entries_shown entries.now) play.now.session cells.old cells.new seen) }
+    ensures kept { OnErr result (cells.new ≡ cells.old) }
+{
+    match play.sized() {
+        SizedPlay::One(row) => see_session(alloc, entries, row.session(), cells),
+        SizedPlay::Two(row) => see_session(alloc, entries, row.session(), cells),
+        SizedPlay::Three(row) => see_session(alloc, entries, row.session(), cells),
+        SizedPlay::Four(row) => see_session(alloc, entries, row.session(), cells),
+    }
+}
