@@ -278,19 +278,20 @@ def wrong_held(engine, library, text, keys):
             if status != MEMORY:
                 return False
 
-    def told(session, given):
+    def told(session, given, is_there=True):
+        """The status of keys; another number where cells or place aren't as the status says."""
         cells, place = (ctypes.c_uint32 * room)(*[AFTER] * room), engine._Place(9, 9, 9, 9, 9)
         status = library.lzk_keys(session, given, len(given), cells, room, place)
-        if status != DONE and (any(cell != AFTER for cell in cells) or place.phase):
-            return -1
-        return status if status != DONE or not given or bytes(cells) == wanted.cells else -1
+        if status != DONE:
+            return status if all(cell == AFTER for cell in cells) and place.phase == 0 else -1
+        return status if (bytes(cells) == wanted.cells) == is_there else -1
 
     session, copy, fault = engine._Handle(), engine._Handle(), engine._Fault()
     calls = [lambda: library.lzk_start(text, len(text), 1, session, fault), lambda: told(session, keys),
              lambda: library.lzk_copy(session, copy)]
     if not all(map(refused_in_turn, calls)):
         yield "a call on a session comes to something else than it is out of memory"
-    if told(copy, b"z" * len(keys)) != DONE or told(session, b"") != DONE or not copy.is_open:
+    if told(copy, b"") != DONE or told(copy, b"r", False) != DONE or told(session, b"") != DONE:
         yield "a copy isn't where its session is, or isn't apart from it"
     if library.lzk_start(text, len(text), 99, session, fault) != NO_LEVEL or not session.is_open:
         yield "a start at no level ends a session"
@@ -324,20 +325,21 @@ def wrong_examples(room):
     [module] = prefix.glob("lib/python3*/site-packages/lizhakoven.py")
     environment = {"PYTHONPATH": str(module.parent), "PATH": "/usr/bin:/bin", "LD_LIBRARY_PATH": str(prefix / "lib")}
     how = {"capture_output": True, "text": True, "env": environment, "cwd": TOP}
-    programs = [[sys.executable, "-c", text] for text in blocks_of("python")]
+    texts, moths = blocks_of("text"), [GAMES / "moths.game", GAMES / "moths.keys"]
+    programs = [([sys.executable, "-c", text], wanted) for text, wanted in zip(blocks_of("python"), texts)]
     package = prefix / "lib/pkgconfig/lizhakoven.pc"
     if f"-I{prefix}/include" not in package.read_text().replace("${includedir}", f"{prefix}/include"):
         yield "the file for pkg-config names another folder"
-    for number, text in enumerate(blocks_of("c") if has_compiler() else []):
+    output = (TOP / "crates/ps_cases/data/games/moths.stdout").read_text()
+    given = [(moths, output), (moths[:1], texts[-1])]
+    for number, (text, (words_of_program, wanted)) in enumerate(zip(blocks_of("c"), given) if has_compiler() else []):
         for words in (["-L", prefix / "lib", "-llizhakoven"], [prefix / "lib/liblizhakoven.a"]):
             made = room / f"example-{number}-{len(words)}"
             if said := compiled_by_c(text, made, *words):
                 yield f"the example in C can't be compiled: {said}"
             else:
-                programs.append([made, GAMES / "moths.game", GAMES / "moths.keys"])
-    wanted = {"python": blocks_of("text")[0], "c": (TOP / "crates/ps_cases/data/games/moths.stdout").read_text()}
-    for program in programs:
+                programs.append(([made, *words_of_program], wanted))
+    for program, wanted in programs:
         done = subprocess.run(program, **how)
-        kind = "python" if program[0] == sys.executable else "c"
-        if (done.returncode, done.stdout) != (0, wanted[kind]):
+        if (done.returncode, done.stdout) != (0, wanted):
             yield f"the example {pathlib.Path(program[0]).name} writes\n{done.stdout}{done.stderr}"

@@ -162,5 +162,5 @@ pub extern "C" fn lzk_keys(
 pub extern "C" fn lzk_end(alloc: Global, session: &mut SessionHandle)
     ensures { session.new.value ≡ None }
 {
-    let _ = session.take(alloc);
+    drop(session.take(alloc));
 }
