@@ -1,6 +1,6 @@
 -- Where sessions are.
-use Rattle.std.proofs.Common.{◌≡◌, ◌∙◌, ◌==◌, ℕ, List, Option, Some, None, Bool, true, false, refl, sym, ap, subst, arith, cc}
-use Rattle.std.proofs.Common.{Result, Ok, Err}
+use Rattle.std.proofs.Common.{◌≡◌, ◌∙◌, ◌==◌, ℕ, List, Option, Some, None, Bool, true, false, refl, sym, ap, subst}
+use Rattle.std.proofs.Common.{Result, arith, cc}
 use Rattle.std.specs.Prelude.{IfOk}
 use Rattle.std.proofs.lemmas.Bool.Decides.{nat_tests}
 use Rattle.ps_model.specs.declared.play.Ending.TheVariants.{TheEnd, Quit, EndOfKeys}
@@ -25,8 +25,8 @@ use Rattle.ps_stage.specs.declared.locations.Pending as staged
 use Rattle.ps_session.specs.Phases.{phase_of}
 use Rattle.lizhakoven.specs.declared.places.Place.{Place}
 use Rattle.lizhakoven.specs.declared.seeing.Seen.{Seen}
-use Rattle.lizhakoven.specs.Places.{IsSeen, IsTold, cells_of, cells_of_level, level_of, number_of_phase, phase_number}
-use Rattle.lizhakoven.specs.Places.{place_in, place_of}
+use Rattle.lizhakoven.specs.Places.{IsSeen, IsTold, cells_of, cells_of_level, level_of, number_among}
+use Rattle.lizhakoven.specs.Places.{number_of_phase, phase_number, place_in, place_of}
 
 -- the number of a session's phase is that of the phase that is told
 pub phase_is : (session : Session) → number_of_phase (phase_of session) ≡ phase_number session
@@ -82,6 +82,20 @@ seen_level entries session play before after seen level place told = (
   place ∙ ap (λ (here : Option Play). place_in entries (phase_number session) here) (sym level),
   subst (λ (here : Option Play). IsTold (cells_of_level here) before after seen.is_told) (sym level) told,
 )
+
+-- a place that is made is the one in a level
+pub place_made : (entries : List Entry) (session : Session) (play : Play) (place : Place) →
+    place.phase ≡ phase_number session → place.width ≡ play.board.width → place.height ≡ play.board.height →
+    place.layers ≡ play.board.layers → place.level ≡ number_among entries play.entry →
+    place ≡ place_in entries (phase_number session) (Some play)
+place_made entries session play place phase width height layers level =
+    rw (← phase, ← width, ← height, ← layers, ← level) refl
+
+-- numbers that are told are told of equal ones
+pub told_same : (numbers other before after : List ℕ) (is_told : Bool) → numbers ≡ other →
+    IsTold numbers before after is_told → IsTold other before after is_told
+told_same numbers other before after is_told same told =
+    subst (λ (xs : List ℕ). IsTold xs before after is_told) same told
 
 -- what is seen of a session is seen of an equal one
 pub seen_there :

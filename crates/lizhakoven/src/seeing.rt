@@ -61,22 +61,27 @@ fn see_session<B: Board, H: History<B>>(
     ensures kept { OnErr result (cells.new ≡ cells.old) }
 {
     let phase = number_of_phase(session.phase());
-    let Some((level, _)) = session.level() else {
-        let place = Place::nowhere(phase);
-        return Ok(Seen { place, is_told: true });
+    let (level, _) = match session.level() {
+        Some(here) => here,
+        None => {
+            let place = Place::nowhere(phase);
+            return Ok(Seen {
+                place,
+                is_told: true,
+            });
+        }
     };
-    let board = level.board();
-    let numbers = numbers_of(alloc, board)?;
-    let (width, height) = board.size();
-    let layers = board.layers();
-    let level = number_of_level(entries, level.entry().number());
+    let shown = level.board();
+    let numbers = numbers_of(alloc, shown)?;
+    let (width, height) = shown.size();
+    let number = number_of_level(entries, level.entry().number());
     let is_told = write_front(&numbers, cells);
     let place = Place {
         phase,
         width,
         height,
-        layers,
-        level,
+        layers: shown.layers(),
+        level: number,
     };
     Ok(Seen { place, is_told })
 }
