@@ -51,5 +51,6 @@ closed_spec 𝓤 𝓛 𝓜 𝓡 wired =
     sets ! (agg ! (and_then ! (get ! refl) (and_then ! (false_lit !) (no_more !)))) refl (tt, (tt, (tt, tt))) $
     returns ! (look_at ! 0 refl) $ free_all ! refl $
     feq_i ! Bool false false refl $ handle_in ! (block_ptr (l 1) 0) false None $
-    suffices ! _ (ends_at 𝓛 f.ended tt c ((κs, qs, bounds, a, tt), tt) (both (vptr (l 1) 0) (vbool false)) (record { at = block_ptr (l 1) 0; is_open = false; value = None }) tt tt) $ says ! refl $
+    suffices ! _ (ends_at 𝓛 f.ended tt c ((κs, qs, bounds, a, tt), tt) (both (vptr (l 1) 0) (vbool false))
+    (record { at = block_ptr (l 1) 0; is_open = false; value = None }) tt tt) $ says ! refl $
     nothing ! $ join ! $ nothing ! $ join ! $ done !))

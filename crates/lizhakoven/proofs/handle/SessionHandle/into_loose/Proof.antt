@@ -44,7 +44,8 @@ stayed = (stay_dropped (plain (λ _. R)) yes, (stay_dropped (plain (λ _. G)) ye
 pub into_loose_spec : {M : Type 1} → statement M
 into_loose_spec 𝓤 𝓛 𝓜 𝓡 wired =
     let c = f.clauses 𝓛 𝓜.mem 𝓡.returns in let 𝓣 = tables 𝓤 𝓛.H 𝓜 𝓡 𝓡.env in
-    proved_at 𝓛 f.ended stayed c 𝓜 𝓡 (Goes-blank 𝓛 0 (plain (λ _. R)) yes (λ κs x e. tt), (Goes-blank 𝓛 0 (plain (λ _. G)) yes (λ κs x e. tt), tt))
+    proved_at 𝓛 f.ended stayed c 𝓜 𝓡 (Goes-blank 𝓛 0 (plain (λ _. R)) yes (λ κs x e. tt),
+    (Goes-blank 𝓛 0 (plain (λ _. G)) yes (λ κs x e. tt), tt))
     f.Key.name code.function (code.unfolded 𝓤 𝓛.H 𝓜 𝓡 wired) (λ z are.
     let d = z.0.3.0 in let a = z.0.3.1.0 in let us = z.0.4.0 in let vs = z.0.4.1.0 in
     let Post : Val → SProp 𝓤 = (walk_of 𝓛 f.ended stayed c).post z in
@@ -52,15 +53,20 @@ into_loose_spec 𝓤 𝓛 𝓜 𝓡 wired =
     let at = ((rawptr_Lawful 𝓛).typed d.at (ptr_val d.at ∷ []) refl).0 in
     let w = both (ptr_val d.at) (vbool d.is_open) in
     qed 𝓛 ((‵ ftrue ⊛ ‵ (R.own_val d us) ⊛ ‵ (G.own_val a vs) ⊛ ‵ ftrue) ∷ raw (fact 𝓤 (d.is_open ≡ true)) ∷ []) ∵
-    move ! (1 ∷ []) $ heard ! (d.is_open ≡ true) (λ opened. split ! $ drop ! $ split ! $ move ! (1 ∷ []) $ split ! $ keep ! (0 ∷ 2 ∷ []) $
+    move ! (1 ∷ []) $ heard ! (d.is_open ≡ true) (λ opened. split ! $ drop ! $ split ! $ move ! (1 ∷ []) $ split ! $
+    keep ! (0 ∷ 2 ∷ []) $
     handle_tells (al I G GL ghosts) ! a vs (λ h ea fits. move ! (1 ∷ []) $ handle_out ! d us (λ eu.
     open_out ! d.at d.is_open d.value opened (λ y is.
     let good = (subst (λ (ws : List Val). Typed R.mir ws) eu ((the_field_loose.lawful 𝓛).typed d us are.0)).0 in
-    suffices ! (Run (w ∷ h ∷ [])) (subst (λ (ws : List Val). ent 𝓤 (Run (w ∷ h ∷ [])) (Run ws)) (sym (λ i. eu i ++ (ea i ++ []))) (id⊢ 𝓤 (Run (w ∷ h ∷ [])))) $
+    suffices ! (Run (w ∷ h ∷ [])) (subst (λ (ws : List Val). ent 𝓤 (Run (w ∷ h ∷ [])) (Run ws))
+    (sym (λ i. eu i ++ (ea i ++ []))) (id⊢ 𝓤 (Run (w ∷ h ∷ [])))) $
     enter ! 𝓣.C 𝓣.Λ code.function (w ∷ h ∷ []) Post $ alloc_all ! (λ l. pass_all ! refl (good, (fits, tt)) $
     sets ! (of_opd ! (get_in ! (fld ! refl (stop !)) (sub ! 0 refl (whole !)))) refl at $
     sets ! (of_opd ! (get ! refl)) refl at $
-    sets ! (agg ! (and_then ! (get ! refl) (and_then ! (get ! refl) (no_more !)))) refl (both_tt (has_ty ty_ptr (ptr_val d.at)) (has_ty (layout G) h) at.0 fits.0, (at.1, (fits.1, tt))) $
+    sets ! (agg ! (and_then ! (get ! refl) (and_then ! (get ! refl)
+    (no_more !)))) refl (both_tt (has_ty ty_ptr (ptr_val d.at))
+    (has_ty (layout G) h) at.0 fits.0, (at.1, (fits.1, tt))) $
     returns ! (look_at ! 0 refl) $ free_all ! refl $ loose_in_at ! d.at h a y $
-    suffices ! _ (ends_at 𝓛 f.ended stayed c z (both (ptr_val d.at) h) (record { at = d.at; alloc = a; value = y }) (tt, (tt, tt)) (tt, (tt, tt))) $ says ! (sym is) $
+    suffices ! _ (ends_at 𝓛 f.ended stayed c z (both (ptr_val d.at) h) (record { at = d.at; alloc = a; value = y })
+    (tt, (tt, tt)) (tt, (tt, tt))) $ says ! (sym is) $
     nothing ! $ nothing ! $ fjoin ! $ nothing ! $ fjoin ! $ join ! $ nothing ! $ join ! $ done !))))))

@@ -48,15 +48,19 @@ of_loose_spec 𝓤 𝓛 𝓜 𝓡 wired =
     f.Key.name code.function (code.unfolded 𝓤 𝓛.H 𝓜 𝓡 wired) (λ z are.
     let d = z.0.3.0 in let Post : Val → SProp 𝓤 = (walk_of 𝓛 f.ended stayed c).post z in
     let Run : List Val → SProp 𝓤 = λ ws. WpFn 𝓤 𝓛.H 𝓣.C 𝓣.Λ code.function ws Post in
-    qed 𝓛 ((‵ ftrue ⊛ ‵ (L.own_val d z.0.4.0) ⊛ ‵ ftrue) ∷ ‵ ftrue ∷ []) ∵ split ! $ drop ! $ split ! $ keep ! (0 ∷ []) $
+    qed 𝓛 ((‵ ftrue ⊛ ‵ (L.own_val d z.0.4.0) ⊛ ‵ ftrue) ∷ ‵ ftrue ∷ []) ∵ split ! $ drop ! $ split ! $
+    keep ! (0 ∷ []) $
     loose_out I G GL ghosts ! d z.0.4.0 (λ b o h e ws fits. keep ! (0 ∷ []) $
     let w = both (vptr b o) h in
-    suffices ! (Run (w ∷ [])) (subst (λ (us : List Val). ent 𝓤 (Run (w ∷ [])) (Run us)) (sym (λ i. ws i ++ [])) (id⊢ 𝓤 (Run (w ∷ [])))) $
-    enter ! 𝓣.C 𝓣.Λ code.function (w ∷ []) Post $ alloc_all ! (λ l. pass_all ! refl (loose_good I G GL ghosts b o h fits, tt) $
+    suffices ! (Run (w ∷ [])) (subst (λ (us : List Val). ent 𝓤 (Run (w ∷ [])) (Run us)) (sym (λ i. ws i ++ []))
+    (id⊢ 𝓤 (Run (w ∷ [])))) $
+    enter ! 𝓣.C 𝓣.Λ code.function (w ∷ []) Post $
+    alloc_all ! (λ l. pass_all ! refl (loose_good I G GL ghosts b o h fits, tt) $
     sets ! (of_opd ! (get_in ! (fld ! refl (stop !)) (sub ! 0 refl (whole !)))) refl (tt, tt) $
     sets ! (of_opd ! (get ! refl)) refl (tt, tt) $
     sets ! (agg ! (and_then ! (get ! refl) (and_then ! (true_lit !) (no_more !)))) refl (tt, (tt, (tt, tt))) $
     returns ! (look_at ! 0 refl) $ free_all ! refl $
     feq_i ! Bool true true refl $ fjoin ! $ handle_in ! (block_ptr b o) true (Some d.value) $
-    suffices ! _ (ends_at 𝓛 f.ended stayed c z (both (vptr b o) (vbool true)) (record { at = block_ptr b o; is_open = true; value = Some d.value }) (tt, tt) (tt, tt)) $ says ! refl $
+    suffices ! _ (ends_at 𝓛 f.ended stayed c z (both (vptr b o) (vbool true))
+    (record { at = block_ptr b o; is_open = true; value = Some d.value }) (tt, tt) (tt, tt)) $ says ! refl $
     nothing ! $ nothing ! $ fjoin ! $ join ! $ nothing ! $ join ! $ done !)))

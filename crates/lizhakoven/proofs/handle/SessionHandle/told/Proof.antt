@@ -51,14 +51,18 @@ told_spec 𝓤 𝓛 𝓜 𝓡 wired =
     let good = ((the_field_loose.lawful 𝓛).typed d (w ∷ []) are.0).0 in
     let at = ((rawptr_Lawful 𝓛).typed d.at (ptr_val d.at ∷ []) refl).0 in
     let is = ((bool_Lawful 𝓛).typed d.is_open (vbool d.is_open ∷ []) refl).0 in
-    qed 𝓛 ((‵ ftrue ⊛ ‵ (R.own_val d (w ∷ [])) ⊛ ‵ ftrue) ∷ ‵ ftrue ∷ []) ∵ split ! $ drop ! $ split ! $ keep ! (0 ∷ []) $
+    qed 𝓛 ((‵ ftrue ⊛ ‵ (R.own_val d (w ∷ [])) ⊛ ‵ ftrue) ∷ ‵ ftrue ∷ []) ∵ split ! $ drop ! $ split ! $
+    keep ! (0 ∷ []) $
     handle_out ! d (w ∷ []) (λ same. open_is ! d.at d.is_open d.value (λ told. handle_in ! d.at d.is_open d.value $
     enter ! _ _ _ _ _ $ alloc_all ! (λ l. pass_all ! refl (good, tt) $
     sets ! (of_opd ! (get_in ! (fld ! refl (stop !)) (sub ! 0 refl (whole !)))) refl at $
     sets ! (of_opd ! (get_in ! (fld ! refl (stop !)) (sub ! 1 refl (whole !)))) refl is $
     sets ! (agg ! (and_then ! (get ! refl) (and_then ! (get ! refl) (no_more !)))) refl good $
-    sets ! (agg ! (and_then ! (get ! refl) (and_then ! (get ! refl) (no_more !)))) refl (both_tt (has_ty (layout R) w) true good.0 tt, (good.1, (is.1, tt))) $
+    sets ! (agg ! (and_then ! (get ! refl) (and_then ! (get ! refl)
+    (no_more !)))) refl (both_tt (has_ty (layout R) w) true good.0 tt, (good.1, (is.1, tt))) $
     returns ! (look_at ! 0 refl) $ free_all ! refl $
-    feq_i ! (List Val) (vbool d.is_open ∷ []) (vbool d.is_open ∷ []) refl $ move ! (1 ∷ []) $ pair_in ! R bool d d.is_open w (vbool d.is_open) $
-    suffices ! _ (ends_at 𝓛 f.ended stayed c ((κs, qs, bounds, a, ((w ∷ []), tt)), tt) (both w (vbool d.is_open)) (d, d.is_open) (tt, tt) (tt, tt)) $ says_two ! (refl, (refl, told)) $
+    feq_i ! (List Val) (vbool d.is_open ∷ []) (vbool d.is_open ∷ []) refl $ move ! (1 ∷ []) $
+    pair_in ! R bool d d.is_open w (vbool d.is_open) $
+    suffices ! _ (ends_at 𝓛 f.ended stayed c ((κs, qs, bounds, a, ((w ∷ []), tt)), tt) (both w (vbool d.is_open))
+    (d, d.is_open) (tt, tt) (tt, tt)) $ says_two ! (refl, (refl, told)) $
     nothing ! $ nothing ! $ fjoin ! $ join ! $ nothing ! $ join ! $ done !))))
