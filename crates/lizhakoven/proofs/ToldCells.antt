@@ -28,9 +28,9 @@ together [] more = append_nil_at more where
   append_nil_at (x ∷ xs) = ap (λ (rest : List ℕ). x ∷ rest) (append_nil_at xs)
 together (list ∷ lists) more =
     ap (λ (rest : List ℕ). list ++ rest) (together lists more) ∙ sym (assoc list (concat lists) more) where
-  assoc : (a b c : List ℕ) → (a ++ b) ++ c ≡ a ++ (b ++ c)
-  assoc [] b c = refl
-  assoc (x ∷ a) b c = ap (λ (rest : List ℕ). x ∷ rest) (assoc a b c)
+      assoc : (a b c : List ℕ) → (a ++ b) ++ c ≡ a ++ (b ++ c)
+      assoc [] b c = refl
+      assoc (x ∷ a) b c = ap (λ (rest : List ℕ). x ∷ rest) (assoc a b c)
 
 -- the numbers of one more cell
 pub cells_more : (cells : List (List Slot)) (cell : ℕ) → cell < length cells →

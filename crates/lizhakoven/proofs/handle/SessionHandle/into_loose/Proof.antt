@@ -44,8 +44,10 @@ stayed = (stay_dropped (plain (λ _. R)) yes, (stay_dropped (plain (λ _. G)) ye
 pub into_loose_spec : {M : Type 1} → statement M
 into_loose_spec 𝓤 𝓛 𝓜 𝓡 wired =
     let c = f.clauses 𝓛 𝓜.mem 𝓡.returns in let 𝓣 = tables 𝓤 𝓛.H 𝓜 𝓡 𝓡.env in
-    proved_at 𝓛 f.ended stayed c 𝓜 𝓡 (Goes-blank 𝓛 0 (plain (λ _. R)) yes (λ κs x e. tt),
-    (Goes-blank 𝓛 0 (plain (λ _. G)) yes (λ κs x e. tt), tt))
+    proved_at 𝓛 f.ended stayed c 𝓜 𝓡 (
+      Goes-blank 𝓛 0 (plain (λ _. R)) yes (λ κs x e. tt),
+      (Goes-blank 𝓛 0 (plain (λ _. G)) yes (λ κs x e. tt), tt),
+    )
     f.Key.name code.function (code.unfolded 𝓤 𝓛.H 𝓜 𝓡 wired) (λ z are.
     let d = z.0.3.0 in let a = z.0.3.1.0 in let us = z.0.4.0 in let vs = z.0.4.1.0 in
     let Post : Val → SProp 𝓤 = (walk_of 𝓛 f.ended stayed c).post z in
@@ -64,8 +66,11 @@ into_loose_spec 𝓤 𝓛 𝓜 𝓡 wired =
     sets ! (of_opd ! (get_in ! (fld ! refl (stop !)) (sub ! 0 refl (whole !)))) refl at $
     sets ! (of_opd ! (get ! refl)) refl at $
     sets ! (agg ! (and_then ! (get ! refl) (and_then ! (get ! refl)
-    (no_more !)))) refl (both_tt (has_ty ty_ptr (ptr_val d.at))
-    (has_ty (layout G) h) at.0 fits.0, (at.1, (fits.1, tt))) $
+    (no_more !)))) refl (
+      both_tt (has_ty ty_ptr (ptr_val d.at))
+          (has_ty (layout G) h) at.0 fits.0,
+      (at.1, (fits.1, tt)),
+    ) $
     returns ! (look_at ! 0 refl) $ free_all ! refl $ loose_in_at ! d.at h a y $
     suffices ! _ (ends_at 𝓛 f.ended stayed c z (both (ptr_val d.at) h) (record { at = d.at; alloc = a; value = y })
     (tt, (tt, tt)) (tt, (tt, tt))) $ says ! (sym is) $
