@@ -91,7 +91,7 @@ pub place_made : (entries : List Entry) (session : Session) (play : Play) (place
 place_made entries session play place phase width height layers level =
     rw (← phase, ← width, ← height, ← layers, ← level) refl
 
--- numbers that are told are told of equal ones
+-- what is told of numbers is told of equal ones
 pub told_same : (numbers other before after : List ℕ) (is_told : Bool) → numbers ≡ other →
     IsTold numbers before after is_told → IsTold other before after is_told
 told_same numbers other before after is_told same told =
