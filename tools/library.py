@@ -113,5 +113,5 @@ def build(folder):
         folder.mkdir(parents=True, exist_ok=True)
         for name in (ARCHIVE, name_for_programs()):
             shutil.move(room / name, folder / name)
-        (folder / SHARED).unlink(missing_ok=True)
-        (folder / SHARED).symlink_to(name_for_programs())
+        # No link: the toolchain refuses to write beside one.
+        shutil.copyfile(folder / name_for_programs(), folder / SHARED)
