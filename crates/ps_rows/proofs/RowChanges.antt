@@ -212,19 +212,6 @@ module _ (h row : ℕ) (change : Change) (under : row < h) where
       ∙ ap (λ (w : List Bool). bit_after change plane x (column_at w x)) e ∙ left x low
       ∙ ap (λ (w : List Bool). column_at w x) (sym e)))
 
-  -- a row without columns, in which none are set
-  pub blank_stays : (words : List (List Bool)) (plane : ℕ) → AreSets words →
-      row_of words (plane * h + row) ≡ no_columns → is_number change.plane plane ≡ false →
-      words ≡ row_after h row change words plane
-  blank_stays words plane are blank other =
-      let word : List Bool = row_of words (plane * h + row) in
-      let after : List Bool = word_after change plane word in
-      let left : IsRowLeft h row change words plane = λ x low.
-      let none : column_at word x ≡ false = ap (λ (w : List Bool). column_at w x) blank ∙ none_at x in
-      ap₂ (λ (b n : Bool). (b && not (column_at change.cleared x)) || (n && column_at change.set x)) none other
-      ∙ sym none in
-      row_stays words plane word after are refl refl (nothing_unlike words plane word after refl refl left)
-
 -- a layer -------------------------------------------------------------------------------------------------------------
 
 pub layer_made : (h row : ℕ) (objects motions : Change) (words mid written : List (List Bool)) (planes : List ℕ)

@@ -132,10 +132,7 @@ fn word_after<W: ColumnWords>(
     word.without(change.cleared).either(set_in(change, plane))
 }
 
-/// Changes the row of a plane, and answers whether it has other columns then, or something had `changed` before. A row
-/// that isn't marked isn't read, unless columns are to be set in it: most objects of a layer stand in few rows. A call
-/// for each plane would be felt: this is in line.
-#[inline(always)]
+/// Changes the row of a plane, and answers whether it has other columns then, or something had `changed` before.
 fn change_row<W: ColumnWords>(
     planes: &mut Planes<W>,
     row: u32,
@@ -153,9 +150,6 @@ fn change_row<W: ColumnWords>(
     ensures left { let p = planes.old in
         changed ≡ false → IsRowLeft p.height row change p.words.items plane → result ≡ false }
 {
-    if !planes.rows_of(plane).has(row) && !is_chosen(change.plane, plane) {
-        return changed;
-    }
     let word = planes.row(plane, row);
     let after = word_after(change, plane, word);
     if after.unlike(word).is_empty() {
@@ -173,8 +167,7 @@ fn changes_nothing<W: ColumnWords>(change: RowChange<Columns<W>>) -> bool
 }
 
 /// Changes the row of each of these planes, and answers whether one has other columns then, or something had `changed`
-/// before. No plane is read for a change that clears and sets nothing. It is in line, as a call would be felt.
-#[inline(always)]
+/// before. No plane is read for a change that clears and sets nothing.
 pub fn change_rows<W: ColumnWords>(
     planes: &mut Planes<W>,
     row: u32,

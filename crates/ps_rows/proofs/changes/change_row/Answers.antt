@@ -1,22 +1,12 @@
 use Rattle.std.proofs.Common.{◌≡◌, ◌∙◌, ◌+◌, ◌*◌, Bool, List, true, sym, ap, subst}
 use Rattle.std.specs.Prelude.{slice_set}
 use Rattle.std.proofs.lemmas.Bool.{false≢true}
-use Rattle.ps_rows.proofs.Marked.{plane_indexed}
-use Rattle.ps_rows.proofs.RowChanges.{blank_stays, nothing_unlike, row_stays, set_after}
-use Rattle.ps_board.specs.ColumnSets.{column_at, set_columns}
+use Rattle.ps_rows.proofs.RowChanges.{nothing_unlike, row_stays, set_after}
+use Rattle.ps_board.specs.ColumnSets.{set_columns}
 use Rattle.ps_rows.specs.Planes.{IsSet}
 use Rattle.ps_rows.specs.RowChanges.{word_after}
 use Rattle.ps_rows.proofs.Sets.{true_by}
 use Rattle.ps_rows.proofs.changes.change_row.Goals as goal
-
-pub returns-then-not-is_chosen-clause-words : goal.returns-then-not-is_chosen-clause-words
-returns-then-not-is_chosen-clause-words g c =
-    let p = c.args.planes.now in
-    blank_stays p.height c.args.row c.args.change c.requires.row p.words.items c.args.plane p.sets
-    (p.marked c.args.plane c.args.row
-    (plane_indexed p.index.len p.height c.args.plane p.words.len p.some_row p.whole c.requires.plane) c.requires.row
-    (ap (λ (w : List Bool). column_at w c.args.row) (sym c.rows_of.ensures) ∙ sym c.has.ensures ∙ c.if-not-has.true))
-    (sym c.is_chosen.ensures ∙ c.if-not-is_chosen.true)
 
 pub returns-then-is_empty-clause-words : goal.returns-then-is_empty-clause-words
 returns-then-is_empty-clause-words g c =
