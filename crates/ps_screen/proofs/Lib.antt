@@ -4,6 +4,7 @@ mod Groups
 mod KeptRows
 mod LookedUp
 mod Objects
+mod OnGround
 mod Painting
 mod PlainFrames
 mod PlainRows

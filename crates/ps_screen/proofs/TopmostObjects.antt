@@ -58,7 +58,7 @@ all_among own (first ∷ rest) object all among =
       | inr there ↦ all_among own rest object parts.1 there
     ]
 
-not_same : (own objects : List ObjectId) (object : ObjectId) → is_among own object ≡ false →
+pub not_same : (own objects : List ObjectId) (object : ObjectId) → is_among own object ≡ false →
     is_among objects object ≡ true → same_objects own objects ≡ false
 not_same own objects object out among = elim (cases_Bool (same_objects own objects)) [
   | inl same ↦
@@ -72,7 +72,7 @@ abbrev pub shows : ObjectId → Glyph → Bool
 shows object glyph = is_among (members glyph.meaning) object
 
 -- no glyph fits objects of which none shows one
-or_none : (a b : Bool) → (a || b) ≡ false → (a ≡ false) × (b ≡ false)
+pub or_none : (a b : Bool) → (a || b) ≡ false → (a ≡ false) × (b ≡ false)
 or_none true b e = absurd (false≢true (sym e))
 or_none false b e = (refl, e)
 
@@ -87,7 +87,7 @@ none_fits (glyph ∷ glyphs) objects object none among =
     ∙ none_fits glyphs objects object parts.1 among
 
 -- of three glyphs, those that are there have one character, and the last one is there
-three : (first second third : Option Glyph) (c : ℕ) →
+pub three : (first second third : Option Glyph) (c : ℕ) →
     ((d : ℕ) → option_map (λ glyph. glyph.character) first ≡ Some d → d ≡ c) →
     ((d : ℕ) → option_map (λ glyph. glyph.character) second ≡ Some d → d ≡ c) →
     option_map (λ glyph. glyph.character) third ≡ Some c → c ≡ character_of (first_of_three first second third)
@@ -250,7 +250,7 @@ pub written_back : (n : ℕ) (made was : List (Option ℕ)) → length made ≡ 
 written_back n made was long same = grind (arith, common_steps, long, same)
 
 -- what holds of the value, if there is one
-if_some : (o : Option ℕ) (P : ℕ → Type 0) → ((c : ℕ) → o ≡ Some c → P c) → IfSome o P
+pub if_some : (o : Option ℕ) (P : ℕ → Type 0) → ((c : ℕ) → o ≡ Some c → P c) → IfSome o P
 if_some None P each = tt
 if_some (Some c) P each = each c refl
 

@@ -1,10 +1,11 @@
 -- Glyphs by the objects that they show: one object alone, or several; and objects that show each cell in which they are
 -- the topmost one.
 use Rattle.std.specs.Prelude.{◌≡◌, ◌&&◌, ℕ, nat_lt, if◌then◌else◌, find, length, option_map, slice_index_or}
-use Rattle.std.specs.Prelude.{IfSome, Bool, false, List, [], ◌∷◌, ◌++◌, Option, Some, None}
-use Rattle.std.specs.List.{list_all}
+use Rattle.std.specs.Prelude.{IfSome, Bool, false, not, true, List, [], ◌∷◌, ◌++◌, Option, Some, None}
+use Rattle.std.specs.List.{list_all, list_any}
 use Rattle.ps_model.specs.declared.pieces.ObjectId.{ObjectId}
 use Rattle.ps_model.specs.names.Names.{Glyph, Names, members, same_object}
+use Rattle.ps_model.specs.board.Levels.{is_ground}
 use Rattle.ps_model.specs.session.Frames.{character_of, glyph_of_objects, same_objects}
 
 -- the number of the object that each of a list is, if it is below a count
@@ -35,6 +36,25 @@ Covers names object character =
 abbrev pub AreCovering : Names → List (Option ℕ) → Type 0
 AreCovering names characters =
     (place : ℕ) → IfSome (slice_index_or characters place None) (Covers names (record { 0 = place }))
+
+-- the character shows each cell in which the object is the topmost one and all others are ground
+abbrev pub ShowsOnGround : Names → ObjectId → ℕ → Type 0
+ShowsOnGround names object character = (below : List ObjectId) → list_all (is_ground names) below ≡ true →
+    character ≡ character_of (glyph_of_objects names (below ++ object ∷ []))
+
+-- by the objects' numbers, characters that do so
+abbrev pub AreOnGround : Names → List (Option ℕ) → Type 0
+AreOnGround names characters =
+    (place : ℕ) → IfSome (slice_index_or characters place None) (ShowsOnGround names (record { 0 = place }))
+
+-- another object than the first, which isn't ground
+abbrev pub is_other_above : Names → ObjectId → ObjectId → Bool
+is_other_above names first other = not (is_ground names other) && not (same_object first other)
+
+-- two different objects of a list aren't ground
+abbrev pub has_several_above : Names → List ObjectId → Bool
+has_several_above names objects = list_any (λ object.
+    not (is_ground names object) && list_any (is_other_above names object) objects) objects
 
 -- by the objects' numbers, characters of which those are left out whose objects meet a condition, and perhaps others
 abbrev pub AreThinned : (ObjectId → Bool) → List (Option ℕ) → List (Option ℕ) → Type 0

@@ -1,7 +1,9 @@
 //! The character that shows a cell of a board.
 
-ghost use Rattle.std.specs.Prelude.{◌≡◌, ◌++◌, ◌<◌, OnOk, IfOk, IfSome, option_to_list};
+ghost use Rattle.std.specs.Prelude.{◌≡◌, ◌++◌, ◌<◌, ◌≤◌, ◌∷◌, [], OnOk, IfOk, IfSome, option_to_list, take, true};
+ghost use Rattle.std.specs.List.{list_all};
 ghost use Rattle.ps_model.specs.board.Grid.{IsGrid, cell_at, cell_count, slot_at};
+ghost use Rattle.ps_model.specs.board.Levels.{is_ground};
 ghost use Rattle.ps_model.specs.session.Frames.{objects_in, shown_character};
 
 use crate::glyphs::objects_character;
@@ -63,13 +65,69 @@ fn top_character<B: Board>(look: &Look<'_>, board: &B, cell: u32) -> Option<char
     while 1 < layer {
         layer -= 1;
         if let Some(object) = board.object(cell, LayerId(layer)) {
-            return look.covering(object);
+            return topmost_character(look, board, cell, layer, object);
         }
     }
     let Some(object) = board.object(cell, LayerId(0)) else {
         return None;
     };
     look.alone(object)
+}
+
+/// The character of the topmost object of a cell, which stands on that layer, if it shows the cell: whatever stands
+/// below it, or since only ground does.
+#[inline(always)]
+fn topmost_character<B: Board>(
+    look: &Look<'_>,
+    board: &B,
+    cell: u32,
+    layer: u32,
+    object: ObjectId,
+) -> Option<char>
+    requires cell { cell < cell_count (B.grid board.now) }
+    requires shape { IsGrid (B.grid board.now) }
+    requires layer { layer < (B.grid board.now).layers }
+    requires topmost { let slots = cell_at (B.grid board.now) cell in
+        objects_in slots ≡ objects_in (take layer slots) ++ object ∷ [] }
+    ensures { IfSome result (λ character.
+        character ≡ shown_character look.now (cell_at (B.grid board.now) cell)) }
+{
+    if let Some(character) = look.covering(object) {
+        return Some(character);
+    }
+    let Some(character) = look.on_ground(object) else {
+        return None;
+    };
+    if has_only_ground(look, board, cell, layer) {
+        return Some(character);
+    }
+    None
+}
+
+/// Whether all that stands below a layer of a cell is ground.
+fn has_only_ground<B: Board>(look: &Look<'_>, board: &B, cell: u32, layer: u32) -> bool
+    requires cell { cell < cell_count (B.grid board.now) }
+    requires shape { IsGrid (B.grid board.now) }
+    requires layer { layer ≤ (B.grid board.now).layers }
+    ensures { let below = objects_in (take layer (cell_at (B.grid board.now) cell)) in
+        result ≡ true → list_all (is_ground look.now) below ≡ true }
+{
+    for below in 0..layer {
+        if !is_ground_if(look, board.object(cell, LayerId(below))) {
+            return false;
+        }
+    }
+    true
+}
+
+/// Whether an object, if there is one, lies on the layer of the ground.
+fn is_ground_if(look: &Look<'_>, object: Option<ObjectId>) -> bool
+    ensures { result ≡ list_all (is_ground look.now) (option_to_list object) }
+{
+    match object {
+        None => true,
+        Some(object) => look.is_ground(object),
+    }
 }
 
 /// The character that shows a cell, by all its objects.

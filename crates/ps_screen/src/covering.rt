@@ -43,7 +43,7 @@ pub fn covering_characters(
 /// # Errors
 ///
 /// `Memory`.
-fn above_ground(
+pub fn above_ground(
     alloc: Global,
     names: &Names,
     single: &[Option<char>],
@@ -71,7 +71,7 @@ fn kept_unless(left_out: bool, character: Option<char>) -> Option<char>
 }
 
 /// Leaves out the characters of some objects.
-fn leave_out(characters: &mut [Option<char>], objects: &[ObjectId])
+pub fn leave_out(characters: &mut [Option<char>], objects: &[ObjectId])
     ensures thinned { AreThinned (is_among objects.now) characters.old characters.new }
     ensures long { length characters.new ≡ length characters.old }
 {

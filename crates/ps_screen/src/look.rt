@@ -5,12 +5,13 @@ ghost use Rattle.std.specs.List.{list_all};
 ghost use Rattle.ps_model.specs.names.Names.{members, same_object};
 ghost use Rattle.ps_model.specs.board.Levels.{is_ground};
 ghost use Rattle.ps_names.specs.GlyphsShown.{glyph_shown};
-ghost use Rattle.ps_screen.specs.Glyphs.{Covers, character_for, single_place};
+ghost use Rattle.ps_screen.specs.Glyphs.{Covers, ShowsOnGround, character_for, single_place};
 ghost use Rattle.ps_screen.specs.GreatestObjects.{greatest};
 
 use crate::covering::covering_characters;
 use crate::greatest::{greatest, greatest_of_each, shows_by};
 use crate::meanings::ground_layer;
+use crate::on_ground::characters_on_ground;
 use ps_model::{LayerId, Memory, ObjectId};
 use ps_names::{Glyph, Names};
 use std::alloc::Global;
@@ -31,6 +32,8 @@ pub struct Look<'g> {
     mosts: Vec<u32>,
     /// By the objects' numbers, the character of each object that shows each cell in which it is the topmost one.
     covering: Vec<Option<char>>,
+    /// Likewise of each object that shows each cell in which it stands on the ground, and on nothing else.
+    on_ground: Vec<Option<char>>,
 }
 
 impl<'g> Model for Look<'g> {
@@ -39,7 +42,7 @@ impl<'g> Model for Look<'g> {
     ghost use Rattle.ps_model.specs.board.Levels.{background_layer};
     ghost use Rattle.ps_names.specs.GlyphsShown.{glyph_shown};
     ghost use Rattle.ps_model.specs.names.Names.{members};
-    ghost use Rattle.ps_screen.specs.Glyphs.{AreCovering, AreLookedUp};
+    ghost use Rattle.ps_screen.specs.Glyphs.{AreCovering, AreLookedUp, AreOnGround};
     ghost use Rattle.ps_screen.specs.GreatestObjects.{greatest};
 
     ghost Value = { Meant };
@@ -49,7 +52,8 @@ impl<'g> Model for Look<'g> {
     ghost invariant = { λ l. (l.ground.0 ≡ background_layer l.names.now)
         × (AreLookedUp l.names.now.glyphs l.single.items (map (λ glyph. glyph_shown glyph.now) l.mixed.items)
         × (AreCovering l.names.now l.covering.items
-        × (l.mosts.items ≡ map (λ glyph. greatest (members (glyph_shown glyph.now).meaning)) l.mixed.items))) };
+        × (AreOnGround l.names.now l.on_ground.items
+        × (l.mosts.items ≡ map (λ glyph. greatest (members (glyph_shown glyph.now).meaning)) l.mixed.items)))) };
 }
 
 /// Whether each of a list is that object.
@@ -108,6 +112,7 @@ impl<'g> Look<'g> {
             }
         }
         let covering = covering_characters(alloc, names, &single, &mixed)?;
+        let on_ground = characters_on_ground(alloc, names, &single, &mixed)?;
         let mosts = greatest_of_each(alloc, &mixed)?;
         Ok(Look {
             names,
@@ -116,6 +121,7 @@ impl<'g> Look<'g> {
             mixed,
             mosts,
             covering,
+            on_ground,
         })
     }
 
@@ -146,6 +152,19 @@ impl<'g> Look<'g> {
             return None;
         }
         self.covering[place]
+    }
+
+    /// The character of an object, if it shows each cell in which the object is the topmost one and all others are
+    /// ground.
+    #[inline(always)]
+    pub fn on_ground(&self, object: ObjectId) -> Option<char>
+        ensures { IfSome result (λ character. ShowsOnGround self.now object character) }
+    {
+        let place = object.0 as usize;
+        if self.on_ground.len() <= place {
+            return None;
+        }
+        self.on_ground[place]
     }
 
     /// The character of an object that stands alone, if a glyph shows just that one.

@@ -1,14 +1,19 @@
-use Rattle.std.proofs.Common.{◌≡◌, ◌∙◌, ◌-◌, ◌+◌, ◌<◌, ℕ, List, None, length, take, sym, ap, append-nil, arith}
-use Rattle.std.proofs.lemmas.Option.{IfSome_then}
-use Rattle.ps_model.specs.declared.pieces.ObjectId.{ObjectId}
+use Rattle.std.proofs.Common.{◌≡◌, ◌∙◌, ◌-◌, ◌+◌, ◌<◌, ℕ, List, None, length, take, sym, append-nil, arith}
 use Rattle.ps_model.specs.declared.pieces.Slot.{Slot}
 use Rattle.ps_model.specs.board.Grid.{Grid, cell_at}
-use Rattle.ps_model.specs.session.Frames.{character_of, glyph_of_objects, objects_in}
+use Rattle.ps_model.specs.session.Frames.{objects_in}
 use Rattle.ps_screen.proofs.Objects.{objects_in-under}
 use Rattle.ps_screen.proofs.cells.top_character.Goals as goal
 
 pub returns-in-Some : goal.returns-in-Some
-returns-in-Some g c =
+returns-in-Some g c = c.topmost_character.ensures
+
+pub topmost_character-requires-clause-layer : goal.topmost_character-requires-clause-layer
+topmost_character-requires-clause-layer g c =
+    omega (arith, c.loop-layer-test.true, c.loop-layer.invariant.low)
+
+pub topmost_character-requires-clause-topmost : goal.topmost_character-requires-clause-topmost
+topmost_character-requires-clause-topmost g c =
     let shown : Grid = g.B.Board.grid c.args.board.now in
     let slots : List Slot = cell_at shown c.args.cell in
     let n : ℕ = c.loop-layer.layer - 1 in
@@ -17,11 +22,7 @@ returns-in-Some g c =
     let under : n < length slots =
     omega (arith, each, c.loop-layer-test.true, c.loop-layer.invariant.low) in
     let next : c.loop-layer.layer ≡ n + 1 = omega (arith, c.loop-layer-test.true) in
-    let all = objects_in-under slots c.loop-layer.layer n _ next under c.loop-layer.invariant.under
-    c.in-Some.ensures.value in
-    IfSome_then c.covering.result c.covering.ensures (λ character covers.
-    covers (objects_in (take n slots))
-    ∙ ap (λ (objects : List ObjectId). character_of (glyph_of_objects c.args.look.now objects)) (sym all))
+    objects_in-under slots c.loop-layer.layer n _ next under c.loop-layer.invariant.under c.in-Some.ensures.value
 
 pub loop-layer-preserved : goal.loop-layer-preserved
 loop-layer-preserved g c =
