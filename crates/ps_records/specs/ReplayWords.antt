@@ -5,9 +5,13 @@ use Rattle.ps_model.specs.declared.play.Ending.{Ending}
 use Rattle.ps_model.specs.declared.play.Ending.TheVariants.{TheEnd, Quit, EndOfKeys}
 use Rattle.ps_records.specs.declared.replays.Replay.{Replay}
 
+-- what ends a word of which there are so many
+abbrev pub plural_end : ℕ → List ℕ
+plural_end number = if nat_eq number 1 then [] else codes "s"
+
 -- how many of something there are, as `1 key` and `2 keys`
 abbrev pub counted : ℕ → List ℕ → List ℕ
-counted number word = decimal number ++ (codes " " ++ (word ++ codes (if nat_eq number 1 then "" else "s")))
+counted number word = decimal number ++ (codes " " ++ (word ++ plural_end number))
 
 -- the line on the level of that number, which is won in so many keys
 abbrev pub level_line : List ℕ → ℕ → ℕ → List ℕ

@@ -1,6 +1,6 @@
 //! What comes of keys, one after the other.
 
-ghost use Rattle.std.specs.Prelude.{◌≡◌, ◌++◌, OnOk, is_some};
+ghost use Rattle.std.specs.Prelude.{◌≡◌, ◌++◌, ◌-◌, OnOk};
 ghost use Rattle.ps_records.specs.Courses.{begun, followed, is_at, won_unless_quit};
 
 use ps_model::{Ending, Memory};

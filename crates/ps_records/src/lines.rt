@@ -3,17 +3,24 @@
 ghost use Rattle.std.specs.Prelude.{◌≡◌, ◌++◌, IfOk, OnOk, codes, length, string_bytes};
 ghost use Rattle.ps_records.specs.Replays.{is_won};
 ghost use Rattle.ps_records.specs.ReplayWords.{counted, end_line, end_words, left_words, level_line, level_lines};
-ghost use Rattle.ps_records.specs.ReplayWords.{replay_lines};
+ghost use Rattle.ps_records.specs.ReplayWords.{plural_end, replay_lines};
 
 use crate::replays::Replay;
 use ps_model::{Ending, Memory};
 use std::alloc::Global;
 
+/// What ends a word of which there are so many.
+fn plural_end(number: usize) -> &'static str
+    ensures { result.now ≡ plural_end number }
+{
+    if number == 1 { "" } else { "s" }
+}
+
 /// How many of something there are, as `1 key` and `2 keys`.
 fn counted(alloc: Global, number: usize, word: &str) -> Result<String, Memory>
     ensures { IfOk result (λ words. string_bytes words ≡ counted number word.now) }
 {
-    let end = if number == 1 { "" } else { "s" };
+    let end = plural_end(number);
     let words = format!(in alloc; "{number} {word}{end}")?;
     Ok(words)
 }
