@@ -29,7 +29,19 @@ fn main(rt: HostRuntime) -> std::process::ExitCode {
     let mut output = [0u8; 1];
     let checked = lzk_check(rt.alloc(), b"", &mut finding);
     let ran = lzk_run(rt.alloc(), b"", b"", &mut output, &mut outcome);
-    std::process::ExitCode::from(if checked == ran { 0 } else { 1 })
+    let (mut game, mut session, mut copy) = (GameHandle::closed(), SessionHandle::closed(), SessionHandle::closed());
+    let (mut place, mut told, mut cells, mut length) = (Place::nowhere(0), fault, [0u32; 1], 0usize);
+    let opened = lzk_open(rt.alloc(), b"", &mut game, &mut told);
+    let named = lzk_object_name(rt.alloc(), &mut game, 0, &mut output, &mut length);
+    let started = lzk_start(rt.alloc(), &mut game, 1, &mut session);
+    lzk_close(rt.alloc(), &mut game);
+    let copied = lzk_copy(rt.alloc(), &mut session, &mut copy);
+    let keyed = lzk_keys(rt.alloc(), &mut copy, b"");
+    let looked = lzk_look(rt.alloc(), &mut copy, &mut cells, &mut place);
+    let written = lzk_text(rt.alloc(), &mut copy, 0, &mut output, &mut length);
+    lzk_end(rt.alloc(), &mut session);
+    let same = checked == ran && opened == ran && copied == keyed && looked == keyed && written == keyed && named == started;
+    std::process::ExitCode::from(if same { 0 } else { 1 })
 }
 """
 

@@ -7,7 +7,7 @@ import subprocess
 import sys
 
 from crates import TOP
-from library import HEADER, version
+from library import HEADER, calls, version
 
 PAGE = TOP / "docs/LIBRARY.md"
 GAMES = TOP / "games"
@@ -15,7 +15,9 @@ GAMES = TOP / "games"
 AFTER = 0xA5
 # The game whose growths are refused, and how many of its keys are played.
 GROWN, GROWN_KEYS = "moths", 3
-DONE, REFUSED, MEMORY, NO_ROOM = range(4)
+DONE, REFUSED, MEMORY, NO_ROOM, TOO_MANY_KEYS, NO_LEVEL, CLOSED, NO_OBJECT = range(8)
+# How many sessions are started and ended in a row, and the longest keys that are played one by one.
+ROUNDS, MOST_BY_ONE = 300, 40
 # What stands in front of the C library: it refuses growths, all from one on, and counts them and the blocks that aren't free.
 REFUSING = r"""
 #include <stddef.h>
@@ -37,7 +39,12 @@ LAYOUT = r"""
 #include "lizhakoven.h"
 int main(void) {
     printf("%d %d %d\n", LZK_VERSION_MAJOR, LZK_VERSION_MINOR, LZK_VERSION_PATCH);
-    printf("%d %d %d %d %d\n", LZK_DONE, LZK_REFUSED, LZK_MEMORY, LZK_NO_ROOM, LZK_TOO_MANY_KEYS);
+    printf("%d %d %d %d %d ", LZK_DONE, LZK_REFUSED, LZK_MEMORY, LZK_NO_ROOM, LZK_TOO_MANY_KEYS);
+    printf("%d %d %d\n", LZK_NO_LEVEL, LZK_CLOSED, LZK_NO_OBJECT);
+    printf("%d %d %d %d %d %u\n", LZK_NO_PHASE, LZK_PLAYING, LZK_MESSAGE, LZK_OVER, LZK_HAS_QUIT, (unsigned)LZK_NOTHING);
+    printf("%zu %zu %zu\n", sizeof(lzk_session), offsetof(lzk_session, is_open), sizeof(lzk_place));
+    printf("%zu %zu\n", offsetof(lzk_place, layers), offsetof(lzk_place, level));
+    printf("%zu %zu\n", sizeof(lzk_game), offsetof(lzk_game, is_open));
     printf("%d %d %d %d\n", LZK_NO_ENDING, LZK_THE_END, LZK_QUIT, LZK_END_OF_KEYS);
     printf("%zu %zu %zu\n", sizeof(lzk_finding), offsetof(lzk_finding, fault), offsetof(lzk_size, levels));
     printf("%zu %zu %zu\n", sizeof(lzk_outcome), offsetof(lzk_outcome, fault), sizeof(lzk_fault));
@@ -55,7 +62,7 @@ class Raw:
 
     def __init__(self, engine, library):
         self.engine, self.library = engine, library
-        for name in ("lzk_check", "lzk_run"):
+        for name in calls():
             ours, theirs = getattr(library, name), getattr(engine._library, name)
             ours.restype, ours.argtypes = theirs.restype, theirs.argtypes
 
@@ -86,6 +93,114 @@ def wrong_rooms(raw):
             status, outcome, written = raw.run(text, keys, room)
             if status != DONE or written != wanted or outcome.ending != 1 or outcome.fault.line:
                 yield f"{game.stem}: with room for {room} bytes it comes to status {status}"
+
+
+def frame_of(output, place):
+    """The rows of the last frame of an output, where it shows the whole board of a place."""
+    rows = output.decode(errors="replace").split("\n")
+    for last in range(len(rows) - place.height, -1, -1):
+        frame = rows[last:last + place.height]
+        if all(len(row) == place.width for row in frame) and rows[last + place.height:last + place.height + 1] == [""]:
+            return frame
+    return None
+
+
+def wrong_of_cells(place, output):
+    """What is wrong with the cells of a place, by a run's last frame: cells with the same objects have the same character."""
+    frame, shown = frame_of(output, place), {}
+    for column in range(place.width if frame else 0):
+        for row in range(place.height):
+            if shown.setdefault(place.objects(column, row), frame[row][column]) != frame[row][column]:
+                return "has other cells than its last frame"
+    return None
+
+
+def wrong_of_place(session, made):
+    """What is wrong with where a session is, by a run on the same keys; or nothing."""
+    place, phases = session.look(), {"THE_END": "OVER", "QUIT": "QUIT"}
+    if phases.get(made.ending.name, place.phase.name) != place.phase.name or session.look() != place:
+        return f"comes to {place.phase}, where a run comes to {made.ending}"
+    if made.ending.name == "END_OF_KEYS" and place.phase.name in phases.values():
+        return f"comes to {place.phase}, where a run goes on"
+    levels = re.findall(rb"^# level (\d+)$", made.output, re.M)
+    if place.phase.name == "PLAYING" and place.level != int(levels[-1]):
+        return f"is in level {place.level}, and a run in level {int(levels[-1])}"
+    return wrong_of_cells(place, made.output) if place.phase.name == "PLAYING" else None
+
+
+def wrong_of_session(engine, text, keys):
+    """What is wrong with a session that plays a game's keys from its first level, where the game begins with that; or nothing."""
+    made = engine.run(text, keys)
+    if not re.match(rb"= [^\n]*\n# level 1\n", made.output):
+        return None
+    with engine.start(text) as session:
+        session.play(keys)
+        if wrong := wrong_of_place(session, made):
+            return wrong
+        if session.text() != made.output.removesuffix(b"* end of keys\n") or session.text() != b"":
+            return "writes something else than a run"
+        place = session.look()
+    return wrong_by_one(engine, text, keys, place, made) if len(keys) <= MOST_BY_ONE else None
+
+
+def wrong_by_one(engine, text, keys, place, made):
+    """What is wrong with a session that is given its keys one by one, and with copies that are made on the way; or nothing."""
+    with engine.start(text) as one:
+        halves, texts = [one.copy()], [one.text()]
+        for at in range(len(keys)):
+            one.play(keys[at:at + 1])
+            halves.append(one.copy())
+            texts.append(one.text())
+        if one.look() != place or b"".join(texts) != made.output.removesuffix(b"* end of keys\n"):
+            return "comes elsewhere key by key, or writes something else"
+    for at, half in enumerate(halves):
+        half.play(keys[at:])
+        if half.look() != place or half.text() != b"".join(texts[at:]):
+            return "comes elsewhere by a copy, or writes something else"
+    return None
+
+
+def wrong_misuse(engine):
+    """What is wrong with games and sessions that are misused."""
+    text = (GAMES / f"{GROWN}.game").read_bytes()
+    ended, game, levels = engine.start(text), engine.Game(text), engine.check(text).levels
+    ended.end()
+    ended.end()
+    closed = [engine.Session().look, lambda: ended.play(b"d"), ended.look, ended.text, ended.copy]
+    if not all(raises(ValueError, call) for call in closed):
+        yield "a session that has ended may be played"
+    for level in (0, -1, levels + 1, 1 << 70):
+        if not raises(IndexError, engine.start, text, level) or not raises(IndexError, game.start, level):
+            yield f"a session begins at level {level}"
+    for given in (text.decode(), None, 5, [1, 2]):
+        if not raises(TypeError, engine.Game, given) or not raises(TypeError, engine.start, given) \
+                or not raises(TypeError, game.start().play, given):
+            yield f"a text or keys may be of the type {type(given).__name__}"
+    for given in ("1", True, None, 1.0):
+        if not raises(TypeError, game.start, given) or not raises(TypeError, game.object_name, given):
+            yield f"a level or an object may be of the type {type(given).__name__}"
+    if not raises(engine.Refused, engine.Game, b"") or not raises(IndexError, game.start().look().objects, 99, 0):
+        yield "a text that is no game, or a cell that isn't there, is answered for"
+    if not all(raises(IndexError, game.object_name, number) for number in (-1, engine.check(text).objects, 1 << 32, 1 << 70)):
+        yield "an object that isn't there has a name"
+    session = game.start()
+    game.close()
+    game.close()
+    if not raises(ValueError, game.start) or not raises(ValueError, game.object_name, 0) or session.look() != engine.start(text).look():
+        yield "a game that is closed may be played, or its session can't go on"
+
+
+def wrong_object_names(engine):
+    """What is wrong with the names of objects in the games of the repository, where each object stands in a paragraph of its own."""
+    for file in sorted(GAMES.glob("*.game")):
+        text = file.read_text()
+        lines = re.sub(r"^=+\n", "", text, flags=re.M)
+        paragraphs = re.search(r"^OBJECTS\n(.*?)^(?:LEGEND|COLLISIONLAYERS)\n", lines, re.M | re.S)[1].strip().split("\n\n")
+        wanted = [paragraph.split()[0] for paragraph in paragraphs]
+        with engine.Game(text.encode()) as game:
+            names = [game.object_name(number) for number in range(engine.check(text.encode()).objects)]
+        if names != wanted:
+            yield f"{file.name}: its objects are called {names}, and not {wanted}"
 
 
 def raises(error, call, *given):
@@ -139,12 +254,17 @@ def wrong_declarations(engine, room):
         return
     numbers = [tuple(map(int, line.split())) for line in subprocess.run([room / "layout"], stdout=subprocess.PIPE, text=True).stdout.splitlines()]
     finding, outcome, fault = engine._Finding, engine._Outcome, engine._Fault
-    statuses = (engine._DONE, engine._REFUSED, engine._MEMORY, engine._NO_ROOM, engine._TOO_MANY_KEYS)
-    wanted = [version(), statuses, (0, *(ending.value for ending in engine.Ending)),
+    statuses = (engine._DONE, engine._REFUSED, engine._MEMORY, engine._NO_ROOM, engine._TOO_MANY_KEYS, engine._NO_LEVEL, engine._CLOSED,
+                engine._NO_OBJECT)
+    handle, place, game = engine._Handle, engine._Place, engine._GameHandle
+    wanted = [version(), statuses, (0, *(phase.value for phase in engine.Phase), engine._NOTHING),
+              (ctypes.sizeof(handle), handle.is_open.offset, ctypes.sizeof(place)), (place.layers.offset, place.level.offset),
+              (ctypes.sizeof(game), game.is_open.offset),
+              (0, *(ending.value for ending in engine.Ending)),
               (ctypes.sizeof(finding), finding.fault.offset, engine._Size.levels.offset),
               (ctypes.sizeof(outcome), outcome.fault.offset, ctypes.sizeof(fault))]
     yield from (f"the header says {told}, and the module {other}" for told, other in zip(numbers, wanted) if told != other)
-    names = [["Done", "Refused", "Memory", "NoRoom", "TooManyKeys"], ["TheEnd", "Quit", "EndOfKeys"]]
+    names = [["Done", "Refused", "Memory", "NoRoom", "TooManyKeys", "NoLevel", "Closed", "NoObject"], ["TheEnd", "Quit", "EndOfKeys"]]
     for file, listed in zip(("crates/lizhakoven/src/statuses.rt", "crates/ps_model/src/play.rt"), names):
         variants = re.findall(r"^    (\w+),$", (TOP / file).read_text(), re.M)
         if variants[-len(listed):] != listed:
@@ -178,6 +298,119 @@ def wrong_growths(engine, archive, room):
         yield "a run without a refused growth does otherwise"
     if blocks.value:
         yield f"{blocks.value} blocks of memory aren't free after the calls"
+    first.value = -1
+    yield from wrong_held(engine, raw.library, text, keys)
+
+
+class Held:
+    """The calls on sessions as C has them, each with memory of which the rest is watched."""
+
+    def __init__(self, engine, library, place, text):
+        self.engine, self.library, self.wanted, self.text = engine, library, place, text
+        self.room = len(place.cells) // 4
+
+    def look(self, session, is_there=True):
+        """The status of a look; another number where cells or place aren't as the status says."""
+        cells, place = (ctypes.c_uint32 * self.room)(*[AFTER] * self.room), self.engine._Place(9, 9, 9, 9, 9)
+        status = self.library.lzk_look(session, cells, self.room, place)
+        if status != DONE:
+            return status if all(cell == AFTER for cell in cells) and place.phase == 0 else -1
+        return status if (bytes(cells) == self.wanted.cells) == is_there else -1
+
+    def tell(self, session, first, room):
+        """The status of a text from a byte on; another number where the output or its length aren't as the status says."""
+        output, length = ctypes.create_string_buffer(bytes([AFTER]) * (room + 1), room + 1), ctypes.c_size_t(9)
+        status, left = self.library.lzk_text(session, first, output, room, length), self.text[first:]
+        told = output.raw == left + bytes([AFTER]) * (room + 1 - len(left)) if status == DONE else output.raw == bytes([AFTER]) * (room + 1)
+        return status if told and length.value == (len(left) if status in (DONE, NO_ROOM) else 0) else -1
+
+
+def is_refused_in_turn(library, call):
+    """Makes a call again and again, each time with one growth more before they are refused, until it is done. Whether it came to nothing
+    else than that it is out of memory."""
+    growths, first = (ctypes.c_long.in_dll(library, name) for name in ("growths", "from"))
+    for number in range(1 << 20):
+        growths.value, first.value = 0, number
+        status = call()
+        first.value = -1
+        if status != MEMORY:
+            return status == DONE
+
+
+def wrong_held(engine, library, text, keys):
+    """What is wrong with a game and a session of which each growth is refused in turn, and with what their calls leave."""
+    with engine.start(text) as own:
+        own.play(keys)
+        held = Held(engine, library, own.look(), own.text())
+    game, session, copy, fault = engine._GameHandle(), engine._Handle(), engine._Handle(), engine._Fault()
+    made = [lambda: library.lzk_open(text, len(text), game, fault), lambda: named(engine, library, game, 1, b"Tree"),
+            lambda: library.lzk_start(game, 1, session), lambda: library.lzk_keys(session, keys, len(keys)),
+            lambda: held.look(session), lambda: held.tell(session, 0, len(held.text)), lambda: library.lzk_copy(session, copy)]
+    if not all(is_refused_in_turn(library, call) for call in made):
+        yield "a call on a game or a session comes to something else than it is out of memory"
+    if held.look(copy) != DONE or library.lzk_keys(copy, b"r", 1) != DONE or held.look(copy, False) != DONE or held.look(session) != DONE:
+        yield "a copy isn't where its session is, or isn't apart from it"
+    if library.lzk_start(game, 99, session) != NO_LEVEL or not session.is_open:
+        yield "a start at no level ends a session"
+    if library.lzk_open(b"", 0, game, fault) != REFUSED or fault.line != 1 or not game.is_open:
+        yield "an opening of no game closes one"
+    yield from wrong_held_rooms(held, session)
+    yield from wrong_names(engine, library, game)
+    yield from wrong_ends(held, game, session, copy)
+    yield from wrong_rounds(library, text, game, session, fault)
+
+
+def wrong_ends(held, game, session, copy):
+    """What is wrong with a game that is closed before its session ends, and with a session that has ended."""
+    library = held.library
+    library.lzk_close(game)
+    library.lzk_close(game)
+    if held.look(session) != DONE or library.lzk_start(game, 1, copy) != CLOSED or not copy.is_open or game.is_open:
+        yield "a session doesn't go on after its game is closed, or the game does"
+    library.lzk_end(session)
+    closed = [library.lzk_keys(session, b"", 0), held.look(session), held.tell(session, 0, 9), library.lzk_copy(session, copy)]
+    if session.is_open or set(closed) != {CLOSED}:
+        yield "a session that has ended is open"
+    library.lzk_end(copy)
+
+
+def wrong_rounds(library, text, game, session, fault):
+    """What is wrong with games and sessions that are opened and ended in a row, and with what memory is left after all calls."""
+    for _ in range(ROUNDS):
+        if library.lzk_open(text, len(text), game, fault) != DONE or library.lzk_start(game, 1, session) != DONE:
+            yield "a game can't be opened again, or a session started"
+        library.lzk_close(game)
+        library.lzk_end(session)
+    if blocks := ctypes.c_long.in_dll(library, "blocks").value:
+        yield f"{blocks} blocks of memory aren't free after games and sessions"
+
+
+def named(engine, library, game, number, wanted, room=9):
+    """The status of a call for the name of an object; another number where name or length aren't as the status says."""
+    name, length = ctypes.create_string_buffer(bytes([AFTER]) * (room + 1), room + 1), ctypes.c_size_t(9)
+    status = library.lzk_object_name(game, number, name, room, length)
+    told = wanted + bytes([AFTER]) * (room + 1 - len(wanted)) if status == DONE else bytes([AFTER]) * (room + 1)
+    return status if name.raw == told and length.value == (len(wanted) if status in (DONE, NO_ROOM) else 0) else -1
+
+
+def wrong_names(engine, library, game):
+    """What is wrong with names that have too little room, or as much as they want, and with those of no object."""
+    rooms = ((1, 3, NO_ROOM), (1, 0, NO_ROOM), (1, 4, DONE), (1, 5, DONE), (5, 9, NO_OBJECT), ((1 << 32) - 1, 9, NO_OBJECT))
+    for number, room, wanted in rooms:
+        if named(engine, library, game, number, b"Tree", room) != wanted:
+            yield f"the name of object {number} isn't told as it must be with room for {room} bytes"
+
+
+def wrong_held_rooms(held, session):
+    """What is wrong with cells and texts that have too little room, or as much as they want, or more."""
+    small, place = (ctypes.c_uint32 * held.room)(), held.engine._Place()
+    if held.library.lzk_look(session, small, held.room - 1, place) != NO_ROOM or place.phase != 1 or any(small):
+        yield "cells without room are told, or their place isn't"
+    size = len(held.text)
+    for first, room, wanted in ((0, size - 1, NO_ROOM), (0, 0, NO_ROOM), (5, size - 6, NO_ROOM), (0, size, DONE), (0, size + 9, DONE),
+                                (5, size - 5, DONE), (size, 0, DONE), (size + 1, 3, DONE), ((1 << 64) - 1, 0, DONE)):
+        if held.tell(session, first, room) != wanted:
+            yield f"the text from byte {first} on isn't told as it must be with room for {room} bytes"
 
 
 def blocks_of(kind):
@@ -195,20 +428,21 @@ def wrong_examples(room):
     [module] = prefix.glob("lib/python3*/site-packages/lizhakoven.py")
     environment = {"PYTHONPATH": str(module.parent), "PATH": "/usr/bin:/bin", "LD_LIBRARY_PATH": str(prefix / "lib")}
     how = {"capture_output": True, "text": True, "env": environment, "cwd": TOP}
-    programs = [[sys.executable, "-c", text] for text in blocks_of("python")]
+    texts, moths = blocks_of("text"), [GAMES / "moths.game", GAMES / "moths.keys"]
+    programs = [([sys.executable, "-c", text], wanted) for text, wanted in zip(blocks_of("python"), texts)]
     package = prefix / "lib/pkgconfig/lizhakoven.pc"
     if f"-I{prefix}/include" not in package.read_text().replace("${includedir}", f"{prefix}/include"):
         yield "the file for pkg-config names another folder"
-    for number, text in enumerate(blocks_of("c") if has_compiler() else []):
+    output = (TOP / "crates/ps_cases/data/games/moths.stdout").read_text()
+    given = [(moths, output), (moths[:1], texts[-1])]
+    for number, (text, (words_of_program, wanted)) in enumerate(zip(blocks_of("c"), given) if has_compiler() else []):
         for words in (["-L", prefix / "lib", "-llizhakoven"], [prefix / "lib/liblizhakoven.a"]):
             made = room / f"example-{number}-{len(words)}"
             if said := compiled_by_c(text, made, *words):
                 yield f"the example in C can't be compiled: {said}"
             else:
-                programs.append([made, GAMES / "moths.game", GAMES / "moths.keys"])
-    wanted = {"python": blocks_of("text")[0], "c": (TOP / "crates/ps_cases/data/games/moths.stdout").read_text()}
-    for program in programs:
+                programs.append(([made, *words_of_program], wanted))
+    for program, wanted in programs:
         done = subprocess.run(program, **how)
-        kind = "python" if program[0] == sys.executable else "c"
-        if (done.returncode, done.stdout) != (0, wanted[kind]):
+        if (done.returncode, done.stdout) != (0, wanted):
             yield f"the example {pathlib.Path(program[0]).name} writes\n{done.stdout}{done.stderr}"

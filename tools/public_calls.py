@@ -3,14 +3,14 @@
 Public are the functions that a crate exports, the methods of types that it exports, and those of traits that it
 exports, once for all types; of crates that others stand on. A call can answer that it is out of memory where its answer
 is a `Result` whose error is `AllocError`, or one of these crates' types that is called `Memory`, has a variant of that name, or
-has a variant with such an error; and so can the command line.
+has a variant with such an error; and so can the command line, and the search of a graph.
 """
 import re
 
 from crates import TOP, read_uses
 
-# What answers a status, and says on standard error that it is out of memory.
-TELLING = ["run_command_line"]
+# What answers a status, and says on standard error that it is out of memory; and what answers how far it came until then.
+TELLING = ["run_command_line", "search"]
 # The names that a crate exports; a type that can say out of memory, and one that may have a variant with such a type; what
 # stands in a source, by lines.
 EXPORT = re.compile(r"^pub use [\w:]*?(\w+|\{[^}]*\});", re.M)

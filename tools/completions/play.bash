@@ -1,11 +1,11 @@
 # Completions of play and ps_play for bash. Sourced by the shell, or found as share/bash-completion/completions/play.
 
-# The games and folders that begin with a word, in COMPREPLY.
+# The games and folders that begin with a word, in COMPREPLY, and files of keys where they are replayed.
 _play_games() {
     local name
     COMPREPLY=()
     while IFS= read -r name; do
-        if [ -d "$name" ] || [[ $name == *.game || $name == *.txt ]]; then
+        if [ -d "$name" ] || [[ $name == *.game || $name == *.txt ]] || [[ $name == *.keys && " ${COMP_WORDS[*]} " == *" --replay "* ]]; then
             COMPREPLY+=("$name")
         fi
     done < <(compgen -f -- "$1")
@@ -38,7 +38,7 @@ _play() {
         return
         ;;
     esac
-    options='--level --fresh --plain --check --why --all --limit --format --warn --strict --solve --states --after --stop-file --help --version'
+    options='--level --fresh --plain --check --why --all --limit --format --warn --strict --solve --states --after --stop-file --replay --help --version'
     case ${COMP_WORDS[0]##*/} in
     ps_play) options+=' --keys --view --sizes --show --describe --explain' ;;
     *) options+=' --page --title --engine --prove --keep --install --library' ;;

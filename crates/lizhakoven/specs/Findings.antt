@@ -5,7 +5,8 @@ use Rattle.ps_model.specs.text.Faults.{first_fault}
 use Rattle.ps_model.specs.game.Games.{Game, faults, game}
 use Rattle.lizhakoven.specs.declared.checking.Finding.{Finding}
 use Rattle.lizhakoven.specs.declared.statuses.Status.{Status}
-use Rattle.lizhakoven.specs.declared.statuses.Status.TheVariants.{Done, Refused, Memory, NoRoom, TooManyKeys}
+use Rattle.lizhakoven.specs.declared.statuses.Status.TheVariants.{Done, Refused, Memory, NoRoom, TooManyKeys, NoLevel}
+use Rattle.lizhakoven.specs.declared.statuses.Status.TheVariants.{Closed, NoObject}
 use Rattle.lizhakoven.specs.ToldFaults.{no_fault, told_fault}
 use Rattle.lizhakoven.specs.ToldSizes.{no_size, told_size}
 
@@ -18,3 +19,6 @@ IsFound text finding Refused = (fault : Fault) × (first_fault (faults text) ≡
 IsFound text finding Memory = finding ≡ record { size = no_size; fault = no_fault }
 IsFound text finding NoRoom = ⊥
 IsFound text finding TooManyKeys = ⊥
+IsFound text finding NoLevel = ⊥
+IsFound text finding Closed = ⊥
+IsFound text finding NoObject = ⊥

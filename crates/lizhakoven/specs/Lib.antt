@@ -1,7 +1,15 @@
+pub mod Calls
 pub mod Findings
 pub mod FreshDevices
+pub mod GameCalls
+pub mod Handles
+pub mod HeldSessions
+pub mod OpenGames
 pub mod Outcomes
+pub mod Places
+pub mod PlayedKeys
 pub mod Runs
 pub mod Statuses
+pub mod Told
 pub mod ToldFaults
 pub mod ToldSizes

@@ -1,7 +1,7 @@
 -- What a run in memory may come to. It writes exactly the output of the text's game on all keys. Where the room, memory
 -- or a run's calls are too few, it writes a front of that and not all of it. Of a text without a game it tells the first
 -- fault, and writes nothing.
-use Rattle.std.specs.Prelude.{◌≡◌, ℕ, ◌≤◌, ◌==◌, nat_lt, Bool, true, false, if◌then◌else◌, ◌⊎◌, List, [], length, Some}
+use Rattle.std.specs.Prelude.{◌≡◌, ℕ, ◌≤◌, ◌==◌, nat_lt, Bool, if◌then◌else◌, ◌⊎◌, List, [], length, Some}
 use Rattle.std.specs.Prelude.{Result, Ok, Err}
 use Rattle.ps_model.specs.declared.limits.TheConstants.{READ_LIMIT}
 use Rattle.ps_model.specs.declared.play.Ending.{Ending}

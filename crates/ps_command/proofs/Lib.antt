@@ -2,4 +2,5 @@ pub mod DetailsBelow
 pub mod GamesTold
 pub mod LinesOnLed
 pub mod LinesOnLevels
+pub mod ReplaysTold
 pub mod ReportsTold

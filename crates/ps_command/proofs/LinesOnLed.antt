@@ -7,7 +7,7 @@ use Rattle.ps_answers.specs.TellsLevels.{Tells}
 use Rattle.ps_answers.specs.declared.forms.Form.{Form}
 use Rattle.ps_devices.specs.Devices.{Loses}
 use Rattle.ps_command.specs.Searched.{IsLineOnRefused, form_of}
-use Rattle.ps_command.specs.SearchedAfter.{IsLineOnUnwon, IsLineOnWon, TellsOfRead, question_after}
+use Rattle.ps_command.specs.SearchedAfter.{IsLineOnUnwon, IsLineOnWon, IsSilentOnRead, TellsOfRead, question_after}
 use Rattle.ps_command.specs.declared.after_keys.SolveAfter.{SolveAfter}
 use Rattle.ps_command.specs.declared.solving.Question.{Question}
 
@@ -53,6 +53,25 @@ told_of_read asked Is question had between left text keys before after is given 
     keys_given = λ others own. subst (λ (l : Option (List ℕ)). Loses l left keys) (ungiven others) (keyed own);
   };
   told = subst (λ (q : Question). Tells (Is q asked.game.now text keys) before after) is told;
+}
+
+-- where nothing is told, the same is so of what was read
+pub silent_on_read :
+    (asked : SolveAfter) (Holds : Question → List ℕ → List ℕ → Type 0) (question : Question)
+    (had between left : Option (List ℕ)) (text keys : List ℕ) (before after : Option (List ℕ)) →
+    question ≡ question_after asked →
+    (asked.game.now ≡ codes "-" → Loses had between text) → (asked.game.now ≢ codes "-" → between ≡ had) →
+    (asked.keys.now ≡ codes "-" → Loses between left keys) → (asked.keys.now ≢ codes "-" → left ≡ between) →
+    Holds question text keys × (after ≡ before) → IsSilentOnRead asked Holds had left before after
+silent_on_read asked Holds question had between left text keys before after is given ungiven keyed unkeyed so = record {
+  text = text;
+  keys = keys;
+  read = record {
+    text_given = λ game others. subst (λ (l : Option (List ℕ)). Loses had l text) (sym (unkeyed others)) (given game);
+    keys_given = λ others own. subst (λ (l : Option (List ℕ)). Loses l left keys) (ungiven others) (keyed own);
+  };
+  holds = subst (λ (q : Question). Holds q text keys) is so.0;
+  silent = so.1;
 }
 
 -- what follows from what is so where all is well, is so then

@@ -1,4 +1,5 @@
 pub mod Details
+pub mod Replayed
 pub mod Reported
 pub mod Searched
 pub mod SearchedAfter

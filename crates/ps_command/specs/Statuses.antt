@@ -33,6 +33,14 @@ abbrev pub stop_of_level : ℕ → LevelFault → Stop
 stop_of_level number (level.NoSuchLevel levels) = stop.NoSuchLevel number levels
 stop_of_level number (level.Run found) = stop.Run found
 
+-- the program doesn't end for a level that is asked for
+abbrev pub NamesNoLevel : Stop → Type 0
+NamesNoLevel end = (end ≢ stop.NoLevelThere) × ((level levels : ℕ) → end ≢ stop.NoSuchLevel level levels)
+
+-- nor for the number of keys that are given
+abbrev pub IsApart : Stop → Type 0
+IsApart end = NamesNoLevel end × (end ≢ stop.TooManyKeys)
+
 -- 2 for what is wrong with a command line, 1 for a fault
 abbrev pub IsStatusOf : Stop → ℕ → Type 0
 IsStatusOf (stop.CommandLine error) status = IsStatusOfLine error status
@@ -48,5 +56,6 @@ IsStatusOf stop.OneInput status = status ≡ 2
 IsStatusOf stop.Game status = status ≡ 1
 IsStatusOf (stop.NoSuchLevel _ _) status = status ≡ 1
 IsStatusOf stop.NoLevelThere status = status ≡ 1
+IsStatusOf stop.TooManyKeys status = status ≡ 1
 IsStatusOf stop.NotAccepted status = status ≡ 1
 IsStatusOf (stop.Run _) status = status ≡ 1

@@ -17,6 +17,7 @@ use crate::details::show_detail;
 use crate::engine::Engine;
 use crate::files::{STANDARD_INPUT, read_game_file, read_input, read_text};
 use crate::playing::play_asked;
+use crate::replaying::replay_asked;
 use crate::reporting::{report_alone, report_texts};
 use crate::showing::show_asked;
 use crate::solving::solve_asked;
@@ -24,6 +25,7 @@ use crate::stops::{Stop, stop_for, tell};
 use ps_answers::LevelSolver;
 use ps_check::{check, check_named};
 use ps_devices::{ByteReader, ByteWriter, Player, RunFault};
+use ps_records::Replayer;
 use ps_report::{Detail, explanation};
 use std::alloc::Global;
 use std::rt::{Env, Files};
@@ -31,34 +33,38 @@ use std::time::Clock;
 use std::{env, io};
 
 /// Does what the command line asks for, with keys from `keys`, unless it names a file of keys, and frames to `screen`.
-/// Games are played and levels searched by `engine`. Gives the status to end with: 0 where a run ended, a text was
-/// accepted, each level can be won or what was asked for was told, 1 at a fault or where a level isn't known to be won,
-/// and 2 at a bad command line. A fault and a bad command line are told on standard error.
+/// Games are played and levels searched by `engine`, and recorded keys are replayed by `replayer`. Gives the status to
+/// end with: 0 where a run ended, a text was accepted, each level can be won, each stream of keys wins or what was asked
+/// for was told, 1 at a fault or where a level isn't known to be won or a game isn't won, and 2 at a bad command line. A
+/// fault and a bad command line are told on standard error.
 pub fn run_command_line<
     R: Env + Files + AllocGlobal + Clock + Print + Eprint,
     P: Player,
     S: LevelSolver,
+    Y: Replayer,
     I: ByteReader,
     O: ByteWriter,
->(rt: &R, engine: &Engine<'_, P, S>, keys: &mut I, screen: &mut O) -> u8
+>(rt: &R, engine: &Engine<'_, P, S>, replayer: &Y, keys: &mut I, screen: &mut O) -> u8
     requires heard { (I.state keys.old).has_failed ≡ false }
     requires well { (O.state screen.old).has_failed ≡ false }
     ensures { result ≤ 2 }
 {
-    match act(rt, engine, keys, screen) {
+    match act(rt, engine, replayer, keys, screen) {
         Ok(()) => 0,
         Err(stop) => tell(rt, stop),
     }
 }
 
-/// Does what the command line asks for: plays a game, checks one, searches its levels, or says what a fault is.
+/// Does what the command line asks for: plays a game, checks one, searches its levels, replays recorded keys, or says what
+/// a fault is.
 fn act<
     R: Env + Files + AllocGlobal + Clock + Print + Eprint,
     P: Player,
     S: LevelSolver,
+    Y: Replayer,
     I: ByteReader,
     O: ByteWriter,
->(rt: &R, engine: &Engine<'_, P, S>, keys: &mut I, screen: &mut O) -> Result<(), Stop>
+>(rt: &R, engine: &Engine<'_, P, S>, replayer: &Y, keys: &mut I, screen: &mut O) -> Result<(), Stop>
     requires heard { (I.state keys.old).has_failed ≡ false }
     requires well { (O.state screen.old).has_failed ≡ false }
 {
@@ -78,6 +84,7 @@ fn act<
         Asked::Show(asked) => show_asked(rt, asked, keys, screen),
         Asked::Solve(asked) => solve_asked(rt, engine, &asked, keys, screen),
         Asked::SolveAfter(asked) => solve_after_asked(rt, engine, asked, keys, screen),
+        Asked::Replay(asked) => replay_asked(rt, replayer, &asked, keys, screen),
         Asked::Play(asked) => play_asked(rt, engine.player, asked, keys, screen),
     }
 }

@@ -1,8 +1,11 @@
 //! A level that is searched from where the keys of a run lead.
 
-ghost use Rattle.std.specs.Prelude.{◌≡◌, ◌≢◌, Err, false, true, IfErr, IfOk, OnOk, codes};
+ghost use Rattle.std.specs.Prelude.{◌≡◌, ◌≢◌, ◌<◌, ◌≤◌, ℕ, length, Err, false, true, IfErr, IfOk, OnOk, codes};
 ghost use Rattle.ps_answers.specs.TellsLevels.{Tells};
-ghost use Rattle.ps_command.specs.SearchedAfter.{IsLineOnUnwon, IsLineOnWon, TellsOfRead, question_after};
+ghost use Rattle.ps_model.specs.declared.limits.TheConstants.{READ_LIMIT};
+ghost use Rattle.ps_command.specs.SearchedAfter.{HasGivenTooMany, IsLineOnUnwon, IsLineOnWon, IsSilentOnRead};
+ghost use Rattle.ps_command.specs.SearchedAfter.{LacksStart, LeadNowhere, TellsOfRead, question_after};
+ghost use Rattle.ps_command.specs.Statuses.{NamesNoLevel};
 ghost use Rattle.ps_command.specs.declared.stops.Stop.TheVariants as Stop;
 ghost use Rattle.ps_devices.specs.Devices.{IsSpent, Loses};
 
@@ -22,7 +25,7 @@ use std::rt::Files;
 use std::time::Clock;
 
 /// How many bytes of keys may be read: as many as a run reads at least, whatever its calls bring.
-const MOST_KEYS: usize = READ_LIMIT as usize;
+pub const MOST_KEYS: usize = READ_LIMIT as usize;
 
 /// A level that is to be searched from where the keys of a run lead.
 #[derive(Clone, Copy)]
@@ -59,8 +62,9 @@ fn question_of(asked: SolveAfter<'_>) -> Question
 /// # Errors
 ///
 /// `NotAccepted` where the level isn't known to be won, or the text is no game; `NoLevelThere` where the keys lead to
-/// no level; `NoSuchLevel` where the game lacks the one at which the run is to begin.
-#[tactic(auto, using(crate::proofs::LinesOnLed::told_of_read))]
+/// no level; `NoSuchLevel` where the game lacks the one at which the run is to begin; `TooManyKeys` where there are
+/// more than may be read. Nothing was told in the last three cases.
+#[tactic(auto, using(crate::proofs::LinesOnLed::told_of_read, crate::proofs::LinesOnLed::silent_on_read))]
 pub fn solve_after_asked<
     R: Files + AllocGlobal + Clock + Eprint,
     P: Player,
@@ -82,6 +86,15 @@ pub fn solve_after_asked<
     ensures unwon { result ≡ Err Stop.NotAccepted →
         TellsOfRead asked.entry IsLineOnUnwon (I.state input.old).remaining (I.state input.new).remaining
         (O.state screen.old).contents (O.state screen.new).contents }
+    ensures nowhere { result ≡ Err Stop.NoLevelThere →
+        IsSilentOnRead asked.entry LeadNowhere (I.state input.old).remaining (I.state input.new).remaining
+        (O.state screen.old).contents (O.state screen.new).contents }
+    ensures lacking { (level levels : ℕ) → result ≡ Err (Stop.NoSuchLevel level levels) →
+        IsSilentOnRead asked.entry (LacksStart level levels) (I.state input.old).remaining
+        (I.state input.new).remaining (O.state screen.old).contents (O.state screen.new).contents }
+    ensures many { result ≡ Err Stop.TooManyKeys → asked.entry.game.now ≢ codes "-" →
+        asked.entry.keys.now ≡ codes "-" →
+        HasGivenTooMany (I.state input.old).remaining (I.state input.new).remaining }
 {
     let text = read_text(rt, asked.game, input)?;
     let keys = read_keys(rt, asked.keys, input)?;
@@ -111,6 +124,12 @@ impl<'s, R: Files + AllocGlobal + Clock + Eprint, S: LevelSolver> Search<'s, R, 
         ensures unwon { result ≡ Err Stop.NotAccepted →
             Tells (IsLineOnUnwon self.now.question path.now text.now keys.now)
             (O.state screen.old).contents (O.state screen.new).contents }
+        ensures nowhere { result ≡ Err Stop.NoLevelThere → LeadNowhere self.now.question text.now keys.now
+            × ((O.state screen.new).contents ≡ (O.state screen.old).contents) }
+        ensures lacking { (level levels : ℕ) → result ≡ Err (Stop.NoSuchLevel level levels) →
+            LacksStart level levels self.now.question text.now keys.now
+            × ((O.state screen.new).contents ≡ (O.state screen.old).contents) }
+        ensures few { result ≢ Err Stop.TooManyKeys }
     {
         match self.solver.open(self.rt.alloc(), text) {
             Ok(game) => self.tell_led(path, &game, keys, screen),
@@ -137,6 +156,13 @@ impl<'s, R: Files + AllocGlobal + Clock + Eprint, S: LevelSolver> Search<'s, R, 
         ensures unwon { result ≡ Err Stop.NotAccepted →
             Tells (IsLineOnUnwon self.now.question path.now (S.Game.text game.now) keys.now)
             (O.state screen.old).contents (O.state screen.new).contents }
+        ensures nowhere { result ≡ Err Stop.NoLevelThere →
+            LeadNowhere self.now.question (S.Game.text game.now) keys.now
+            × ((O.state screen.new).contents ≡ (O.state screen.old).contents) }
+        ensures lacking { (level levels : ℕ) → result ≡ Err (Stop.NoSuchLevel level levels) →
+            LacksStart level levels self.now.question (S.Game.text game.now) keys.now
+            × ((O.state screen.new).contents ≡ (O.state screen.old).contents) }
+        ensures few { result ≢ Err Stop.TooManyKeys }
     {
         let mut progress = SearchProgress::new(self.rt, self.is_watched, self.stop_file);
         let mut teller = LevelTeller {
@@ -169,7 +195,7 @@ impl<'s, R: Files + AllocGlobal + Clock + Eprint, S: LevelSolver> Search<'s, R, 
 ///
 /// # Errors
 ///
-/// `Run` with `Read` where they can't be read, or are more than `MOST_KEYS` bytes.
+/// `Run` with `Read` where they can't be read; `TooManyKeys` where they are more than `MOST_KEYS` bytes.
 fn read_keys<R: Files + AllocGlobal, I: ByteReader>(
     rt: &R,
     path: &str,
@@ -180,7 +206,10 @@ fn read_keys<R: Files + AllocGlobal, I: ByteReader>(
         Loses (I.state input.old).remaining (I.state input.new).remaining keys.items) }
     ensures whole { path.now ≡ codes "-" → OnOk result (IsSpent (I.state input.new).remaining) }
     ensures unasked { path.now ≢ codes "-" → input.new ≡ input.old }
+    ensures many { path.now ≡ codes "-" → result ≡ Err Stop.TooManyKeys →
+        HasGivenTooMany (I.state input.old).remaining (I.state input.new).remaining }
     ensures fault { IfErr result (λ stop. stop ≢ Stop.NotAccepted) }
+    ensures unlevelled { IfErr result NamesNoLevel }
 {
     if path == STANDARD_INPUT {
         return read_keys_given(rt.alloc(), input);
@@ -192,7 +221,7 @@ fn read_keys<R: Files + AllocGlobal, I: ByteReader>(
 }
 
 /// The first bytes of a file, one more than there may be at most.
-fn read_key_file<R: Files + AllocGlobal>(rt: &R, path: &str) -> std::io::Result<Vec<u8>> {
+pub fn read_key_file<R: Files + AllocGlobal>(rt: &R, path: &str) -> std::io::Result<Vec<u8>> {
     let mut keys = Vec::new(rt.alloc());
     fs::open(rt, path)?
         .take(MOST_KEYS as u64 + 1)
@@ -202,22 +231,29 @@ fn read_key_file<R: Files + AllocGlobal>(rt: &R, path: &str) -> std::io::Result<
 
 /// Keys, unless there are more than may be read.
 fn if_few(keys: Vec<u8>) -> Result<Vec<u8>, Stop>
+    ensures few { IfOk result (λ few. length few.items ≤ READ_LIMIT) }
+    ensures many { result ≡ Err Stop.TooManyKeys → READ_LIMIT < length keys.items }
     ensures fault { IfErr result (λ stop. stop ≢ Stop.NotAccepted) }
+    ensures unlevelled { IfErr result NamesNoLevel }
 {
     if keys.len() <= MOST_KEYS {
         Ok(keys)
     } else {
-        Err(Stop::Run(RunFault::Read))
+        Err(Stop::TooManyKeys)
     }
 }
 
 /// What a reader has left, unless it is more than may be read.
-fn read_keys_given<I: ByteReader>(alloc: Global, input: &mut I) -> Result<Vec<u8>, Stop>
+pub fn read_keys_given<I: ByteReader>(alloc: Global, input: &mut I) -> Result<Vec<u8>, Stop>
     requires heard { (I.state input.old).has_failed ≡ false }
+    ensures heard { OnOk result ((I.state input.new).has_failed ≡ false) }
     ensures read { IfOk result (λ keys.
         Loses (I.state input.old).remaining (I.state input.new).remaining keys.items) }
     ensures whole { OnOk result (IsSpent (I.state input.new).remaining) }
+    ensures many { result ≡ Err Stop.TooManyKeys →
+        HasGivenTooMany (I.state input.old).remaining (I.state input.new).remaining }
     ensures fault { IfErr result (λ stop. stop ≢ Stop.NotAccepted) }
+    ensures unlevelled { IfErr result NamesNoLevel }
 {
     let mut keys = Vec::new(alloc);
     let mut piece = [0u8; CALL_LIMIT];
@@ -230,5 +266,5 @@ fn read_keys_given<I: ByteReader>(alloc: Global, input: &mut I) -> Result<Vec<u8
         }
         keys.extend_from_slice(&piece[..count])?;
     }
-    Err(Stop::Run(RunFault::Read))
+    Err(Stop::TooManyKeys)
 }

@@ -2,6 +2,7 @@
 
 use crate::after_keys::SolveAfter;
 use crate::files::STANDARD_INPUT;
+use crate::replay_options::{ReplayStreams, asked_replay, replay_option};
 use crate::report_options::{
     all_option, asked_report, format_option, limit_option, strict_option, wants_report, warn_option,
 };
@@ -66,8 +67,9 @@ const VERSION: &str = "0.3.0";
 /// What help says below the arguments.
 const AFTER_HELP: &str =
     "Keys: w, a, s, d or the arrows move, x acts, z undoes, r restarts, q quits.
-Status: 0 where the run ended, the check accepted or --solve won each level; 1 at a fault, or
-where a level isn't known to be won; 2 at a bad command line.
+Status: 0 where the run ended, the check accepted, --solve won each level or --replay the game
+with each file of keys; 1 at a fault, or where a level isn't known to be won or a game isn't
+won; 2 at a bad command line.
 A fault of the game is told on standard error, as `line 30: RU7 Unbound`; --check tells it
 on standard output.";
 
@@ -97,6 +99,8 @@ pub enum Asked<'w> {
     Solve(Solve<'w>),
     /// The same of the level to which keys lead, from there.
     SolveAfter(SolveAfter<'w>),
+    /// How far the keys of streams get in a game.
+    Replay(ReplayStreams<'w>),
 }
 
 /// What the words of a command line ask for, of which the first is the program's own name.
@@ -118,6 +122,7 @@ pub fn read_command<'w, S: AsStr>(alloc: Global, words: &'w [S]) -> Result<Asked
         .arg(states_option(alloc)?)?
         .arg(after_option(alloc)?)?
         .arg(stop_option(alloc)?)?
+        .arg(replay_option(alloc)?)?
         .arg(level_option(alloc)?)?
         .arg(keys_option(alloc))?
         .arg(view_option(alloc))?
@@ -150,6 +155,9 @@ fn asked_by<'w>(alloc: Global, matches: &ArgMatches<'w>) -> Result<Asked<'w>, St
     };
     if matches.get_flag("solve") {
         return asked_solve(alloc, matches, path, level);
+    }
+    if matches.get_flag("replay") {
+        return asked_replay(alloc, matches, path);
     }
     if wants_report(matches)? {
         return asked_report(alloc, matches, path);
@@ -281,10 +289,12 @@ pub fn all_paths<'w>(
     Ok(paths)
 }
 
-/// Further texts behind `GAME`, which are checked as well.
+/// Further files behind `GAME`: texts that are checked or searched as well, or keys that are replayed.
 fn further_argument(alloc: Global) -> Result<Arg<'static>, AllocError> {
     Arg::new(alloc, "FURTHER")
-        .help("With --check or --solve, further texts; each line begins with the name of its text")
+        .help(
+            "With --check or --solve, further texts, with --replay files of keys; where lines are on several, they begin with names",
+        )
         .action(ArgAction::Append)
         .num_args(1..)
         .requires_arg("TASK")
@@ -418,6 +428,7 @@ fn explain_option(alloc: Global) -> Result<Arg<'static>, AllocError> {
             "states",
             "after",
             "stop-file",
+            "replay",
             "level",
             "keys",
             "view",

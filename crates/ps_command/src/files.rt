@@ -2,6 +2,7 @@
 
 ghost use Rattle.std.specs.Prelude.{◌≡◌, ◌≢◌, ◌+◌, ◌<◌, false, IfErr, IfOk, OnOk, codes, length};
 ghost use Rattle.ps_model.specs.declared.limits.TheConstants.{TEXT_LIMIT};
+ghost use Rattle.ps_command.specs.Statuses.{IsApart};
 ghost use Rattle.ps_command.specs.declared.stops.Stop.TheVariants as Stop;
 ghost use Rattle.ps_devices.specs.Devices.{IsSpent, Loses};
 
@@ -37,6 +38,7 @@ pub fn read_input<I: ByteReader>(alloc: Global, input: &mut I) -> Result<Vec<u8>
     ensures whole { IfOk result (λ text.
         length text.items < TEXT_LIMIT + 1 → IsSpent (I.state input.new).remaining) }
     ensures fault { IfErr result (λ stop. stop ≢ Stop.NotAccepted) }
+    ensures apart { IfErr result IsApart }
 {
     let mut text = Vec::new(alloc);
     let mut piece = [0u8; CALL_LIMIT];
@@ -64,6 +66,7 @@ pub fn read_text<R: Files + AllocGlobal, I: ByteReader>(
         length text.items < TEXT_LIMIT + 1 → IsSpent (I.state input.new).remaining) }
     ensures unasked { path.now ≢ codes "-" → input.new ≡ input.old }
     ensures fault { IfErr result (λ stop. stop ≢ Stop.NotAccepted) }
+    ensures apart { IfErr result IsApart }
 {
     if path == STANDARD_INPUT {
         return read_input(rt.alloc(), input);

@@ -12,6 +12,8 @@ mod details;
 mod engine;
 mod files;
 mod playing;
+mod replay_options;
+mod replaying;
 mod report_options;
 mod reporting;
 mod searches;

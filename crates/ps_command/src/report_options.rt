@@ -54,7 +54,7 @@ pub fn format_option(alloc: Global) -> Result<Arg<'static>, AllocError> {
         .long("format")
         .value_name("FORMAT")
         .help(
-            "Tells what --check or --solve says as text for people or as json for programs; --check also as gnu for editors",
+            "Tells what --check, --solve or --replay says as text for people or as json for programs; --check also as gnu for editors",
         )
         .action(ArgAction::Set)
         .requires_arg("TASK")

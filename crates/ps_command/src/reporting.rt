@@ -6,6 +6,7 @@ ghost use Rattle.ps_command.specs.Reported.{IsReportOfFile, IsReportOfGame, IsRe
 ghost use Rattle.ps_command.specs.Reported.{TellsReportGiven, TellsReportOn};
 ghost use Rattle.ps_command.specs.Told.{TellsInOrder};
 ghost use Rattle.ps_report.specs.Reports.{is_well};
+ghost use Rattle.ps_command.specs.Statuses.{IsApart};
 ghost use Rattle.ps_command.specs.declared.stops.Stop.TheVariants as Stop;
 
 use crate::acts::{Said, tell_unread};
@@ -31,6 +32,7 @@ pub fn report_bytes<O: ByteWriter>(
     ensures told { OnOk result (TellsReportOn how name.now text.now
         (O.state screen.old).contents (O.state screen.new).contents) }
     ensures fault { IfErr result (λ stop. stop ≢ Stop.NotAccepted) }
+    ensures apart { IfErr result IsApart }
 {
     let told = report(alloc, name, text, how)?;
     match write_whole(told.lines.as_bytes(), screen) {

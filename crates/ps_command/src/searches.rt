@@ -59,9 +59,9 @@ pub fn after_option(alloc: Global) -> Result<Arg<'static>, AllocError> {
         .conflicts_with_all(&["check", "keys", "view", "show", "describe"])
 }
 
-/// What several texts can be given for: one of these.
+/// What several files can be given for: one of these.
 pub fn tasks(alloc: Global) -> Result<ArgGroup<'static>, AllocError> {
-    ArgGroup::new(alloc, "TASK").args(&["check", "solve"])
+    ArgGroup::new(alloc, "TASK").args(&["check", "solve", "replay"])
 }
 
 /// How many states a word lets be kept, from 1.

@@ -4,6 +4,7 @@ ghost use Rattle.std.specs.Prelude.{◌≡◌, ◌≢◌, Err, false, true, IfEr
 ghost use Rattle.ps_answers.specs.TellsLevels.{Tells};
 ghost use Rattle.ps_command.specs.Searched.{AreLinesToldOf, AreLinesToldOfText, AreWonLines, IsLineOnRefused};
 ghost use Rattle.ps_command.specs.Searched.{IsRefused, TellsOfGivenText, form_of, how_refused, question_of};
+ghost use Rattle.ps_command.specs.Statuses.{IsApart};
 ghost use Rattle.ps_command.specs.Told.{TellsInOrder};
 ghost use Rattle.ps_command.specs.declared.stops.Stop.TheVariants as Stop;
 
@@ -281,6 +282,7 @@ impl<'s, R: Files + AllocGlobal + Clock + Eprint, S: LevelSolver> Search<'s, R, 
         ensures told { OnOk result (Tells (IsLineOnRefused self.now.question path.now text.now)
             (O.state screen.old).contents (O.state screen.new).contents) }
         ensures fault { IfErr result (λ stop. stop ≢ Stop.NotAccepted) }
+        ensures apart { IfErr result IsApart }
     {
         let how = self.question.how_refused();
         let _ = report_bytes(self.rt.alloc(), path, text, how, screen)?;

@@ -3,7 +3,7 @@
 ghost use Rattle.std.specs.IoError.{error_kind};
 ghost use Rattle.std.specs.Prelude.{◌≡◌, ◌≢◌, ◌≤◌};
 ghost use Rattle.std.specs.declared.io.ErrorKind.TheVariants.{OutOfMemory};
-ghost use Rattle.ps_command.specs.Statuses.{IsStatusOf, IsStatusOfLine};
+ghost use Rattle.ps_command.specs.Statuses.{IsApart, IsStatusOf, IsStatusOfLine};
 
 use clap::error::ErrorKind;
 use ps_check::CheckFault;
@@ -41,13 +41,16 @@ For more information, try '--help'.";
 /// What is told where keys lead to no level.
 const NO_LEVEL_THERE: &str = "the keys lead to no level: to a message, or to the end of the game";
 
+/// What is told where more keys are given to be played before a search than may be read.
+const TOO_MANY_KEYS: &str = "too many keys: at most 16777216 bytes of them are read";
+
 /// What is told where there are several texts, or a word after the text that is no number, and one is to be searched.
 const ONE_GAME: &str = "error: --after takes one GAME, and perhaps the number of a level
 
 For more information, try '--help'.";
 
 /// What is told where a text and keys are both to come from standard input.
-const ONE_INPUT: &str = "error: GAME and the keys of --after can't both be standard input
+const ONE_INPUT: &str = "error: GAME and keys can't both be standard input
 
 For more information, try '--help'.";
 
@@ -80,6 +83,8 @@ pub enum Stop {
     NoSuchLevel { level: usize, levels: usize },
     /// The keys that are played before a search lead to no level.
     NoLevelThere,
+    /// There are more keys to be played before a search than may be read.
+    TooManyKeys,
     /// The text that was checked is no game, or a level isn't known to be won, which was told already.
     NotAccepted,
     /// The run came to a fault, or memory ran out or the screen failed where nothing is played.
@@ -150,6 +155,7 @@ pub fn stop_for(error: io::Error, other: Stop) -> Stop
     ensures memory { error_kind error ≡ OutOfMemory → result ≡ Stop.Run RunFault.Memory }
     ensures other { error_kind error ≢ OutOfMemory → result ≡ other }
     ensures fault { other ≢ Stop.NotAccepted → result ≢ Stop.NotAccepted }
+    ensures apart { IsApart other → IsApart result }
 {
     if error.kind() == io::ErrorKind::OutOfMemory {
         Stop::Run(RunFault::Memory)
@@ -202,6 +208,9 @@ pub fn tell<R: Print + Eprint>(rt: &R, stop: Stop) -> u8
         Stop::NoSuchLevel { level, levels } => tell_no_such_level(rt, "", level, levels),
         Stop::NoLevelThere => {
             let _ = rt.eprintln(NO_LEVEL_THERE);
+        }
+        Stop::TooManyKeys => {
+            let _ = rt.eprintln(TOO_MANY_KEYS);
         }
         Stop::NotAccepted => {}
         Stop::Run(fault) => {

@@ -95,9 +95,9 @@ alike-without names rule a b idle h state shape =
           subst (λ (result : Result). IsGridOf names result.state.grid) none one.grid;
     }
 
--- one rule more, if it can do something
+-- one rule more, if it isn't void
 alike-kept : (names : Names) (rule : CompiledRule) (rules : List CompiledRule) (b : List RuleMeaning) (idle : Bool) →
-    is_idle rule ≡ idle → Alike names (meaning_of_rule rule ∷ map meaning_of_rule rules) b →
+    is_idle names rule ≡ idle → Alike names (meaning_of_rule rule ∷ map meaning_of_rule rules) b →
     Alike names (map meaning_of_rule (cond (not idle) (rule ∷ rules) rules)) b
 alike-kept names rule rules b true e h = alike-without names (meaning_of_rule rule) (map meaning_of_rule rules) b
     (idle-so names rule e) h
@@ -111,13 +111,13 @@ one-alike names rule meant same =
     round-same names (meaning_of_rule rule ∷ []) (meant ∷ []) (same, tt) state shape))
 
 compact-alike : (names : Names) (rules : List CompiledRule) (meant : List RuleMeaning) →
-    AllZip (SameRule names) (map meaning_of_rule rules) meant → Alike names (map meaning_of_rule (compact rules)) meant
+    AllZip (SameRule names) (map meaning_of_rule rules) meant → Alike names (map meaning_of_rule (compact names rules)) meant
 compact-alike names [] [] h = λ state shape. record { equal = refl; grid = shape }
 compact-alike names [] (m ∷ ms) h = absurd h
 compact-alike names (rule ∷ rules) [] h = absurd h
 compact-alike names (rule ∷ rules) (m ∷ ms) h =
-    alike-kept names (rule_forwards rule) (compact rules) (m ∷ ms) (is_idle (rule_forwards rule)) refl
-    (alike-append names (meaning_of_rule (rule_forwards rule) ∷ []) (m ∷ []) (map meaning_of_rule (compact rules)) ms
+    alike-kept names (rule_forwards rule) (compact names rules) (m ∷ ms) (is_idle names (rule_forwards rule)) refl
+    (alike-append names (meaning_of_rule (rule_forwards rule) ∷ []) (m ∷ []) (map meaning_of_rule (compact names rules)) ms
     (one-alike names rule m h.0) (compact-alike names rules ms h.1))
 
 -- programs ------------------------------------------------------------------------------------------------------------

@@ -1,4 +1,4 @@
--- Compiled rules that can do nothing do nothing on their game.
+-- Void rules do nothing on their game.
 use Rattle.std.proofs.Common.{◌≡◌, ℕ, suc, zero, Bool, true, false, ◌&&◌, ◌||◌, not, Option, Some, None, List, [], ◌∷◌}
 use Rattle.std.proofs.Common.{◌++◌, map, refl, sym, subst, ap, ap₂, arith}
 use Rattle.std.specs.Prelude.{All, is_some}
@@ -13,11 +13,9 @@ use Rattle.ps_model.specs.meaning.Compiled.{CompiledCell, CompiledRule, meaning_
 use Rattle.ps_laws.specs.IdleRules.{IsIdle, LeavesAll}
 use Rattle.ps_laws.proofs.common.Everywhere.{All-mapped}
 use Rattle.ps_laws.proofs.alike.IdleRules.{idle-fitting_none, idle-leaving_all, queue-left}
-use Rattle.ps_program.specs.Leaving.{leaves}
 use Rattle.ps_program.proofs.FittingMasks.{Sought, found-in, all-true}
-use Rattle.ps_program.proofs.LeavingCells.{leaves-cell}
-use Rattle.ps_compile.specs.IdleRules.{is_void_cell, asks, has_void_cell, leaves_all, is_idle}
-use Rattle.ps_compile.proofs.IdleCells.{void-fits}
+use Rattle.ps_compile.specs.IdleRules.{is_void_cell, leaves_what_fits, asks, has_void_cell, leaves_all, is_idle}
+use Rattle.ps_compile.proofs.IdleCells.{void-fits, leaving-same}
 
 -- commands ------------------------------------------------------------------------------------------------------------
 
@@ -94,10 +92,10 @@ joined (first ∷ row) part cell (suc k, within, e) h =
     behind first (cells_in row) cell (joined row part cell (k, omega (arith, within), e) h)
 
 -- a rule with a cell that fits nothing
-void-idle : (names : Names) (rule : CompiledRule) → has_void_cell rule ≡ true → IsIdle names (meaning_of_rule rule)
-void-idle names rule any = by-row (found-in (list_any (list_any is_void_cell)) rule.rows any) where
+void-idle : (names : Names) (rule : CompiledRule) → has_void_cell names rule ≡ true → IsIdle names (meaning_of_rule rule)
+void-idle names rule any = by-row (found-in (list_any (list_any (is_void_cell names))) rule.rows any) where
   by-cell : (row : List (List CompiledCell)) → Contains rule.rows row → (part : List CompiledCell) →
-      Contains row part → Sought is_void_cell part → IsIdle names (meaning_of_rule rule)
+      Contains row part → Sought (is_void_cell names) part → IsIdle names (meaning_of_rule rule)
   by-cell row row_in part part_in (cell, cell_in, void) =
       idle-fitting_none names (meaning_of_rule rule) (meaning_of_cell cell) (
         map (map meaning_of_cell) row,
@@ -105,41 +103,43 @@ void-idle names rule any = by-row (found-in (list_any (list_any is_void_cell)) r
         joined (map (map meaning_of_cell) row) (map meaning_of_cell part) (meaning_of_cell cell)
             (Contains-map (map meaning_of_cell) row part part_in) (Contains-map meaning_of_cell part cell cell_in),
       )
-      (λ slots of_game. void-fits cell.mask slots void)
+      (λ slots of_game. void-fits names cell slots void of_game)
 
-  by-part : (row : List (List CompiledCell)) → Contains rule.rows row → Sought (list_any is_void_cell) row →
+  by-part : (row : List (List CompiledCell)) → Contains rule.rows row → Sought (list_any (is_void_cell names)) row →
       IsIdle names (meaning_of_rule rule)
-  by-part row row_in (part, part_in, any) = by-cell row row_in part part_in (found-in is_void_cell part any)
+  by-part row row_in (part, part_in, any) = by-cell row row_in part part_in (found-in (is_void_cell names) part any)
 
-  by-row : Sought (list_any (list_any is_void_cell)) rule.rows → IsIdle names (meaning_of_rule rule)
-  by-row (row, row_in, any) = by-part row row_in (found-in (list_any is_void_cell) row any)
+  by-row : Sought (list_any (list_any (is_void_cell names))) rule.rows → IsIdle names (meaning_of_rule rule)
+  by-row (row, row_in, any) = by-part row row_in (found-in (list_any (is_void_cell names)) row any)
 
 -- a rule whose cells leave what they fit
-leaving-idle : (names : Names) (rule : CompiledRule) → rule.commands ≡ no_commands → leaves_all rule ≡ true →
-    IsIdle names (meaning_of_rule rule)
+leaving-idle : (names : Names) (rule : CompiledRule) → rule.commands ≡ no_commands →
+    leaves_all names rule ≡ true → IsIdle names (meaning_of_rule rule)
 leaving-idle names rule none all =
     idle-leaving_all names (meaning_of_rule rule) none
     (All-mapped (All (All (LeavesAll names))) (λ row.
-    list_all (list_all leaves) row ≡ true) (map (map meaning_of_cell)) rule.rows
-    (λ row each. All-mapped (All (LeavesAll names)) (λ part. list_all leaves part ≡ true) (map meaning_of_cell) row
-    (λ part every. All-mapped (LeavesAll names) (λ cell. leaves cell ≡ true) meaning_of_cell part
-    (λ cell stays slots of_game fits. leaves-cell cell slots stays fits) (all-true leaves part every))
-    (all-true (list_all leaves) row each)) (all-true (list_all (list_all leaves)) rule.rows all))
+    list_all (list_all (leaves_what_fits names)) row ≡ true) (map (map meaning_of_cell)) rule.rows
+    (λ row each. All-mapped (All (LeavesAll names)) (λ part. list_all (leaves_what_fits names) part ≡ true)
+    (map meaning_of_cell) row
+    (λ part every. All-mapped (LeavesAll names) (λ cell. leaves_what_fits names cell ≡ true) meaning_of_cell part
+    (λ cell stays slots of_game fits. leaving-same names cell slots stays of_game fits)
+    (all-true (leaves_what_fits names) part every))
+    (all-true (list_all (leaves_what_fits names)) row each)) (all-true (list_all (list_all (leaves_what_fits names))) rule.rows all))
 
 -- a rule that can do nothing
 quiet-idle : (names : Names) (rule : CompiledRule) → rule.commands ≡ no_commands → (rewrites : Bool) →
-    rule.rewrites ≡ rewrites → (not rewrites || leaves_all rule) ≡ true → IsIdle names (meaning_of_rule rule)
+    rule.rewrites ≡ rewrites → (not rewrites || leaves_all names rule) ≡ true → IsIdle names (meaning_of_rule rule)
 quiet-idle names rule none true e h = leaving-idle names rule none h
 quiet-idle names rule none false e h = silent-idle names (meaning_of_rule rule) e none
 
-idle-by : (names : Names) (rule : CompiledRule) (void : Bool) → has_void_cell rule ≡ void →
-    (void || (not (asks rule.commands) && (not rule.rewrites || leaves_all rule))) ≡ true →
+idle-by : (names : Names) (rule : CompiledRule) (void : Bool) → has_void_cell names rule ≡ void →
+    (void || (not (asks rule.commands) && (not rule.rewrites || leaves_all names rule))) ≡ true →
     IsIdle names (meaning_of_rule rule)
 idle-by names rule true e h = void-idle names rule e
 idle-by names rule false e h =
-    let parts = and_parts (not (asks rule.commands)) (not rule.rewrites || leaves_all rule) h in
+    let parts = and_parts (not (asks rule.commands)) (not rule.rewrites || leaves_all names rule) h in
     quiet-idle names rule (quiet-commands rule.commands (not-true (asks rule.commands) parts.0)) rule.rewrites refl
     parts.1
 
-pub idle-so : (names : Names) (rule : CompiledRule) → is_idle rule ≡ true → IsIdle names (meaning_of_rule rule)
-idle-so names rule e = idle-by names rule (has_void_cell rule) refl e
+pub idle-so : (names : Names) (rule : CompiledRule) → is_idle names rule ≡ true → IsIdle names (meaning_of_rule rule)
+idle-so names rule e = idle-by names rule (has_void_cell names rule) refl e

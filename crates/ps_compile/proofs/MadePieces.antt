@@ -137,19 +137,23 @@ kept_more {A} {B} p f made grown all d xs i less stays e before =
     (ap (λ (pass : Bool). map f (cond pass (x ∷ rest) rest)) stays) less refl (e ∙ sym (append-nil made)) before
 
 -- one more is made of what passes
-passed : {A : Type 0} (f : A → CompiledRule) (x : A) (xs : List A) (made : List CompiledRule) (yes : Bool) →
-    (made ++ compact (cond yes (f x ∷ []) [])) ++ compact (map f xs) ≡ made ++ compact (map f (cond yes (x ∷ xs) xs))
-passed f x xs made true = compact-more made (compact (map f xs)) (rule_forwards (f x)) (is_busy (rule_forwards (f x)))
-passed f x xs made false = ap (λ l. l ++ compact (map f xs)) (append-nil made)
+passed : {A : Type 0} (names : Names) (f : A → CompiledRule) (x : A) (xs : List A) (made : List CompiledRule)
+    (yes : Bool) → (made ++ compact names (cond yes (f x ∷ []) [])) ++ compact names (map f xs)
+    ≡ made ++ compact names (map f (cond yes (x ∷ xs) xs))
+passed names f x xs made true =
+    compact-more made (compact names (map f xs)) (rule_forwards (f x)) (is_busy names (rule_forwards (f x)))
+passed names f x xs made false = ap (λ l. l ++ compact names (map f xs)) (append-nil made)
 
 pub read-more : (names : Names) (rule : SourceRule) (reading : Reading) (left before : List Reading)
     (made grown all : List CompiledRule) → before ≡ reading ∷ left →
-    grown ≡ made ++ compact (rule_if names rule reading) →
-    made ++ compact (map (rule_by names rule) (filter (is_possible names rule) before)) ≡ all →
-    grown ++ compact (map (rule_by names rule) (filter (is_possible names rule) left)) ≡ all
+    grown ≡ made ++ compact names (rule_if names rule reading) →
+    made ++ compact names (map (rule_by names rule) (filter (is_possible names rule) before)) ≡ all →
+    grown ++ compact names (map (rule_by names rule) (filter (is_possible names rule) left)) ≡ all
 read-more names rule reading left before made grown all e g invariant =
-    ap (λ (l : List CompiledRule). l ++ compact (map (rule_by names rule) (filter (is_possible names rule) left))) g
-    ∙ passed (rule_by names rule) reading (filter (is_possible names rule) left) made (is_possible names rule reading)
-    ∙ ap (λ (readings : List Reading). made ++ compact
+    ap (λ (l : List CompiledRule).
+    l ++ compact names (map (rule_by names rule) (filter (is_possible names rule) left))) g
+    ∙ passed names (rule_by names rule) reading (filter (is_possible names rule) left) made
+    (is_possible names rule reading)
+    ∙ ap (λ (readings : List Reading). made ++ compact names
     (map (rule_by names rule) (filter (is_possible names rule) readings))) (sym e)
     ∙ invariant

@@ -115,7 +115,7 @@ turned-game names rule h = record {
 compact_rules-game : (names : Names) (rule : SourceRule) → IsWholeRuleOf names rule →
     All (IsCompiledRuleOf names) (compact_rules names rule)
 compact_rules-game names rule h =
-    All-filter is_busy (IsCompiledRuleOf names) (map rule_forwards (compiled_rules names rule))
+    All-filter (is_busy names) (IsCompiledRuleOf names) (map rule_forwards (compiled_rules names rule))
     (All-mapped (IsCompiledRuleOf names) (IsCompiledRuleOf names) rule_forwards (compiled_rules names rule)
     (λ made of_game. either_one (IsCompiledRuleOf names) (faces_back made.direction) (rule_turned made) made
     (turned-game names made of_game) of_game) (compiled_rules-game names rule h.0 h.1))

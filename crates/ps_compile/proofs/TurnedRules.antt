@@ -94,16 +94,16 @@ made-rule names rule source reading direction backwards rows s d b e =
 -- what is put last of a reading
 pub compact-possible : (names : Names) (rule : SourceRule) (reading : Reading) (made grown : List CompiledRule)
     (one : CompiledRule) → one ≡ rule_forwards (rule_by names rule reading) →
-    grown ≡ made ++ filter is_busy (one ∷ []) →
-    is_possible names rule reading ≡ true → grown ≡ made ++ compact (rule_if names rule reading)
+    grown ≡ made ++ filter (is_busy names) (one ∷ []) →
+    is_possible names rule reading ≡ true → grown ≡ made ++ compact names (rule_if names rule reading)
 compact-possible names rule reading made grown one e g possible =
-    g ∙ ap (λ (r : CompiledRule). made ++ filter is_busy (r ∷ [])) e
-    ∙ sym (ap (λ (yes : Bool). made ++ compact (cond yes (rule_by names rule reading ∷ []) [])) possible)
+    g ∙ ap (λ (r : CompiledRule). made ++ filter (is_busy names) (r ∷ [])) e
+    ∙ sym (ap (λ (yes : Bool). made ++ compact names (cond yes (rule_by names rule reading ∷ []) [])) possible)
 
 pub compact-impossible : (names : Names) (rule : SourceRule) (reading : Reading) (made : List CompiledRule) →
-    is_possible names rule reading ≡ false → made ≡ made ++ compact (rule_if names rule reading)
+    is_possible names rule reading ≡ false → made ≡ made ++ compact names (rule_if names rule reading)
 compact-impossible names rule reading made impossible = sym (append-nil made)
-    ∙ sym (ap (λ (yes : Bool). made ++ compact (cond yes (rule_by names rule reading ∷ []) [])) impossible)
+    ∙ sym (ap (λ (yes : Bool). made ++ compact names (cond yes (rule_by names rule reading ∷ []) [])) impossible)
 
 -- one rule more, if it can do something
 pub compact-more : (made rest : List CompiledRule) (rule : CompiledRule) (busy : Bool) →

@@ -30,17 +30,17 @@ rule_turned rule = record rule { direction = opposite rule.direction; rows = map
 abbrev pub rule_forwards : CompiledRule → CompiledRule
 rule_forwards rule = if faces_back rule.direction then rule_turned rule else rule
 
--- the rule can do something
-abbrev pub is_busy : CompiledRule → Bool
-is_busy rule = not (is_idle rule)
+-- the rule isn't void
+abbrev pub is_busy : Names → CompiledRule → Bool
+is_busy names rule = not (is_idle names rule)
 
--- compiled rules facing down or right, without those that can do nothing
-abbrev pub compact : List CompiledRule → List CompiledRule
-compact rules = filter is_busy (map rule_forwards rules)
+-- compiled rules facing down or right, without the void ones
+abbrev pub compact : Names → List CompiledRule → List CompiledRule
+compact names rules = filter (is_busy names) (map rule_forwards rules)
 
 -- those of a source rule
 abbrev pub compact_rules : Names → SourceRule → List CompiledRule
-compact_rules names rule = compact (compiled_rules names rule)
+compact_rules names rule = compact names (compiled_rules names rule)
 
 -- programs ------------------------------------------------------------------------------------------------------------
 

@@ -1,16 +1,22 @@
--- Compiled rules that can do nothing, as their masks and writes tell at once: those with a cell that asks for what it
--- bars; and those that ask nothing of the turn and leave each cell that they fit as it is.
-use Rattle.std.specs.Prelude.{Bool, ◌&&◌, ◌||◌, not, is_some}
+-- Void rules: compiled rules that can do nothing, as the values of their cells' layers tell. A rule is void if some cell
+-- has a layer of which no value fits; and if it asks nothing of the turn and in every cell the write leaves each fitting
+-- value of each layer as it is.
+use Rattle.std.specs.Prelude.{Bool, true, false, ◌&&◌, ◌||◌, not, is_some}
 use Rattle.std.specs.List.{list_all, list_any}
+use Rattle.ps_model.specs.names.Names.{Names}
 use Rattle.ps_model.specs.rules.SourceRules.{Commands}
-use Rattle.ps_model.specs.meaning.Compiled.{CellMask, CompiledCell, CompiledRule}
-use Rattle.ps_program.specs.Leaving.{is_listed, leaves}
+use Rattle.ps_model.specs.meaning.Compiled.{CompiledCell, CompiledRule}
+use Rattle.ps_compile.specs.LayerValues.{some_below, some_value}
 
--- cells that fit nothing ----------------------------------------------------------------------------------------------
+-- cells ---------------------------------------------------------------------------------------------------------------
 
--- a mask that fits nothing: it needs an object that it bars, or one of a list of which it bars all
-abbrev pub is_void : CellMask → Bool
-is_void mask = list_any (is_listed mask.barred) mask.needed || list_any (list_all (is_listed mask.barred)) mask.one_of
+-- a cell fits nothing: it has a layer of which no value fits
+abbrev pub is_void_cell : Names → CompiledCell → Bool
+is_void_cell names cell = some_below (λ layer. not (some_value names cell false layer)) names.layer_count
+
+-- a cell leaves what it fits as it is: it has no layer of which a value fits and is changed
+abbrev pub leaves_what_fits : Names → CompiledCell → Bool
+leaves_what_fits names cell = not (some_below (some_value names cell true) names.layer_count)
 
 -- rules ---------------------------------------------------------------------------------------------------------------
 
@@ -20,18 +26,15 @@ asks commands =
     commands.cancel || (commands.restart || (commands.again ||
     (commands.checkpoint || (commands.win || is_some commands.message))))
 
--- a cell fits nothing
-abbrev pub is_void_cell : CompiledCell → Bool
-is_void_cell cell = is_void cell.mask
+-- some cell of a rule fits nothing
+abbrev pub has_void_cell : Names → CompiledRule → Bool
+has_void_cell names rule = list_any (list_any (list_any (is_void_cell names))) rule.rows
 
--- some cell of a rule does
-abbrev pub has_void_cell : CompiledRule → Bool
-has_void_cell rule = list_any (list_any (list_any is_void_cell)) rule.rows
+-- all cells of a rule leave what they fit as it is
+abbrev pub leaves_all : Names → CompiledRule → Bool
+leaves_all names rule = list_all (list_all (list_all (leaves_what_fits names))) rule.rows
 
--- all cells of a rule leave what they fit
-abbrev pub leaves_all : CompiledRule → Bool
-leaves_all rule = list_all (list_all (list_all leaves)) rule.rows
-
--- a rule can do nothing
-abbrev pub is_idle : CompiledRule → Bool
-is_idle rule = has_void_cell rule || (not (asks rule.commands) && (not rule.rewrites || leaves_all rule))
+-- a rule is void
+abbrev pub is_idle : Names → CompiledRule → Bool
+is_idle names rule =
+    has_void_cell names rule || (not (asks rule.commands) && (not rule.rewrites || leaves_all names rule))

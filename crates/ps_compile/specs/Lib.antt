@@ -1,8 +1,10 @@
 pub mod AlikeRuns
+pub mod Claims
 pub mod CompactPrograms
 pub mod GroupsMade
 pub mod GroupsWith
 pub mod IdleRules
+pub mod LayerValues
 pub mod OpenGroups
 pub mod PiecesShown
 pub mod PossibleRules

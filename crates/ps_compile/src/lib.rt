@@ -9,6 +9,7 @@ mod pieces;
 mod program;
 mod rules;
 mod turning;
+mod values;
 mod writes;
 
 pub use program::{CompiledPrograms, compile};

@@ -169,19 +169,23 @@ fn rule_by<'r>(
     Ok(made)
 }
 
-/// Puts a compiled rule last, unless it can do nothing.
-fn push_if_busy<'r>(rules: &mut Vec<CompiledRule<'r>>, rule: CompiledRule<'r>) -> Result<(), Memory>
+/// Puts a compiled rule last, unless it is void.
+fn push_if_busy<'r>(
+    rules: &mut Vec<CompiledRule<'r>>,
+    names: &Names,
+    rule: CompiledRule<'r>,
+) -> Result<(), Memory>
     ensures { OnOk result (rules_shown rules.new.items
-        ≡ rules_shown rules.old.items ++ filter is_busy (rule_shown rule.entry ∷ [])) }
+        ≡ rules_shown rules.old.items ++ filter (is_busy names.now) (rule_shown rule.entry ∷ [])) }
 {
-    if is_idle(&rule) {
+    if is_idle(names, &rule) {
         return Ok(());
     }
     rules.push(rule)?;
     Ok(())
 }
 
-/// Puts the compiled rule of a reading last, if it is possible and can do something.
+/// Puts the compiled rule of a reading last, if it is possible and isn't void.
 fn push_if_possible<'r>(
     alloc: Global,
     rules: &mut Vec<CompiledRule<'r>>,
@@ -191,13 +195,14 @@ fn push_if_possible<'r>(
 ) -> Result<(), Memory>
     requires { HasWholeRows occurrences.now }
     ensures { OnOk result (rules_shown rules.new.items
-        ≡ rules_shown rules.old.items ++ compact (rule_if names.now occurrences.now (reading_shown reading.now))) }
+        ≡ rules_shown rules.old.items
+        ++ compact names.now (rule_if names.now occurrences.now (reading_shown reading.now))) }
 {
     if !is_possible(alloc, names, occurrences, reading)? {
         return Ok(());
     }
     let rule = rule_by(alloc, names, occurrences, reading)?;
-    push_if_busy(rules, rule)
+    push_if_busy(rules, names, rule)
 }
 
 /// Puts the compiled rules of the readings that are left last.

@@ -11,4 +11,5 @@ mod without_glyph;
 
 pub use described::describe;
 pub use facts::{GameFacts, facts_of};
+pub use object_names::name_of_object;
 pub use ps_model::{Fault, Memory, Options, Refusal};

@@ -5,6 +5,7 @@
 
 use ps_command::{Engine, run_command_line};
 use ps_devices::FromStd;
+use ps_replay::GameReplayer;
 use ps_run::GamePlayer;
 use ps_solve::GameSolver;
 use std::io::IsTerminal;
@@ -18,5 +19,6 @@ fn main(rt: HostRuntime) -> ExitCode {
         solver: &GameSolver,
         is_watched: rt.stderr().is_terminal(),
     };
-    ExitCode::from(run_command_line(&rt, &engine, &mut keys, &mut screen))
+    let status = run_command_line(&rt, &engine, &GameReplayer, &mut keys, &mut screen);
+    ExitCode::from(status)
 }

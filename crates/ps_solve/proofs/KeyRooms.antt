@@ -22,3 +22,11 @@ spot_key_room n few =
     let three = up_four (up 4 (0 + up 8 (0 + n * 8)) + 4) in
     let four = up_eight (up 4 (up 4 (0 + up 8 (0 + n * 8)) + 4) + 12) in
     omega arith
+
+-- that of what is kept of a spot
+pub kept_key_room : (n : ℕ) → n ≤ 64 → up 8 (up 4 (0 + up 8 (0 + n * 8)) + 4) < 9223372036854775808
+kept_key_room n few =
+    let one = up_eight (0 + n * 8) in
+    let two = up_four (0 + up 8 (0 + n * 8)) in
+    let three = up_eight (up 4 (0 + up 8 (0 + n * 8)) + 4) in
+    omega arith

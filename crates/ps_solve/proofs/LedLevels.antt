@@ -5,14 +5,12 @@ use Rattle.ps_model.specs.board.Turns.{Script, script_at, script_of}
 use Rattle.ps_model.specs.declared.play.Key.{Key}
 use Rattle.ps_model.specs.game.Games.{Game, game}
 use Rattle.ps_model.specs.game.LevelRuns.{level_entry}
-use Rattle.ps_model.specs.game.Outputs.{opening_step}
 use Rattle.ps_model.specs.session.Keys.{keys_of}
 use Rattle.ps_model.specs.session.LevelLines.{Entry}
 use Rattle.ps_model.specs.session.Sessions.{Session, is_level}
-use Rattle.ps_laws.specs.Fronts.{session_after, session_of}
+use Rattle.ps_laws.specs.Fronts.{session_of}
 use Rattle.ps_run.proofs.Rightly.{script_found}
 use Rattle.ps_answers.specs.SolvedAfterKeys.{IsSolvedAfterKeys, IsTrueThere, script_from}
-use Rattle.ps_answers.specs.declared.solved.Solved.{Solved}
 use Rattle.ps_answers.specs.declared.solved.SolvedAfter.{SolvedAfter}
 use Rattle.ps_answers.specs.declared.solved.SolvedAfter.TheVariants as after
 use Rattle.ps_solve.specs.ReadTexts.{ReadText}

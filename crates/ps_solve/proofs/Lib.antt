@@ -1,5 +1,6 @@
 mod SearchedSpots
 mod KeptKeys
+mod KeptSituations
 mod Led
 mod KeyRooms
 mod Standing

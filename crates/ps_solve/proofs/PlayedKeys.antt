@@ -14,7 +14,7 @@ use Rattle.ps_model.specs.session.KeySteps.{key_step}
 use Rattle.ps_model.specs.session.Sessions.{Session}
 use Rattle.ps_model.specs.session.Solving.{session_after_inputs}
 use Rattle.ps_laws.specs.AlikeScripts.{SameRuns}
-use Rattle.ps_laws.specs.Fronts.{session_after, session_of}
+use Rattle.ps_laws.specs.Fronts.{session_after}
 use Rattle.ps_laws.proofs.keys.Fronts.{session_after-append}
 
 -- the byte of a key

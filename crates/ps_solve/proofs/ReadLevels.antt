@@ -5,7 +5,7 @@ use Rattle.std.proofs.Common.{sym, ap, arith}
 use Rattle.std.specs.Prelude.{All, slice_get}
 use Rattle.std.proofs.lemmas.Bool.{true≢false}
 use Rattle.std.proofs.lemmas.Option.{same_Some}
-use Rattle.ps_model.specs.board.Turns.{Script, script_at}
+use Rattle.ps_model.specs.board.Turns.{script_at}
 use Rattle.ps_model.specs.game.Games.{Game, game}
 use Rattle.ps_model.specs.game.LevelRuns.{is_level_found, level_count, level_entry}
 use Rattle.ps_model.specs.game.Outputs.{opening_step}

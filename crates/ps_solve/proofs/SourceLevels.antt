@@ -1,12 +1,10 @@
 -- What an answer says of a game in play is true of the game as its text means it.
-use Rattle.std.proofs.Common.{◌≡◌, ◌∙◌, ◌≢◌, ℕ, List, Option, Some, None, Ok, Err, Result, sym, ap, subst}
-use Rattle.ps_model.specs.declared.play.Input.{Input}
+use Rattle.std.proofs.Common.{◌≡◌, ◌∙◌, ◌≢◌, ℕ, List, Option, Some, Err, sym, ap, subst}
 use Rattle.ps_model.specs.declared.play.Key.{Key}
 use Rattle.ps_model.specs.board.Turns.{Script, script_at}
 use Rattle.ps_model.specs.game.Games.{Game, game}
 use Rattle.ps_model.specs.meaning.Compiled as model
 use Rattle.ps_model.specs.names.Names.{Names}
-use Rattle.ps_model.specs.game.Outputs.{opening_step}
 use Rattle.ps_model.specs.session.Sessions.{Session}
 use Rattle.ps_model.specs.session.Solving.{session_after_inputs}
 use Rattle.ps_laws.specs.AlikeScripts.{SameRuns}
@@ -24,10 +22,8 @@ use Rattle.ps_run.proofs.Scripts.{own_table, script_is}
 use Rattle.ps_solve.specs.declared.solved.NotSearched.{NotSearched}
 use Rattle.ps_solve.specs.declared.solved.NotSearched.TheVariants.{NoLevel}
 use Rattle.ps_solve.specs.declared.solved.NotSearched.TheVariants as not_searched
-use Rattle.ps_answers.specs.SolvedLevels.{IsSolved}
-use Rattle.ps_answers.specs.declared.solved.Solved.{Solved}
 use Rattle.ps_solve.specs.declared.solved.SolvedHere.{SolvedHere}
-use Rattle.ps_solve.specs.SolvedLevels.{IsSolvedAfter, IsSolvedAt, IsSolvedHere, IsSolvedIn, IsIn, entry_in}
+use Rattle.ps_solve.specs.SolvedLevels.{IsSolvedAfter, IsSolvedAt, IsSolvedHere, IsIn}
 use Rattle.ps_solve.proofs.AlikeLevels.{here_alike, in_one_level}
 use Rattle.ps_solve.proofs.PlayedKeys.{played, same_inputs}
 

@@ -1,4 +1,5 @@
 pub mod SpotKeys
 pub mod Searches
+pub mod Situations
 pub mod SolvedLevels
 pub mod ReadTexts

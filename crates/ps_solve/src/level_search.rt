@@ -1,38 +1,23 @@
 //! The search of a level.
 
-ghost use Rattle.std.specs.Prelude.{◌≡◌, ◌<◌, ◌≤◌, ℕ, IfOk, Option, Some, length};
-ghost use Rattle.ps_model.specs.session.Sessions.{Session};
-ghost use Rattle.ps_model.specs.session.Solving.{Spot, spot};
-ghost use Rattle.ps_model.specs.board.Turns.{Script};
+ghost use Rattle.std.specs.Prelude.{◌≡◌, ◌<◌, ◌≤◌, IfOk, Option, length};
+ghost use Rattle.ps_model.specs.session.Solving.{Spot};
 ghost use Rattle.ps_search.specs.Steps.{IsStep};
-ghost use Rattle.ps_trial.specs.Scripts.{PlaysAs};
 ghost use Rattle.ps_trial.specs.SilentStarts.{spot_with};
 ghost use Rattle.ps_trial.specs.Told.{pressed_shown, waits_shown};
 ghost use Rattle.ps_solve.specs.Searches.{key_parts, played_by, script_of, start_of};
-ghost use Rattle.ps_answers.specs.SolvedLevels.{IsSolved};
 ghost use Rattle.ps_solve.specs.SpotKeys.{IsAt, IsSpotKey, KeepsKeys, spot_at};
 
 use crate::own_boards::OwnBoard;
-use crate::solved::told;
 use crate::spot_keys::{SpotKey, SpotKeys};
-use ps_answers::Solved;
 use ps_board::ColumnWords;
 use ps_model::Input;
 use ps_rows::{NotPacked, RowBoard};
 use ps_rulebook::GameRules;
-use ps_search::{Moves, Step, Watcher, search};
+use ps_search::{Moves, Step};
 use ps_trial::{Pending, Pressed, Trial, TurnRules};
 use std::alloc::Global;
 use std::marker::Model;
-
-/// The inputs that are tried at each spot, in the order of the keys `w`, `a`, `s`, `d` and `x`.
-const INPUTS: [Input; 5] = [
-    Input::Up,
-    Input::Left,
-    Input::Down,
-    Input::Right,
-    Input::Action,
-];
 
 /// A search of a level, from a spot of it, by the turns of a game. It goes from spot to spot, and keeps each as a key
 /// of `N` words.
@@ -198,21 +183,6 @@ impl<'g, W: ColumnWords, const N: usize> LevelSearch<'g, W, N> {
             .unpack(&self.at.board, &key.board, &mut self.board);
         self.trial.go_to(self.board.board());
         *self.at = *key;
-    }
-
-    /// Searches the level for the shortest list of directions and `x` that leads past it, and keeps at most `limit`
-    /// spots. What it tells is true of each script that is played by the game's turns, from each session at the spot
-    /// where the search begins.
-    ///
-    /// It may run out of memory, the watcher may stop it, or a key may be full. Then the answer says up to which length
-    /// no list leads past. It can be called again, and begins anew then.
-    pub(crate) fn solve<T: Watcher>(&mut self, alloc: Global, limit: u32, watcher: &mut T) -> Solved
-        ensures solved { (script : Script) (entry : ℕ) (session : Session) → PlaysAs script (played_by self.old)
-            → spot entry session ≡ Some (start_of self.old) → IsSolved script entry session limit result }
-    {
-        let _keys = &self.keys;
-        let found = search(alloc, self, &INPUTS, limit, watcher);
-        told(found)
     }
 }
 

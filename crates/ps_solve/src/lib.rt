@@ -8,9 +8,11 @@
 
 mod key_bytes;
 mod level_search;
+mod numbered_search;
 mod own_boards;
 mod played;
 mod sessions;
+mod situations;
 mod solved;
 mod solver;
 mod solving;

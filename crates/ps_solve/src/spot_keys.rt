@@ -66,7 +66,7 @@ impl<W: ColumnWords, const N: usize> Model for SpotKeys<W, N> {
 /// # Errors
 ///
 /// `Memory`, and the keys stay as they are.
-fn note_key<K: Eq + Hash + Drop>(keys: &mut IndexSet<K>, key: K) -> Result<usize, Memory>
+pub(crate) fn note_key<K: Eq + Hash + Drop>(keys: &mut IndexSet<K>, key: K) -> Result<usize, Memory>
     ensures kept { (keys.new.keys ≡ keys.old.keys) ⊎ (keys.new.keys ≡ keys.old.keys ++ key ∷ []) }
     ensures found { IfOk result (λ number. (known : K) × (slice_get keys.new.keys number ≡ Some known)
         × (K.eq key known ≡ true)) }

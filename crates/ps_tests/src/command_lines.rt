@@ -6,6 +6,7 @@ use crate::watched::Watched;
 use ps_command::{Engine, run_command_line};
 use ps_devices::{MemoryReader, MemoryWriter};
 use ps_model::CALL_LIMIT;
+use ps_replay::GameReplayer;
 use ps_run::GamePlayer;
 use ps_solve::GameSolver;
 use std::process::Abort;
@@ -77,7 +78,7 @@ pub const CUT_OBJECT: &str =
     \"levels\":null,\"ok\":false,\"title\":null}\n";
 
 /// The words of command lines that aren't right.
-const BAD_LINES: [&[&str]; 71] = [
+const BAD_LINES: [&[&str]; 82] = [
     &["ps_play", "a.game", "--show", "-"],
     &["ps_play", "--view", "24x80", "--show", "-"],
     &["ps_play", "--describe"],
@@ -159,6 +160,19 @@ const BAD_LINES: [&[&str]; 71] = [
     &[
         "ps_play", "--solve", "--after", "a.keys", "--keys", "a.keys", "a.game",
     ],
+    &["ps_play", "--replay"],
+    &["ps_play", "--replay", "a.game"],
+    &["ps_play", "--replay", "a.game", "a.keys", "--replay"],
+    &["ps_play", "--replay", "a.game", "a.keys", "--check"],
+    &["ps_play", "--replay", "a.game", "a.keys", "--solve"],
+    &["ps_play", "--replay", "a.game", "a.keys", "--level", "1"],
+    &[
+        "ps_play", "--replay", "a.game", "a.keys", "--keys", "a.keys",
+    ],
+    &["ps_play", "--replay", "a.game", "a.keys", "--format", "gnu"],
+    &["ps_play", "--replay", "a.game", "a.keys", "--states", "5"],
+    &["ps_play", "--replay", "-", "a.keys", "-"],
+    &["ps_play", "--explain", "RU7", "--replay"],
 ];
 
 /// Command lines that ask for a game to be played, and what must come of each.
@@ -802,7 +816,7 @@ pub fn obey_on(
         solver: &GameSolver,
         is_watched: true,
     };
-    let status = run_command_line(&machine, &engine, &mut keys, &mut screen);
+    let status = run_command_line(&machine, &engine, &GameReplayer, &mut keys, &mut screen);
     Outcome {
         status,
         kept: machine.kept(),

@@ -114,11 +114,17 @@ fn makes_a_rule_for_each_reading(rt: HostRuntime) {
 }
 
 #[test]
-fn leaves_out_rules_that_can_do_nothing(rt: HostRuntime) {
+fn leaves_out_void_rules(rt: HostRuntime) {
     let alloc = rt.alloc();
     assert!(rt; count_of(alloc, "[ A ] -> [ A ]\n") == Some(0));
     assert!(rt; count_of(alloc, "[ moving A ] -> [ moving A ]\n") == Some(0));
     assert!(rt; count_of(alloc, "[ AT no Crate ] -> [ AT no Crate ]\n") == Some(0));
+    assert!(rt; count_of(alloc, "[ A ] -> [ A no B ]\n") == Some(0));
+    assert!(rt; count_of(alloc, "[ stationary A ] -> [ A no B no C ]\n") == Some(0));
+    assert!(rt; count_of(alloc, "right [ > A ] -> [ A no B ]\n") == Some(1));
+    assert!(rt; count_of(alloc, "[ A ] -> [ A no Crate ]\n") == Some(1));
+    assert!(rt; count_of(alloc, "[ A no B ] -> [ A no Crate ]\n") == Some(1));
+    assert!(rt; count_of(alloc, "[ A | A ] -> [ A no B | B ]\n") == Some(4));
     assert!(rt; count_of(alloc, "[ A ] -> [ A ] win\n") == Some(1));
     assert!(rt; count_of(alloc, "[ A ] -> sfx1\n") == Some(0));
     assert!(rt;

@@ -41,6 +41,8 @@ mod refusals;
 #[cfg(test)]
 mod refused_keys;
 #[cfg(test)]
+mod replays;
+#[cfg(test)]
 mod row_board;
 #[cfg(test)]
 mod row_scan;

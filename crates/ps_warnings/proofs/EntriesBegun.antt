@@ -1,18 +1,18 @@
 -- Where the entries of LEVELS begin, a line further.
-use Rattle.std.proofs.Common.{◌≡◌, ◌∙◌, ◌++◌, ◌+◌, ◌<◌, ◌≤◌, ℕ, Bool, true, false, List, [], ◌∷◌, length, map, refl}
+use Rattle.std.proofs.Common.{◌≡◌, ◌∙◌, ◌++◌, ◌≤◌, ℕ, Bool, true, false, List, [], ◌∷◌, length, map, refl}
 use Rattle.std.proofs.Common.{sym, ap, append_assoc}
 use Rattle.std.specs.Prelude.{◌&&◌, ◌||◌, not}
 use Rattle.std.specs.List.{take_while}
 use Rattle.std.proofs.lemmas.List.{map-append}
 use Rattle.ps_model.specs.text.Lines.{Line, lines_of}
-use Rattle.ps_model.specs.text.LineNumbers.{here, line_at, lines_between}
+use Rattle.ps_model.specs.text.LineNumbers.{here, line_at}
 use Rattle.ps_model.specs.session.LevelLines.{EntryLines, MessageLine, LevelRows, entry_at, entries_at, is_message, is_row}
-use Rattle.ps_laws.proofs.common.LinesInOrder.{between-step, here-there, line_at-number}
+use Rattle.ps_laws.proofs.common.LinesInOrder.{here-there, line_at-number}
 use Rattle.ps_warnings.specs.LevelStarts.{number_of, numbers_at, begins}
 use Rattle.ps_warnings.specs.Numbers.{number_if}
 
 -- an entry by what its line is
-abbrev entry_by : Bool → Bool → Bool → Line → List Line → List EntryLines
+abbrev pub entry_by : Bool → Bool → Bool → Line → List Line → List EntryLines
 entry_by message row is_below_row line below = elim message as (λ b. List EntryLines) [
   | true ↦ MessageLine line ∷ []
   | false ↦ elim (row && not is_below_row) as (λ b.
@@ -54,15 +54,3 @@ text_begins text line is_below_row begun is_row_there before after low high ther
     ∙ ap (λ (t : Bool). number_if (begins is_below_row x) x.number ++ numbers_at t rest) r
     ∙ sym (line_begins x rest is_below_row)
     ∙ sym (ap (λ (lines : List Line). numbers_at is_below_row (lines ++ rest)) (here-there text line there)))
-
--- it stands first of those from it on
-pub numbers_step : (text : List ℕ) (line end : ℕ) (below next : Bool) (before after whole : List ℕ) → 1 ≤ line →
-    line < end → end ≤ length (lines_of text) + 1 →
-    ((rest : List Line) → after ++ numbers_at next rest ≡ before ++ numbers_at below (here text line ++ rest)) →
-    before ++ numbers_at below (lines_between text line end) ≡ whole →
-    after ++ numbers_at next (lines_between text (line + 1) end) ≡ whole
-numbers_step text line end below next before after whole one less within step was =
-    step (lines_between text (line + 1) end)
-    ∙ sym (ap (λ (lines : List Line). before ++ numbers_at below lines)
-    (between-step text line (line + 1) end one less within refl))
-    ∙ was

@@ -2,6 +2,12 @@ pub mod CommonBytes
 pub mod EntriesBegun
 pub mod EntriesWarned
 pub mod LinesPassed
+pub mod MarksMade
+pub mod NamesFolded
+pub mod OrderKept
+pub mod RowsPassed
+pub mod RulesPassed
+pub mod UnusedTold
 mod WarningRows
 pub mod WarningsMade
 pub mod WholeLines

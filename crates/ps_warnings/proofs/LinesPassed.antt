@@ -21,6 +21,18 @@ passed {X} made text line end before after whole one less within e was =
     ∙ sym (ap (flat_map made) (between-step text line (line + 1) end one less within refl)))
     ∙ was
 
+-- where what comes of lines depends on those above: the next line stands first of those from it on
+pub stepped : {S X : Type 0} (told : S → List Line → List X) (text : List ℕ) (line end : ℕ) (state next : S)
+    (before after whole : List X) → 1 ≤ line → line < end → end ≤ length (lines_of text) + 1 →
+    ((rest : List Line) → after ++ told next rest ≡ before ++ told state (here text line ++ rest)) →
+    before ++ told state (lines_between text line end) ≡ whole →
+    after ++ told next (lines_between text (line + 1) end) ≡ whole
+stepped {S} {X} told text line end state next before after whole one less within step was =
+    step (lines_between text (line + 1) end)
+    ∙ sym (ap (λ (lines : List Line). before ++ told state lines)
+    (between-step text line (line + 1) end one less within refl))
+    ∙ was
+
 -- no line is left
 pub all_passed : {X : Type 0} (made : Line → List X) (text : List ℕ) (line end : ℕ) (told whole : List X) →
     end ≤ line → told ++ flat_map made (lines_between text line end) ≡ whole → told ≡ whole

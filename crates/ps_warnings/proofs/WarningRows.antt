@@ -5,7 +5,9 @@ use Rattle.std.specs.Str.{chars, is_utf8}
 use Rattle.std.specs.Str.Lossy.{utf8_valid_len}
 use Rattle.std.proofs.Math.Utf8.{encode}
 use Rattle.ps_warnings.specs.declared.kinds.PreludeWord.TheVariants.{NoUndo, RequirePlayerMovement}
-use Rattle.ps_warnings.specs.declared.kinds.WarningKind.TheVariants.{NearWord, IdleRule, NoPlayer}
+use Rattle.ps_warnings.specs.declared.kinds.WarningKind.TheVariants.{NearWord, IdleRule, IdleWin, NoPlayer}
+use Rattle.ps_warnings.specs.declared.kinds.WarningKind.TheVariants.{LongRow, RuleTwice, ShortRow, UnusedObject}
+use Rattle.ps_warnings.specs.declared.kinds.WarningKind.TheVariants.{UnusedName}
 use Rattle.ps_warnings.specs.NearWords.{is_near}
 use Rattle.ps_warnings.specs.PreludeWords.{misspelt}
 use Rattle.ps_warnings.specs.Warnings.{warnings}
@@ -49,6 +51,61 @@ all_of_them : warnings (codes "noudno\nOBJECTS\nBackground .\ngreen\nPlayer P\nw
     ∷ record { line = 18; kind = NoPlayer } ∷ []
 unfolding warnings misspelt chars is_utf8 encode utf8_valid_len
 all_of_them = refl
+
+-- every cell with a Player has one, and nothing is asked of where all of them are
+wins_that_always_hold : warnings (codes "OBJECTS\nBackground .\ngreen\nPlayer P\nwhite\nCOLLISIONLAYERS\nBackground\n"
+    ++ (codes "Player\nWINCONDITIONS\nAll P on player\nall Player\nall Player on P\nAll Player on PLAYER\n"
+    ++ codes "Some Player\nLEVELS\nP\n"))
+    ≡ record { line = 11; kind = IdleWin } ∷ record { line = 13; kind = IdleWin } ∷ []
+unfolding warnings misspelt chars is_utf8 encode utf8_valid_len
+wins_that_always_hold = refl
+
+-- rows are measured by the first of their level, and no row by that of another level
+rows_of_other_widths : warnings (codes "OBJECTS\nBackground .\ngreen\nPlayer P\nwhite\nCOLLISIONLAYERS\nBackground\n"
+    ++ codes "Player\nLEVELS\nP.\nP\nP..\n\nP...\nP...\n")
+    ≡ record { line = 11; kind = ShortRow } ∷ record { line = 12; kind = LongRow } ∷ []
+unfolding warnings misspelt chars is_utf8 encode utf8_valid_len
+rows_of_other_widths = refl
+
+-- the rows of a level come before a level below it
+levels_and_rows_in_order : warnings (codes "OBJECTS\nBackground .\ngreen\nPlayer P\nwhite\nCOLLISIONLAYERS\n"
+    ++ codes "Background\nPlayer\nLEVELS\nP.\nP\n\n..\n.\n\n.\n")
+    ≡ record { line = 11; kind = ShortRow } ∷ record { line = 13; kind = NoPlayer }
+    ∷ record { line = 14; kind = ShortRow } ∷ record { line = 16; kind = NoPlayer } ∷ []
+unfolding warnings misspelt chars is_utf8 encode utf8_valid_len
+levels_and_rows_in_order = refl
+
+-- Wall stands in a level alone. Key is of a property that a rule names, and Gem of one that a win condition names. Ice is
+-- Player's own. Sand is named by glyphs and its layer alone
+objects_that_nothing_uses : warnings (codes "OBJECTS\nBackground .\ngreen\nHero P\nwhite\nIce\nblue\nWall #\nred\nKey\nred\n"
+    ++ (codes "Gem\nred\nSand\nred\nLEGEND\nPlayer = Hero or Ice\nS = Sand\nT = Sand and Wall\nThing = Key or Gem\n"
+    ++ (codes "COLLISIONLAYERS\nBackground\nHero, Ice, Wall\nThing, Sand\nRULES\n"
+    ++ codes "[ > Player | Thing ] -> [ Player | ]\nWINCONDITIONS\nNo Gem\nLEVELS\nP#\n")))
+    ≡ record { line = 14; kind = UnusedObject } ∷ []
+unfolding warnings misspelt chars is_utf8 encode utf8_valid_len
+objects_that_nothing_uses = refl
+
+-- One is named by a rule, Two by One, and Three by a layer. Both shows in frames by its glyph. Four is named by its synonym
+-- alone, and nothing names Five and Pair, whose members are used
+names_that_nothing_uses : warnings (codes "OBJECTS\nBackground .\ngreen\nPlayer P\nwhite\nWall #\nred\nKey K\nred\nGem G\nred\n"
+    ++ (codes "LEGEND\nOne = Wall or Two\nTwo = Key or Wall\nThree = Gem or Key\nFour = Key or Wall\nFive = Wall or Key\n"
+    ++ (codes "Pair = Wall and Key\nBoth = Wall and Key\nB = Both\nOther = Four\nCOLLISIONLAYERS\nBackground\n"
+    ++ codes "Player\nWall\nThree\nRULES\n[ > Player | ONE ] -> cancel\nLEVELS\nP#KG\n")))
+    ≡ record { line = 16; kind = UnusedName } ∷ record { line = 17; kind = UnusedName }
+    ∷ record { line = 18; kind = UnusedName } ∷ []
+unfolding warnings misspelt chars is_utf8 encode utf8_valid_len
+names_that_nothing_uses = refl
+
+-- a rule right below itself stands twice, however it is cut and cased, and one of a group twice in it; another direction
+-- or another message makes another rule, and so does a group between
+rules_that_stand_twice : warnings (codes "OBJECTS\nBackground .\ngreen\nPlayer P\nwhite\nWall #\nred\nCOLLISIONLAYERS\n"
+    ++ (codes "Background\nPlayer, Wall\nRULES\n[ > Player | Wall ] -> cancel\n[>PLAYER|wall]->cancel\n"
+    ++ (codes "right [ > Player | Wall ] -> cancel\n+ [ Player | Wall ] -> again\n"
+    ++ (codes "+ right [ > Player | Wall ] -> cancel\n[ > Player | Wall ] -> message one\n"
+    ++ codes "[ > Player | Wall ] -> message two\n[ > Player | Wall ] -> cancel\nLEVELS\nP#\n"))))
+    ≡ record { line = 13; kind = RuleTwice 12 } ∷ record { line = 16; kind = RuleTwice 14 } ∷ []
+unfolding warnings misspelt chars is_utf8 encode utf8_valid_len
+rules_that_stand_twice = refl
 
 -- a text with a fault has none
 none_of_a_fault : warnings (codes "noudno\nOBJECTS\n") ≡ []

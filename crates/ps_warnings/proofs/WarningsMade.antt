@@ -2,7 +2,7 @@
 use Rattle.std.proofs.Common.{◌≡◌, ◌∙◌, ◌++◌, ℕ, List, [], ◌∷◌, Option, Some, None, map, refl, sym, ap, ap₂, subst}
 use Rattle.std.proofs.Common.{append_assoc}
 use Rattle.std.proofs.lemmas.Option.{same_Some}
-use Rattle.ps_model.specs.declared.texts.Section.TheVariants.{Prelude, Rules, Levels}
+use Rattle.ps_model.specs.declared.texts.Section.TheVariants.{Prelude, Rules, Wins, Levels}
 use Rattle.ps_model.specs.declared.faults.Fault.{Fault}
 use Rattle.ps_model.specs.text.Faults.{first_fault}
 use Rattle.ps_model.specs.text.TextFaults.{text_fault}
@@ -14,12 +14,16 @@ use Rattle.ps_model.specs.session.LevelLines.{Entry, entries_read, entry_lines}
 use Rattle.ps_model.specs.game.Games.{Game, faults, faults_beside, game, game_of_lines, game_read, unless}
 use Rattle.ps_laws.proofs.texts.OneGame.{fault_bars_game, first_is_fault}
 use Rattle.ps_warnings.specs.declared.kinds.Warning.{Warning}
+use Rattle.ps_warnings.specs.InOrder.{in_order}
 use Rattle.ps_warnings.specs.LevelStarts.{number_of}
 use Rattle.ps_warnings.specs.LevelWarnings.{level_warnings, warnings_at}
 use Rattle.ps_warnings.specs.OptionWarnings.{option_warnings}
+use Rattle.ps_warnings.specs.RepeatedRules.{repeated_rules}
+use Rattle.ps_warnings.specs.RowWarnings.{row_warnings}
 use Rattle.ps_warnings.specs.RuleWarnings.{rule_warnings}
 use Rattle.ps_warnings.specs.Sounds.{sounding_lines}
-use Rattle.ps_warnings.specs.Warnings.{warnings, warnings_in, warnings_of_lines}
+use Rattle.ps_warnings.specs.WinWarnings.{win_warnings}
+use Rattle.ps_warnings.specs.Warnings.{rules_in, unused_in, warnings, warnings_in, warnings_of_lines}
 use Rattle.ps_warnings.proofs.EntriesWarned.{warned_alike}
 
 -- lines ---------------------------------------------------------------------------------------------------------------
@@ -94,26 +98,54 @@ levels_warned : (names : Names) (lines : List Line) (numbers : List ℕ) (entrie
 levels_warned names lines numbers entries n e = ap₂ (warnings_at names) n e ∙ warned_alike names (entry_lines lines)
 
 -- section by section
-pub sections_warned : (lines prelude rules levels : List Line) (read : Game) (names : Names) (own : List RuleLine)
-    (entries : List Entry) (sounding numbers : List ℕ) (first second third : List Warning) →
-    game_of_lines lines ≡ Some read → section_lines lines Prelude ≡ prelude → section_lines lines Rules ≡ rules →
-    section_lines lines Levels ≡ levels → names ≡ read.names → own ≡ read.rules → entries ≡ read.entries →
-    sounding ≡ sounding_lines rules → numbers ≡ map number_of (entry_lines levels) →
-    first ≡ option_warnings prelude → second ≡ first ++ rule_warnings names sounding own →
-    third ≡ second ++ warnings_at names numbers entries → third ≡ warnings_in read lines
-sections_warned lines prelude rules levels read names own entries sounding numbers first second third is p r l n o e
-    s m a b c =
-    let options : first ≡ option_warnings (section_lines lines Prelude) = a ∙ ap option_warnings (sym p) in
-    let sounds : sounding ≡ sounding_lines (section_lines lines Rules) = s ∙ ap sounding_lines (sym r) in
-    let ruled : rule_warnings names sounding own
-    ≡ rule_warnings read.names (sounding_lines (section_lines lines Rules)) read.rules =
-    rw (n, o, sounds) refl in
+pub sections_warned : (lines prelude wins levels : List Line) (read : Game) (names : Names)
+    (entries : List Entry) (numbers : List ℕ) (words first second third none ones owned nothing others lent
+    whole : List Warning) →
+    game_of_lines lines ≡ Some read → section_lines lines Prelude ≡ prelude →
+    section_lines lines Wins ≡ wins → section_lines lines Levels ≡ levels → names ≡ read.names →
+    entries ≡ read.entries → numbers ≡ map number_of (entry_lines levels) →
+    words ≡ option_warnings prelude → first ≡ words ++ unused_in read lines →
+    second ≡ first ++ rules_in read lines →
+    third ≡ second ++ win_warnings wins → none ≡ [] → ones ≡ none ++ warnings_at names numbers entries → owned ≡ ones →
+    nothing ≡ [] → others ≡ nothing ++ row_warnings levels → lent ≡ others → whole ≡ third ++ in_order owned lent →
+    whole ≡ warnings_in read lines
+sections_warned lines prelude wins levels read names entries numbers words first second third none ones owned nothing
+    others lent whole is p w l n e m a h b c u d x v f y g =
+    let O : List Warning = option_warnings (section_lines lines Prelude) in
+    let U : List Warning = unused_in read lines in
+    let R : List Warning = rules_in read lines in
+    let W : List Warning = win_warnings (section_lines lines Wins) in
+    let L : List Warning = level_warnings read.names (section_lines lines Levels) in
+    let Rows : List Warning = row_warnings (section_lines lines Levels) in
+    let join : List Warning → List Warning → List Warning = λ xs ys. xs ++ ys in
+    let options : first ≡ O ++ U =
+    h ∙ ap (λ (told : List Warning). told ++ U) (a ∙ ap option_warnings (sym p)) in
     let starts : numbers ≡ map number_of (entry_lines (section_lines lines Levels)) =
     m ∙ ap (λ (ls : List Line). map number_of (entry_lines ls)) (sym l) in
-    let levelled : warnings_at names numbers entries ≡ level_warnings read.names (section_lines lines Levels) =
-    ap (λ (ns : Names). warnings_at ns numbers entries) n
+    let levelled : owned ≡ L =
+    x ∙ d ∙ ap (λ (told : List Warning). told ++ warnings_at names numbers entries) u
+    ∙ ap (λ (ns : Names). warnings_at ns numbers entries) n
     ∙ levels_warned read.names (section_lines lines Levels) numbers entries starts (e ∙ entries_are lines read is) in
-    c ∙ ap₂ (λ (xs ys : List Warning). xs ++ ys) (b ∙ ap₂ (λ (xs ys : List Warning). xs ++ ys) options ruled) levelled
-    ∙ append_assoc (option_warnings (section_lines lines Prelude))
-    (rule_warnings read.names (sounding_lines (section_lines lines Rules)) read.rules)
-    (level_warnings read.names (section_lines lines Levels))
+    let two : second ≡ (O ++ U) ++ R = b ∙ ap (λ (told : List Warning). told ++ R) options in
+    let three : third ≡ ((O ++ U) ++ R) ++ W = c ∙ ap₂ join two (ap win_warnings (sym w)) in
+    let rows : lent ≡ Rows =
+    y ∙ f ∙ ap (λ (told : List Warning). told ++ row_warnings levels) v ∙ ap row_warnings (sym l) in
+    g ∙ ap₂ join three (ap₂ in_order levelled rows)
+    ∙ append_assoc ((O ++ U) ++ R) W (in_order L Rows)
+    ∙ append_assoc (O ++ U) R (W ++ in_order L Rows)
+    ∙ append_assoc O U (R ++ (W ++ in_order L Rows))
+
+-- rules ---------------------------------------------------------------------------------------------------------------
+
+pub rules_told : (lines rules : List Line) (read : Game) (names : Names) (own : List RuleLine) (sounding : List ℕ)
+    (idle others ones twice none nothing : List Warning) → section_lines lines Rules ≡ rules → names ≡ read.names →
+    own ≡ read.rules → sounding ≡ sounding_lines rules → none ≡ [] → idle ≡ none ++ rule_warnings names sounding own →
+    ones ≡ idle → nothing ≡ [] → others ≡ nothing ++ repeated_rules rules → twice ≡ others →
+    in_order ones twice ≡ rules_in read lines
+rules_told lines rules read names own sounding idle others ones twice none nothing r n o s e i a m t b =
+    let sounds : sounding ≡ sounding_lines (section_lines lines Rules) = s ∙ ap sounding_lines (sym r) in
+    let ruled : rule_warnings names sounding own
+    ≡ rule_warnings read.names (sounding_lines (section_lines lines Rules)) read.rules = rw (n, o, sounds) refl in
+    ap₂ in_order
+    (a ∙ i ∙ ap (λ (told : List Warning). told ++ rule_warnings names sounding own) e ∙ ruled)
+    (b ∙ t ∙ ap (λ (told : List Warning). told ++ repeated_rules rules) m ∙ ap repeated_rules (sym r))

@@ -1,23 +1,44 @@
 -- The warnings of a text: what is surely a mistake in a game, though it is no fault. A text with a fault has none, as
--- that is to be mended first. They come in the order of lines.
+-- that is to be mended first. They come in the order of lines, as sections do.
 use Rattle.std.specs.Prelude.{ℕ, Some, None, List, [], ◌++◌}
-use Rattle.ps_model.specs.declared.texts.Section.TheVariants.{Prelude, Rules, Levels}
+use Rattle.ps_model.specs.declared.texts.Section.TheVariants.{Prelude, Legend, Layers, Rules, Wins, Levels}
 use Rattle.ps_model.specs.text.Lines.{Line, lines_of}
 use Rattle.ps_model.specs.text.Sections.{section_lines}
 use Rattle.ps_model.specs.text.TextFaults.{text_fault}
 use Rattle.ps_model.specs.game.Games.{Game, game_of_lines}
 use Rattle.ps_warnings.specs.declared.kinds.Warning.{Warning}
+use Rattle.ps_warnings.specs.InOrder.{in_order}
 use Rattle.ps_warnings.specs.OptionWarnings.{option_warnings}
+use Rattle.ps_warnings.specs.RepeatedRules.{repeated_rules}
+use Rattle.ps_warnings.specs.RowWarnings.{row_warnings}
 use Rattle.ps_warnings.specs.RuleWarnings.{rule_warnings}
 use Rattle.ps_warnings.specs.LevelWarnings.{level_warnings}
+use Rattle.ps_warnings.specs.NameWarnings.{name_warnings}
+use Rattle.ps_warnings.specs.ObjectWarnings.{object_warnings}
 use Rattle.ps_warnings.specs.Sounds.{sounding_lines}
+use Rattle.ps_warnings.specs.Spoken.{spoken_in}
+use Rattle.ps_warnings.specs.WinWarnings.{win_warnings}
+
+-- those of the names that lines declare that are this game
+abbrev pub unused_in : Game → List Line → List Warning
+unused_in read lines =
+    object_warnings read.names (spoken_in read) read.entries lines
+    ++ name_warnings read.names (spoken_in read) (section_lines lines Legend) (section_lines lines Layers)
+
+-- those of the rules of lines that are this game
+abbrev pub rules_in : Game → List Line → List Warning
+rules_in read lines =
+    in_order (rule_warnings read.names (sounding_lines (section_lines lines Rules)) read.rules)
+    (repeated_rules (section_lines lines Rules))
 
 -- those of lines that are this game
 abbrev pub warnings_in : Game → List Line → List Warning
 warnings_in read lines =
     option_warnings (section_lines lines Prelude)
-    ++ (rule_warnings read.names (sounding_lines (section_lines lines Rules)) read.rules
-    ++ level_warnings read.names (section_lines lines Levels))
+    ++ (unused_in read lines
+    ++ (rules_in read lines
+    ++ (win_warnings (section_lines lines Wins)
+    ++ in_order (level_warnings read.names (section_lines lines Levels)) (row_warnings (section_lines lines Levels)))))
 
 -- those of lines
 abbrev pub warnings_of_lines : List Line → List Warning

@@ -10,7 +10,7 @@ use ps_text::{Source, Text, Word, words};
 use std::alloc::Global;
 
 /// The first of words; of none, the empty word.
-fn first_of<'a>(words: &[Word<'a>]) -> &'a str
+pub fn first_of<'a>(words: &[Word<'a>]) -> &'a str
     ensures { result.now ≡ slice_index_or (map text_of words.now) 0 [] }
 {
     if words.is_empty() {

@@ -19,10 +19,23 @@ pub enum PreludeWord {
 pub enum WarningKind {
     /// The line of the prelude says nothing, but its first word is written much like this one.
     NearWord(PreludeWord),
+    /// Nothing uses the object: no level has it, and no rule or win condition speaks of it.
+    UnusedObject,
+    /// Nothing uses the property or aggregate: no rule, win condition, collision layer or other name of LEGEND names
+    /// it.
+    UnusedName,
     /// The rule can do nothing: whatever it may mean fits nothing, or changes nothing and asks for nothing.
     IdleRule,
+    /// The rule stands at this line too, in its own group or in the one right above.
+    RuleTwice(u32),
+    /// The win condition always holds: it asks for nothing.
+    IdleWin,
     /// No cell of the level has an object of Player. The line is its first row.
     NoPlayer,
+    /// The row of a level is longer than its first row: what is past that is cut off.
+    LongRow,
+    /// The row of a level is shorter than its first row: it is filled up with its last character.
+    ShortRow,
 }
 
 /// A warning at a line of a text, whose number counts from 1.

@@ -15,13 +15,13 @@ use std::ops::Range;
 
 /// What a line of LEVELS is.
 #[derive(Clone, Copy)]
-struct LineKind {
-    is_message: bool,
-    is_row: bool,
+pub struct LineKind {
+    pub is_message: bool,
+    pub is_row: bool,
 }
 
 /// What a line, from 1 to `source.lines()`, is.
-fn kind_of(alloc: Global, source: &Source, line: u32) -> Result<LineKind, Memory>
+pub fn kind_of(alloc: Global, source: &Source, line: u32) -> Result<LineKind, Memory>
     requires { HasLine source.now line }
     ensures message { IfOk result (λ kind. kind.is_message ≡ is_message (line_at source.now line)) }
     ensures row { IfOk result (λ kind. kind.is_row ≡ is_row (line_at source.now line)) }

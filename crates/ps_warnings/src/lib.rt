@@ -1,21 +1,35 @@
-//! What is surely a mistake in a game, though it is no fault: lines that say nothing, rules that do nothing, and levels
-//! in which nothing can be done.
+//! What is surely a mistake in a game, though it is no fault: lines that say nothing, names that nothing uses, rules
+//! that do nothing, and levels in which nothing can be done.
 //!
 //! [`warnings`] tells all of it, line by line. Nothing here knows of command lines, files or screens.
 #![tactic(auto)]
 
 mod first_words;
+mod in_order;
 mod kinds;
+mod level_rows;
 mod level_starts;
 mod levels;
+mod marks;
+mod named_lines;
+mod names;
 mod near_words;
 mod numbers;
+mod objects;
 mod options;
 mod prelude_words;
+mod repeated_rules;
+mod rule_lines;
 mod rules;
 mod sounds;
+mod spoken;
 mod telling;
+mod unused;
+mod used_names;
+mod used_objects;
+mod wins;
 mod wording;
+mod written_rules;
 
 pub use kinds::{PreludeWord, Warning, WarningKind};
 pub use telling::warnings;

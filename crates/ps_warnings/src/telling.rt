@@ -6,19 +6,22 @@ ghost use Rattle.ps_model.specs.text.Lines.{lines_of};
 ghost use Rattle.ps_sections.specs.SectionPlaces.{AreSections};
 ghost use Rattle.ps_warnings.specs.Warnings.{warnings_in, warnings_of_lines, warnings};
 
+use crate::in_order::push_in_order;
 use crate::kinds::Warning;
+use crate::level_rows::warn_of_rows;
 use crate::level_starts::entry_numbers;
 use crate::levels::warn_of_levels;
 use crate::options::warn_of_options;
-use crate::rules::warn_of_rules;
-use crate::sounds::sounding_lines;
+use crate::rule_lines::warn_of_rule_lines;
+use crate::unused::warn_of_unused;
+use crate::wins::warn_of_wins;
 use ps_game::{Game, read_game};
 use ps_model::{Memory, Refusal};
 use ps_sections::{Sections, read_sections};
 use ps_text::Source;
 use std::alloc::Global;
 
-/// The warnings of a game, section by section.
+/// The warnings of a game, in the order of lines.
 fn warnings_in(
     alloc: Global,
     source: &Source,
@@ -31,10 +34,15 @@ fn warnings_in(
 {
     let mut told = Vec::new(alloc);
     warn_of_options(alloc, source, &sections.prelude, &mut told)?;
-    let sounding = sounding_lines(alloc, source, &sections.rules)?;
-    warn_of_rules(alloc, &game.names, &game.rules, &sounding, &mut told)?;
+    warn_of_unused(alloc, source, sections, game, &mut told)?;
+    warn_of_rule_lines(alloc, source, sections, game, &mut told)?;
+    warn_of_wins(alloc, source, &sections.wins, &mut told)?;
     let numbers = entry_numbers(alloc, source, &sections.levels)?;
-    warn_of_levels(&game.names, &numbers, &game.entries, &mut told)?;
+    let mut levels = Vec::new(alloc);
+    warn_of_levels(&game.names, &numbers, &game.entries, &mut levels)?;
+    let mut rows = Vec::new(alloc);
+    warn_of_rows(alloc, source, &sections.levels, &mut rows)?;
+    push_in_order(&mut told, &levels, &rows)?;
     Ok(told)
 }
 
@@ -78,7 +86,7 @@ fn warnings_of_game(alloc: Global, text: &[u8], read: &Game) -> Result<Vec<Warni
     }
 }
 
-/// The warnings of a text that is a game: section by section, and line by line in each. A text with a fault has none.
+/// The warnings of a text that is a game, in the order of lines. A text with a fault has none.
 ///
 /// # Errors
 ///

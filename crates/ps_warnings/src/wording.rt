@@ -1,7 +1,7 @@
 //! Warnings in words.
 
 ghost use Rattle.std.specs.Prelude.{◌≡◌, IfOk, string_bytes};
-ghost use Rattle.ps_warnings.specs.Wording.{near_sentence, sentence};
+ghost use Rattle.ps_warnings.specs.Wording.{near_sentence, sentence, twice_sentence};
 
 use crate::kinds::{PreludeWord, WarningKind};
 use ps_model::Memory;
@@ -18,6 +18,14 @@ fn near_sentence(alloc: Global, word: PreludeWord) -> Result<String, Memory>
     Ok(words)
 }
 
+/// That a rule stands at another line, too.
+fn twice_sentence(alloc: Global, line: u32) -> Result<String, Memory>
+    ensures { IfOk result (λ words. string_bytes words ≡ twice_sentence line) }
+{
+    let words = format!(in alloc; "this rule stands twice: line {line} has it, too")?;
+    Ok(words)
+}
+
 /// What is surely a mistake, in words that begin in lower case and have no point at the end.
 ///
 /// # Errors
@@ -28,12 +36,45 @@ pub fn sentence_of(alloc: Global, kind: WarningKind) -> Result<String, Memory>
 {
     match kind {
         WarningKind::NearWord(word) => near_sentence(alloc, word),
+        WarningKind::UnusedObject => {
+            let words = String::from_str(
+                alloc,
+                "no level, rule or win condition uses this object",
+            )?;
+            Ok(words)
+        }
+        WarningKind::UnusedName => {
+            let words = String::from_str(
+                alloc,
+                "no rule, win condition, layer or other name uses this name",
+            )?;
+            Ok(words)
+        }
         WarningKind::IdleRule => {
             let words = String::from_str(alloc, "this rule can do nothing")?;
             Ok(words)
         }
+        WarningKind::RuleTwice(line) => twice_sentence(alloc, line),
+        WarningKind::IdleWin => {
+            let words = String::from_str(alloc, "this win condition always holds")?;
+            Ok(words)
+        }
         WarningKind::NoPlayer => {
             let words = String::from_str(alloc, "this level shows no Player")?;
+            Ok(words)
+        }
+        WarningKind::LongRow => {
+            let words = String::from_str(
+                alloc,
+                "this row is cut off, as it is longer than the first of its level",
+            )?;
+            Ok(words)
+        }
+        WarningKind::ShortRow => {
+            let words = String::from_str(
+                alloc,
+                "this row is filled up, as it is shorter than the first of its level",
+            )?;
             Ok(words)
         }
     }

@@ -1,4 +1,4 @@
-use Rattle.std.proofs.Common.{◌≡◌, ◌≤◌, ◌++◌, ℕ, List, arith, drop, length, min, take}
+use Rattle.std.proofs.Common.{◌≡◌, ◌++◌, ℕ, List, arith, drop, length, min, take}
 use Rattle.lizhakoven.proofs.InMemory.{copied_front, plays_rightly}
 use Rattle.lizhakoven.proofs.playing.play.Goals as goal
 

@@ -15,6 +15,6 @@ loop-readings-preserved c =
     (rules_shown c.push_if_possible.new.rules.items) _
     (one-taken c.in_ok-next.field-0 _ _ _ c.in_ok-next.ensures c.if-branch.true)
     (c.in_ok-push_if_possible.ensures ∙ ap (λ (r : Reading).
-    rules_shown c.loop-readings.rules.items ++ compact (rule_if c.args.names.now c.args.occurrences.now r))
+    rules_shown c.loop-readings.rules.items ++ compact c.args.names.now (rule_if c.args.names.now c.args.occurrences.now r))
     c.reading.ensures)
     c.loop-readings.invariant

@@ -9,7 +9,7 @@ use Rattle.ps_compile.proofs.rules.push_readings.Given as goal
 
 abbrev pub invariant-loop-readings : goal.invariant-loop-readings
 invariant-loop-readings l =
-    rules_shown l.rules.items ++ compact (map (rule_by l.names l.occurrences)
+    rules_shown l.rules.items ++ compact l.names (map (rule_by l.names l.occurrences)
     (filter (is_possible l.names l.occurrences) (readings_left l.readings)))
     ≡ rules_shown l.initial.rules.items ++ compact_rules l.names l.occurrences
 

@@ -1,4 +1,4 @@
-use Rattle.std.proofs.Common.{◌≡◌, ◌∙◌, sym}
+use Rattle.std.proofs.Common.{◌∙◌, sym}
 use Rattle.std.proofs.lemmas.List.{at_drop_all}
 use Rattle.ps_laws.specs.Fronts.{session_after}
 use Rattle.ps_run.specs.GamesInPlay.{script_in}

@@ -1,4 +1,4 @@
-use Rattle.std.proofs.Common.{◌≡◌, ap}
+use Rattle.std.proofs.Common.{ap}
 use Rattle.ps_model.specs.board.Turns.{Script, script_at}
 use Rattle.ps_model.specs.game.Games.{Game}
 use Rattle.ps_rulebook.specs.PlayedGames.{AreCompiled}

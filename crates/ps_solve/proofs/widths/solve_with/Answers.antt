@@ -1,8 +1,9 @@
-use Rattle.std.proofs.Common.{◌≡◌, Some, Ok, ap, rules, subst}
+use Rattle.std.proofs.Common.{◌≡◌, Some, Ok, ap, rules, subst, sym}
 use Rattle.std.specs.Prelude.{IfSome}
 use Rattle.ps_model.specs.session.Solving.{spot}
 use Rattle.ps_stage.specs.Standings.{turn_parts}
 use Rattle.ps_trial.specs.Desks.{Basis}
+use Rattle.ps_trial.specs.Scripts.{PlaysAs}
 use Rattle.ps_solve.specs.Searches.{SearchValue, played_by, script_of, start_of}
 use Rattle.ps_solve.specs.SolvedLevels.{entry_in}
 use Rattle.ps_solve.proofs.FromSessions.{own_layers, plays_parts}
@@ -34,8 +35,11 @@ returns-in-Ok-Some g c = λ script plays.
     c.in-Ok-Some.field-0-is c.in-Ok-Some.ensures.script in (
       (start_of search, at),
       c.solve.ensures.solved script (entry_in session) session
+          (subst (λ (s : SearchValue). PlaysAs script (played_by s)) (sym c.new-search.ensures)
           (plays_parts script (played_by search) own_layers game c.args.sections.plain.now c.args.sections.late.now
-          c.in-Ok.rules.plain c.in-Ok.rules.late c.in-Ok.ensures.plain c.in-Ok.ensures.late same plays) at,
+          c.in-Ok.rules.plain c.in-Ok.rules.late c.in-Ok.ensures.plain c.in-Ok.ensures.late same plays))
+          (subst (λ (s : SearchValue). spot (entry_in session) session ≡ Some (start_of s)) (sym c.new-search.ensures)
+          at),
     )
 
 pub returns-in-Ok-None : goal.returns-in-Ok-None

@@ -1,0 +1,14 @@
+use Rattle.std.proofs.Common.{◌≡◌, subst}
+use Rattle.std.specs.Prelude.{IfOk}
+use Rattle.lizhakoven.specs.HeldSessions.{HasText, HeldValue}
+use Rattle.lizhakoven.proofs.HeldCalls.{held_of, held_same, text_each}
+use Rattle.lizhakoven.proofs.held.HeldSession.text.Goals as goal
+
+pub returns : goal.returns
+returns c =
+    let own : HeldValue = held_of c.deref.result.now c.self.inside.entry c.deref-2.result.now in
+    let same : own ≡ c.args.self.now =
+    held_same c.deref.result.now c.self.inside.game.value c.self.inside.entry c.deref-2.result.now
+    c.self.inside.keys.items c.args.self.now c.deref.ensures c.deref-2.ensures.value c.self.view_is in
+    subst (λ (held : HeldValue). IfOk c.text_from.result (λ wrote. HasText held wrote)) same
+    (text_each c.text_from.result own c.text_from.ensures)

@@ -1,0 +1,119 @@
+//! A session that owns its game.
+
+ghost use Rattle.std.specs.Prelude.{◌≡◌, [], IfOk, OnErr, OnOk};
+ghost use Rattle.ps_model.specs.session.RoomSizes.{HasRoomSize};
+ghost use Rattle.ps_stage.specs.Playable.{ArePlayable};
+ghost use Rattle.lizhakoven.specs.HeldSessions.{HasText, IsAt, with_keys};
+
+use crate::looking::{look_from, text_from};
+use crate::seeing::Seen;
+use ps_game::Game;
+use ps_model::Memory;
+use ps_screen::OutputText;
+use std::alloc::Global;
+use std::marker::Model;
+use std::rc::Rc;
+
+/// A session: its game, which it shares with its copies and with others that began there, the entry at which it began,
+/// and all its keys. What it has come to is what these keys lead to.
+pub struct HeldSession {
+    game: Rc<Game>,
+    entry: usize,
+    keys: Vec<u8>,
+}
+
+/// Written out, so that a function that owns a session calls this where it returns, instead of dropping its parts.
+impl Drop for HeldSession {
+    fn drop(self) {
+        let HeldSession {
+            game: _game,
+            entry: _,
+            keys: _keys,
+        } = self;
+    }
+}
+
+impl Model for HeldSession {
+    ghost use Rattle.ps_model.specs.session.RoomSizes.{HasRoomSize};
+    ghost use Rattle.ps_stage.specs.Playable.{ArePlayable};
+    ghost use Rattle.lizhakoven.specs.HeldSessions.{HeldValue};
+
+    ghost Value = { HeldValue };
+
+    ghost view = { λ s. record { read = s.game.value; entry = s.entry; keys = s.keys.items } };
+
+    ghost invariant = { λ s. ArePlayable s.game.value.names s.game.value.entries × HasRoomSize s.game.value.options };
+}
+
+impl HeldSession {
+    /// A session that begins at an entry of a game, with no key yet. It shares the game.
+    ///
+    /// # Errors
+    ///
+    /// `Memory`.
+    pub fn new(alloc: Global, game: &Rc<Game>, entry: usize) -> Result<HeldSession, Memory>
+        requires playable { ArePlayable game.now.value.names game.now.value.entries }
+        requires rooms { HasRoomSize game.now.value.options }
+        ensures { IfOk result (λ session. session ≡ record { read = game.now.value; entry = entry; keys = [] }) }
+    {
+        let game = game.clone()?;
+        Ok(HeldSession {
+            game,
+            entry,
+            keys: Vec::new(alloc),
+        })
+    }
+
+    /// Another session that is where this one is. The two share their game, which stays as it is, and nothing else.
+    ///
+    /// # Errors
+    ///
+    /// `Memory`.
+    pub fn copied(&self, alloc: Global) -> Result<HeldSession, Memory>
+        ensures { IfOk result (λ session. session ≡ self.now) }
+    {
+        let keys = Vec::from_slice(alloc, &self.keys)?;
+        let game = self.game.clone()?;
+        Ok(HeldSession {
+            game,
+            entry: self.entry,
+            keys,
+        })
+    }
+
+    /// Gives it keys, which come after its own.
+    ///
+    /// # Errors
+    ///
+    /// `Memory`: the session is as before, and the same keys may be given again.
+    pub fn add_keys(&mut self, keys: &[u8]) -> Result<(), Memory>
+        ensures added { OnOk result (self.new ≡ with_keys self.old keys.now) }
+        ensures same { OnErr result (self.new ≡ self.old) }
+    {
+        self.keys.extend_from_slice(keys)?;
+        Ok(())
+    }
+
+    /// Plays its keys, and tells where they lead, with the cells at the front of `cells`.
+    ///
+    /// # Errors
+    ///
+    /// `Memory`, and the cells are as before.
+    pub fn look(&self, alloc: Global, cells: &mut [u32]) -> Result<Seen, Memory>
+        ensures seen { IfOk result (λ seen. IsAt self.now cells.old cells.new seen) }
+        ensures kept { OnErr result (cells.new ≡ cells.old) }
+    {
+        look_from(alloc, &self.game, self.entry, &self.keys, cells)
+    }
+
+    /// Plays its keys, and tells all that is written since its start.
+    ///
+    /// # Errors
+    ///
+    /// `Memory`.
+    pub fn text(&self, alloc: Global) -> Result<OutputText, Memory>
+        ensures { IfOk result (λ wrote. HasText self.now wrote) }
+    {
+        text_from(alloc, &self.game, self.entry, &self.keys)
+    }
+}

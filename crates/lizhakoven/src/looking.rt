@@ -1,0 +1,117 @@
+//! What keys lead to: where they lead, and what is written on the way.
+
+ghost use Rattle.std.specs.Prelude.{◌≡◌, ℕ, IfOk, List, OnErr, Some};
+ghost use Rattle.ps_laws.specs.Fronts.{session_of, whole_front};
+ghost use Rattle.ps_levels.specs.EntriesShown.{entries_shown};
+ghost use Rattle.ps_model.specs.board.Turns.{script_at};
+ghost use Rattle.ps_model.specs.declared.limits.TheConstants.{SIDE_LIMIT};
+ghost use Rattle.ps_model.specs.game.Games.{Game as GameRead, game as game_in};
+ghost use Rattle.ps_model.specs.session.RoomSizes.{HasRoomSize};
+ghost use Rattle.ps_rulebook.specs.PlayedGames.{AreCompiled, parts_at};
+ghost use Rattle.ps_stage.specs.Playable.{ArePlayable, EntriesFit};
+ghost use Rattle.lizhakoven.specs.Places.{IsSeen};
+
+use crate::keyed::{play_keys, text_of_keys};
+use crate::seeing::{Seen, see};
+use ps_compile::{CompiledPrograms, compile};
+use ps_game::Game;
+use ps_levels::Entry;
+use ps_model::Memory;
+use ps_run::parts_of_game;
+use ps_screen::OutputText;
+use ps_stage::SessionGame;
+use std::alloc::Global;
+
+/// Plays keys in a game by the programs that its rules compile to, and tells where they lead.
+///
+/// # Errors
+///
+/// `Memory`, and the cells are as before.
+fn look_compiled(
+    alloc: Global,
+    parts: SessionGame<'_>,
+    compiled: &CompiledPrograms<'_>,
+    entries: &[Entry],
+    keys: &[u8],
+    cells: &mut [u32],
+) -> Result<Seen, Memory>
+    requires fit { EntriesFit SIDE_LIMIT parts.entries }
+    ensures seen { (text : List ℕ) (game : GameRead) (entry : ℕ) → game_in text ≡ Some game
+        → parts.entry ≡ parts_at game entry
+        → AreCompiled game.names game.rules compiled.now.plain compiled.now.late
+        → IfOk result (λ seen. IsSeen (entries_shown entries.now) (session_of (script_at game entry) keys.now)
+        cells.old cells.new seen) }
+    ensures kept { OnErr result (cells.new ≡ cells.old) }
+{
+    let (plain, late) = (compiled.plain.sections(), compiled.late.sections());
+    let play = play_keys(alloc, parts, plain, late, keys)?;
+    let seen = see(alloc, entries, &play, cells);
+    play.end();
+    seen
+}
+
+/// Plays keys in a game that is begun at an entry, and tells where they lead.
+///
+/// # Errors
+///
+/// `Memory`, and the cells are as before.
+pub fn look_from(
+    alloc: Global,
+    game: &Game,
+    entry: usize,
+    keys: &[u8],
+    cells: &mut [u32],
+) -> Result<Seen, Memory>
+    requires playable { ArePlayable game.now.names game.now.entries }
+    requires rooms { HasRoomSize game.now.options }
+    ensures seen { (text : List ℕ) → game_in text ≡ Some game.now
+        → IfOk result (λ seen. IsSeen game.now.entries (session_of (script_at game.now entry) keys.now)
+        cells.old cells.new seen) }
+    ensures kept { OnErr result (cells.new ≡ cells.old) }
+{
+    let compiled = compile(alloc, &game.names, &game.rules)?;
+    let parts = parts_of_game(game, entry);
+    look_compiled(alloc, parts, &compiled, &game.entries, keys, cells)
+}
+
+/// What a game writes that plays keys by the programs that its rules compile to.
+///
+/// # Errors
+///
+/// `Memory`.
+fn text_compiled(
+    alloc: Global,
+    parts: SessionGame<'_>,
+    compiled: &CompiledPrograms<'_>,
+    keys: &[u8],
+) -> Result<OutputText, Memory>
+    requires fit { EntriesFit SIDE_LIMIT parts.entries }
+    ensures { (text : List ℕ) (game : GameRead) (entry : ℕ) → game_in text ≡ Some game
+        → parts.entry ≡ parts_at game entry
+        → AreCompiled game.names game.rules compiled.now.plain compiled.now.late
+        → IfOk result (λ wrote. wrote ≡ whole_front (script_at game entry) keys.now) }
+{
+    let (plain, late) = (compiled.plain.sections(), compiled.late.sections());
+    text_of_keys(alloc, parts, plain, late, keys)
+}
+
+/// What a game writes that is begun at an entry, and then plays keys.
+///
+/// # Errors
+///
+/// `Memory`.
+pub fn text_from(
+    alloc: Global,
+    game: &Game,
+    entry: usize,
+    keys: &[u8],
+) -> Result<OutputText, Memory>
+    requires playable { ArePlayable game.now.names game.now.entries }
+    requires rooms { HasRoomSize game.now.options }
+    ensures { (text : List ℕ) → game_in text ≡ Some game.now
+        → IfOk result (λ wrote. wrote ≡ whole_front (script_at game.now entry) keys.now) }
+{
+    let compiled = compile(alloc, &game.names, &game.rules)?;
+    let parts = parts_of_game(game, entry);
+    text_compiled(alloc, parts, &compiled, keys)
+}

@@ -1,0 +1,73 @@
+//! The words of a command line that ask how far recorded keys get.
+
+use crate::command::Asked;
+use crate::files::STANDARD_INPUT;
+use crate::searches::wants_data;
+use crate::stops::Stop;
+use clap::{Arg, ArgAction, ArgMatches};
+use std::alloc::{AllocError, Global};
+
+/// Streams of keys that are to be replayed in a game.
+#[derive(Drop)]
+pub struct ReplayStreams<'w> {
+    /// The file with the game's text, or `-` for standard input.
+    pub game: &'w str,
+    /// The files with the keys, of which one may be `-`, if the game isn't.
+    pub streams: Vec<&'w str>,
+    /// Whether objects of JSON are told, and no lines for people.
+    pub is_data: bool,
+}
+
+/// `--replay`.
+pub fn replay_option(alloc: Global) -> Result<Arg<'static>, AllocError> {
+    Arg::new(alloc, "replay")
+        .long("replay")
+        .help(
+            "Says which levels the keys in each file after GAME win, in how many keys, and whether they win it to its end",
+        )
+        .action(ArgAction::SetTrue)
+        .requires_arg("FURTHER")?
+        .conflicts_with_all(&[
+            "check",
+            "solve",
+            "why",
+            "all",
+            "limit",
+            "warn",
+            "strict",
+            "states",
+            "after",
+            "stop-file",
+            "level",
+            "keys",
+            "view",
+            "sizes",
+            "show",
+            "describe",
+        ])
+}
+
+/// Whether one of these words stands for standard input.
+fn has_input(words: &[&str]) -> bool {
+    words.iter().any(|word| *word == STANDARD_INPUT)
+}
+
+/// What the matches of a command line ask for that replays streams of keys in the game of this file, if the words fit
+/// together: standard input is one file.
+pub fn asked_replay<'w>(
+    alloc: Global,
+    matches: &ArgMatches<'w>,
+    game: &'w str,
+) -> Result<Asked<'w>, Stop> {
+    let is_data = wants_data(matches)?;
+    let further = matches.get_strs("FURTHER").unwrap_or(&[]);
+    if game == STANDARD_INPUT && has_input(further) {
+        return Err(Stop::OneInput);
+    }
+    let streams = Vec::from_slice(alloc, further)?;
+    Ok(Asked::Replay(ReplayStreams {
+        game,
+        streams,
+        is_data,
+    }))
+}

@@ -1,0 +1,5 @@
+pub mod Courses
+pub mod Forms
+pub mod ReplayObjects
+pub mod ReplayWords
+pub mod Replays

@@ -1,0 +1,5 @@
+mod Courses
+mod KeyBytes
+mod PlayedKeys
+mod SessionPlaces
+mod Sources

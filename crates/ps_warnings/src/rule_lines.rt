@@ -1,0 +1,36 @@
+//! Rules that can do nothing, and rules that stand twice.
+
+ghost use Rattle.std.specs.Prelude.{◌≡◌, ◌++◌, OnOk};
+ghost use Rattle.ps_model.specs.text.Lines.{lines_of};
+ghost use Rattle.ps_sections.specs.SectionPlaces.{AreSections};
+ghost use Rattle.ps_warnings.specs.Warnings.{rules_in};
+
+use crate::in_order::push_in_order;
+use crate::kinds::Warning;
+use crate::repeated_rules::warn_of_repeated;
+use crate::rules::warn_of_rules;
+use crate::sounds::sounding_lines;
+use ps_game::Game;
+use ps_model::Memory;
+use ps_sections::Sections;
+use ps_text::Source;
+use std::alloc::Global;
+
+/// Warns of the rules of a game, in the order of lines.
+pub fn warn_of_rule_lines(
+    alloc: Global,
+    source: &Source,
+    sections: &Sections,
+    game: &Game,
+    told: &mut Vec<Warning>,
+) -> Result<(), Memory>
+    requires { AreSections source.now sections.now }
+    ensures { OnOk result (told.new.items ≡ told.old.items ++ rules_in game.now (lines_of source.now)) }
+{
+    let sounding = sounding_lines(alloc, source, &sections.rules)?;
+    let mut idle = Vec::new(alloc);
+    warn_of_rules(alloc, &game.names, &game.rules, &sounding, &mut idle)?;
+    let mut repeated = Vec::new(alloc);
+    warn_of_repeated(alloc, source, &sections.rules, &mut repeated)?;
+    push_in_order(told, &idle, &repeated)
+}
