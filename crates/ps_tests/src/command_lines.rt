@@ -386,7 +386,7 @@ const PLAYS: [(Told, &[Line]); 11] = [
 ];
 
 /// Command lines that ask for a check, and what must come of each.
-const CHECKS: [(Told, &[Line]); 16] = [
+const CHECKS: [(Told, &[Line]); 17] = [
     // A game is checked, and no key is asked for.
     (
         Told {
@@ -534,6 +534,23 @@ const CHECKS: [(Told, &[Line]); 16] = [
             &["ps_play", "--check", "--warn", "warned.game"],
             "warned.game\n",
         )],
+    ),
+    // So it does of names that nothing uses.
+    (
+        Told {
+            input: b"d",
+            reads: 0,
+            status: 0,
+            shown: "ok: objects 9, layers 4, rules 1, levels 1\n\
+            line 13: warning: no level, rule or win condition uses this object\n\
+            line 15: warning: no level, rule or win condition uses this object\n\
+            line 17: warning: no level, rule or win condition uses this object\n\
+            line 19: warning: no level, rule or win condition uses this object\n\
+            line 23: warning: no rule, win condition, layer or other name uses this name\n",
+            printed: "",
+            complained: "",
+        },
+        &[(&["ps_play", "--check", "--warn", "a.game"], "a.game\n")],
     ),
     // It is 1 where that is asked for, and a game without a mistake is well all the same.
     (
