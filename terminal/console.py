@@ -1,4 +1,5 @@
 """The terminal: its attributes, its size, and what this program itself writes to it."""
+import errno
 import os
 import termios
 
@@ -27,7 +28,16 @@ class Console:
         attributes = termios.tcgetattr(self.keys)
         attributes[3] &= ~(termios.ICANON | termios.ECHO)
         attributes[6][termios.VMIN], attributes[6][termios.VTIME] = 1, 0
-        termios.tcsetattr(self.keys, termios.TCSANOW, attributes)
+        self._set(attributes)
+
+    def _set(self, attributes):
+        """Sets attributes. In the background the program is stopped there, and tries again once it is in the foreground."""
+        while True:
+            try:
+                return termios.tcsetattr(self.keys, termios.TCSANOW, attributes)
+            except termios.error as error:
+                if error.args[0] != errno.EINTR:
+                    raise
 
     def give_back(self, with_keys=True):
         """The attributes are as before; keys that nobody read yet are left to the shell, or dropped."""
@@ -35,7 +45,7 @@ class Console:
             try:
                 if not with_keys:
                     termios.tcflush(self.keys, termios.TCIFLUSH)
-                termios.tcsetattr(self.keys, termios.TCSANOW, self._saved)
+                self._set(self._saved)
             except termios.error:
                 pass  # The terminal is gone.
             self._saved = None

@@ -1,4 +1,4 @@
-"""Plays a game at a terminal: main.py PLAYER [--plain] [--fresh] [--level N] GAME|FOLDER."""
+"""Plays a game at a terminal: main.py PLAYER [--plain] [--fresh] [--level N] [--record FILE] GAME|FOLDER."""
 import os
 import sys
 
@@ -16,7 +16,10 @@ _KEYS, _SCREEN = 0, 1
 
 def tell(said):
     """Tells a text on standard error, of which the terminal takes nothing as an order."""
-    os.write(2, harmless_lines(said).encode("utf-8", "replace"))
+    try:
+        os.write(2, harmless_lines(said).encode("utf-8", "replace"))
+    except OSError:
+        pass  # The terminal is gone.
 
 
 def keys_typed():
@@ -32,10 +35,21 @@ def keys_typed():
 def obey(asked):
     """Does what the command line asks for. The status of the call, and what is told on standard error."""
     is_typed = os.isatty(_KEYS) or asked.game == "-"
+    is_folder = os.path.isdir(asked.game)
+    if asked.record is not None and is_folder:
+        raise BadCommandLine(f"--record keeps the keys of one game, and {name_text(asked.game)} is a folder")
     if not (is_typed and os.isatty(_SCREEN)):
         return hand_over(asked)
     sitting = Sitting(asked, keys_typed(), _SCREEN)
-    return sitting.play_folder() if os.path.isdir(asked.game) else sitting.play_game()
+    return sitting.play_folder() if is_folder else play(sitting)
+
+
+def play(sitting):
+    """Plays a game, and tells what became of its recording, however it ends."""
+    try:
+        return sitting.play_game()
+    finally:
+        tell(sitting.recording.told())
 
 
 def main(words):

@@ -1,9 +1,12 @@
 """The program ps_play: what it says of a game, a run of it, and a view that shows a run's output."""
+import fcntl
 import json
 import os
 import signal
+import struct
 import subprocess
 import tempfile
+import termios
 
 from harmless import name_text
 
@@ -116,11 +119,16 @@ class Run:
         self.output = self._process.stdout.fileno()
 
     def send(self, key):
-        """Hands a key to the player, if that takes any."""
+        """Hands a key to the player. Whether that takes it: where it has ended its output tells so."""
         try:
             self._process.stdin.write(key)
         except OSError:
-            pass  # It has ended, which its output tells.
+            return False
+        return True
+
+    def unread(self):
+        """How many of the keys it was handed it hasn't read."""
+        return struct.unpack("i", fcntl.ioctl(self._process.stdin, termios.FIONREAD, bytes(4)))[0]
 
     def end(self):
         """Ends the run, however far it is. Its status, and what it said on standard error."""

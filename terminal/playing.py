@@ -26,9 +26,9 @@ _NAMES = {"act": Key.ACT, "undo": Key.UNDO, "restart": Key.RESTART}
 _WON = (b"* won", b"* the end")
 
 
-# A game that is played: what the player says of it, its progress, what is told once below the first board, if anything is, and
-# what says how a level goes on.
-Game = collections.namedtuple("Game", "described progress notice hints")
+# A game that is played: what the player says of it, its progress, what is told once below the first board, if anything is, what
+# says how a level goes on, and what keeps its keys.
+Game = collections.namedtuple("Game", "described progress notice hints recording")
 
 
 class Playing:
@@ -36,7 +36,7 @@ class Playing:
 
     def __init__(self, run, screen, events, game):
         self._run, self._screen, self._events = run, screen, events
-        self._described, self._progress, self._notice, self._hints = game
+        self._described, self._progress, self._notice, self._hints, self._recording = game
         self._ignored = [_NAMES[name] for name in self._described.ignored if name in _NAMES]
         self._reader, self._pacing, self._moves = OutputReader(), Pacing(), MoveCount()
         # The keys that the run was handed.
@@ -94,7 +94,7 @@ class Playing:
             return self._due()
         if self._typed:
             return self._settled_at(self._typed[0])
-        return self._settled_at(Key.ENTER) if self._is_dismissed or self._notice else None
+        return self._settled_at(Key.ENTER) if self._is_dismissed or self._has_notice() else None
 
     # Output ---------------------------------------------------------------------------------------------------------
 
@@ -195,7 +195,8 @@ class Playing:
 
     def _hand_on(self, key):
         self._keys += key.value
-        self._run.send(key.value)
+        if self._run.send(key.value):
+            self._notice = self._recording.keep(key.value) or self._notice
 
     def _go_on(self):
         """Leaves a page of a message. After the last one the run goes on, perhaps without saying anything."""
@@ -213,9 +214,13 @@ class Playing:
         if self._is_dismissed:
             self._is_dismissed = False
             self._screen.clear_news()
-        if self._notice and not self._has_message and not self._is_owed:
+        if self._has_notice():
             self._screen.ask(self._notice)
-        self._notice = None
+            self._notice = None
+
+    def _has_notice(self):
+        """Whether a notice can be told: nothing else stands in its place, and no answer of the run is on its way."""
+        return self._notice is not None and not (self._has_message or self._is_asked or self._is_owed)
 
     def _help(self):
         """Shows what the glyphs and keys are. Meanwhile the run's output waits."""

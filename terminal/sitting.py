@@ -4,12 +4,13 @@ from events import Events, Kind
 from game_list import GameList
 from game_text import GameText
 from given_glyphs import with_glyphs
-from harmless import decoded, harmless_lines
+from harmless import decoded, harmless_lines, name_text
 from hints import Hints
 from plain_screen import PlainScreen
 from player import Fault, Player, Run
 from playing import BROKEN_OFF, Game, Playing
 from progress import Progress
+from recording import Recording
 from signals import Killed, Signals
 from view_screen import ViewScreen
 
@@ -27,11 +28,13 @@ class Sitting:
         self.console = Console(keys, screen)
         self.signals = Signals()
         self.events = Events(self.console, self.signals)
+        self.recording = Recording()
 
     def play_game(self):
         """Plays the game that is asked for. Its status, and what it said on standard error."""
         with GameText(self.asked.game) as text:
             described = self._described(text)
+            self.recording = Recording(self.asked.record)
             self._begin()
             with_keys = True
             try:
@@ -39,7 +42,7 @@ class Sitting:
                 with_keys = ending.startswith(_QUIT)
             finally:
                 self.console.give_back(with_keys)
-            return status, said
+            return status or int(self.recording.trouble is not None), said
 
     def play_folder(self):
         """Plays the games that are chosen, until the list is left."""
@@ -99,6 +102,8 @@ class Sitting:
         """The level at which a game begins, if it is told to the player, and what the screen says of that."""
         if self.asked.level is not None:
             return self.asked.level, None
+        if self.asked.record is not None:
+            return None, f"You play from the start, and your keys are kept in {name_text(self.asked.record)}."
         level = progress.level(described.levels)
         if self.asked.is_fresh or level == 1 or not self.player.knows("--level"):
             return None, None
@@ -111,7 +116,7 @@ class Sitting:
         run = Run(self.player, text.path, level)
         screen = PlainScreen(self.console) if self.asked.is_plain else ViewScreen(self.console, self.player, text.path)
         hints = Hints(self.player, text.path, level)
-        playing = Playing(run, screen, self.events, Game(described, progress, notice, hints))
+        playing = Playing(run, screen, self.events, Game(described, progress, notice, hints, self.recording))
         try:
             playing.play()
         except BaseException as stopped:
@@ -119,4 +124,6 @@ class Sitting:
             self.events.output = None
             screen.leave(INTERRUPTED if isinstance(stopped, Killed) else BROKEN_OFF)
             raise
+        finally:
+            self.recording.end(run.unread())
         return (*run.end(), playing.ending)

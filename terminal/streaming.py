@@ -15,6 +15,8 @@ _MOST_BYTES = 65536
 
 def hand_over(asked):
     """Plays by keys of standard input. The status, and what was said on standard error."""
+    if asked.record is not None:
+        raise Fault(b"play: --record keeps keys that are typed at a terminal; tee FILE keeps those of a pipe\n", 1)
     if os.path.isdir(asked.game):
         raise Fault(b"play: a game of a folder is chosen at a terminal\n", 1)
     level = [] if asked.level is None else ["--level", str(asked.level)]

@@ -126,6 +126,73 @@ class AtTerminalTest(unittest.TestCase):
         sitting.wait_for(b"* quit")
         self.assertEqual(sitting.end(), (0, True))
 
+    def record(self, *words):
+        """A call that keeps keys, and the file that they are kept in."""
+        file = pathlib.Path(self.folder) / "a.keys"
+        return self.sit(self.game, "--record", str(file), *words), file
+
+    def replayed(self, file):
+        """The last line that a run writes on the keys of a file."""
+        with open(file, "rb") as keys:
+            return subprocess.run([STAND_IN, self.game], stdin=keys, capture_output=True).stdout.splitlines()[-1]
+
+    def test_a_recording_has_the_keys_of_the_run(self):
+        sitting, file = self.record()
+        sitting.wait_for(b"your keys are kept in")
+        sitting.type(b"D?")
+        sitting.wait_for(b"any key goes on")
+        sitting.type(b"x")
+        sitting.wait_for(b"any key goes back")
+        sitting.type(b"wp\x1b[Cd")
+        sitting.wait_for(b"#P.*#")
+        self.assertEqual(file.read_bytes(), b"ddd")
+        sitting.type(b"dhdx")
+        sitting.wait_for(b"* won")
+        sitting.wait_for(b"a.keys has 5 keys\r\n")
+        self.assertEqual(sitting.end(), (0, True))
+        self.assertEqual(file.read_bytes(), b"ddddd")
+        self.assertEqual(self.replayed(file), b"* won")
+
+    def test_a_recording_begins_at_the_start(self):
+        sitting = self.sit(self.game)
+        sitting.type(b"ddd")
+        sitting.wait_for(b"#P.*#")
+        sitting.type(b"qq")
+        self.assertEqual(sitting.end(), (0, True))
+        sitting, file = self.record("--plain")
+        sitting.wait_for(b"#P..*#")
+        sitting.type(b"zqq")
+        sitting.wait_for(b"a.keys has 2 keys\r\n")
+        self.assertEqual(sitting.end(), (0, True))
+        self.assertEqual(file.read_bytes(), b"zq")
+        self.assertEqual(self.replayed(file), b"* quit")
+
+    def test_a_recording_that_a_signal_ends(self):
+        for number in (signal.SIGINT, signal.SIGHUP, signal.SIGKILL):
+            sitting, file = self.record()
+            sitting.wait_for(b"#P..*#")
+            sitting.type(b"d")
+            sitting.wait_for(b"1 move")
+            sitting.process.send_signal(number)
+            self.assertEqual(sitting.end()[0], -number)
+            self.assertEqual(file.read_bytes(), b"d")
+            file.unlink()
+
+    def test_recordings_that_cannot_be(self):
+        file = pathlib.Path(self.folder) / "a.keys"
+        file.write_bytes(b"wasd")
+        with open(self.game, "rb") as keys:
+            sittings = [
+                (self.sit("--record", str(file), self.game), b"it isn't empty; name a new file", 1),
+                (self.sit("--record", str(file), self.folder), b"is a folder", 2),
+                (self.sit("--record", str(file), "--level", "2", self.game), b"from the start of the game", 2),
+                (self.sit("--record", str(file), self.game, stdin=keys), b"tee FILE keeps those of a pipe", 1),
+            ]
+        for sitting, said, status in sittings:
+            sitting.wait_for(said)
+            self.assertEqual(sitting.end(), (status, True))
+        self.assertEqual(file.read_bytes(), b"wasd")
+
     def test_a_text_from_a_pipe(self):
         with open(self.game, "rb") as file:
             sitting = self.sit("-", "--plain", stdin=file)

@@ -56,15 +56,18 @@ class ProgressTest(unittest.TestCase):
 
 class OptionsTest(unittest.TestCase):
     def test_options_in_any_order(self):
-        self.assertEqual(read_options(["P", "G"]), Options("P", "G", False, False, None))
-        self.assertEqual(read_options(["P", "--fresh", "G", "--level", "3"]), Options("P", "G", False, True, 3))
-        self.assertEqual(read_options(["P", "--plain", "--level=2", "-"]), Options("P", "-", True, False, 2))
-        self.assertEqual(read_options(["P", "--", "--plain"]), Options("P", "--plain", False, False, None))
+        self.assertEqual(read_options(["P", "G"]), Options("P", "G", False, False, None, None))
+        self.assertEqual(read_options(["P", "--fresh", "G", "--level", "3"]), Options("P", "G", False, True, 3, None))
+        self.assertEqual(read_options(["P", "--plain", "--level=2", "-"]), Options("P", "-", True, False, 2, None))
+        self.assertEqual(read_options(["P", "--", "--plain"]), Options("P", "--plain", False, False, None, None))
+        self.assertEqual(read_options(["P", "G", "--record", "-k=v"]), Options("P", "G", False, False, None, "-k=v"))
+        self.assertEqual(read_options(["P", "--record=a=b", "G"]), Options("P", "G", False, False, None, "a=b"))
 
     def test_bad_command_lines(self):
-        for words in ([], ["P"], ["P", "G", "H"], ["P", "--bogus", "G"], ["P", "--level", "0", "G"], ["P", "G", "--level"]):
-            with self.assertRaises(BadCommandLine):
-                read_options(words)
+        for line in ("", "P", "P G H", "P --bogus G", "P --level 0 G", "P G --level", "P --level 1 --level 2 G",
+                     "P G --record", "P G --record=", "P G --record -", "P --record a --record b G", "P --record a --level 2 G"):
+            with self.assertRaises(BadCommandLine, msg=line):
+                read_options(line.split())
 
 
 class GameTextTest(unittest.TestCase):

@@ -24,6 +24,7 @@ class FakeRun:
     """Answers keys by what it was told to, one answer for each."""
 
     output = 7
+    has_ended = False
 
     def __init__(self, events, answers):
         self.sent, self.events, self.answers = b"", events, collections.deque(answers)
@@ -32,6 +33,7 @@ class FakeRun:
         self.sent += key
         if self.answers:
             self.events.come(self.answers.popleft())
+        return not self.has_ended
 
 
 class FakeEvents:
@@ -98,6 +100,10 @@ class FakeScreen:
 
 
 class PlayingTest(unittest.TestCase):
+    def setUp(self):
+        self.kept = mock.Mock()
+        self.kept.keep.return_value = None
+
     def play(self, keys, answers=(), start=START, pages=1, notice=None, has_hints=True):
         clock = Clock()
         events = FakeEvents(clock, keys)
@@ -107,7 +113,7 @@ class PlayingTest(unittest.TestCase):
         self.hints.after.return_value = "d wins."
         events.come(start)
         with mock.patch.object(playing, "time", clock):
-            game = Game(Described(SAID), self.progress, notice, self.hints)
+            game = Game(Described(SAID), self.progress, notice, self.hints, self.kept)
             self.playing = Playing(self.run_, self.screen, events, game)
             self.playing.play()
         return self.screen.said
@@ -196,6 +202,33 @@ class PlayingTest(unittest.TestCase):
         said = self.play([Key.RIGHT], [b".P.\n\n"], notice="You go on")
         self.assertEqual(said.count("? You go on"), 1)
         self.assertEqual(said[4], "? You go on")
+
+    def test_a_notice_waits_for_a_message_and_a_question(self):
+        said = self.play([Key.ENTER], [b"# level 1\nP..\n\n"], start=b"= T\n! Hi\n", notice="You go on")
+        self.assertEqual(said[-2:], ["? You go on", playing.BROKEN_OFF])
+        self.kept.keep.side_effect = [None, "No longer"]
+        said = self.play([Key.RIGHT, Key.RIGHT, Key.QUIT, Key.LEFT], [b".P.\n\n", b"..P\n\n! Hi\n", b".P.\n\n"])
+        self.assertNotIn("? No longer", said)
+
+    def test_keys_that_are_kept(self):
+        """Just those that the run is handed and takes."""
+        typed = [Key.RIGHT, Key.HELP, Key.HINT, Key.OTHER, Key.UNDO, Key.QUIT, Key.ACT]
+        at_message = [Key.RESTART, Key.LEFT, Key.ENTER, Key.QUIT, Key.QUIT]
+        self.play(typed + at_message, [b".P.\n\n", b".P.\n\n! Hi\n", b"P..\n\n", b"* quit\n"])
+        self.assertEqual(self.run_.sent, b"dxxq")
+        self.assertEqual([call.args[0] for call in self.kept.keep.call_args_list], [b"d", b"x", b"x", b"q"])
+
+    def test_a_key_that_the_run_does_not_take_is_not_kept(self):
+        with mock.patch.object(FakeRun, "has_ended", True):
+            self.play([Key.RIGHT], [b""])
+        self.assertEqual(self.run_.sent, b"d")
+        self.kept.keep.assert_not_called()
+
+    def test_it_is_told_where_keys_are_kept_no_longer(self):
+        self.kept.keep.side_effect = [None, "No longer", None]
+        said = self.play([Key.RIGHT, Key.RIGHT, Key.LEFT], [b".P.\n\n", b"..P\n\n", b".P.\n\n"])
+        self.assertEqual(said.count("? No longer"), 1)
+        self.assertEqual(said.index("? No longer"), said.index(b"..P\n\n") + 1)
 
 
 if __name__ == "__main__":

@@ -19,7 +19,7 @@ _play() {
         COMPREPLY=()
         return
         ;;
-    --after | --keys | --sizes | --show | --stop-file)
+    --after | --keys | --record | --sizes | --show | --stop-file)
         mapfile -t COMPREPLY < <(compgen -f -- "$word")
         compopt -o filenames 2>/dev/null
         return
@@ -41,7 +41,7 @@ _play() {
     options='--level --fresh --plain --check --why --all --limit --format --warn --strict --solve --states --after --stop-file --replay --help --version'
     case ${COMP_WORDS[0]##*/} in
     ps_play) options+=' --keys --view --sizes --show --describe --explain' ;;
-    *) options+=' --page --title --engine --prove --keep --install --library' ;;
+    *) options+=' --record --page --title --engine --prove --keep --install --library' ;;
     esac
     case $word in
     -*) mapfile -t COMPREPLY < <(compgen -W "$options" -- "$word") ;;
