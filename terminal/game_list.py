@@ -6,9 +6,12 @@ from game_text import GameText
 from harmless import decoded, harmless, name_text
 from player import Fault
 from typed_keys import Key
-from widths import width
+from widths import width, wrapped
 
 _HEAD = "w s or the arrows choose a game, Enter plays it, q leaves."
+_NONE = "There is no game here: no file ends with .game or .txt."
+# How many columns the names have at most, before the titles.
+_MOST_OF_NAMES = 24
 _STEPS = {Key.UP: -1, Key.DOWN: 1}
 _ENDINGS = (".game", ".txt")
 
@@ -28,6 +31,8 @@ class GameList:
         self._folder = folder
         self._player = player
         self._names = games_of(folder)
+        widest = max((width(name_text(name)) for name in self._names), default=0)
+        self._title_column = min(widest + 2, _MOST_OF_NAMES)
         self._titles = {}
         self._chosen = 0
         self._top = 0
@@ -49,11 +54,12 @@ class GameList:
 
     def rows(self, rows, columns):
         """The rows of the screen: the head, and below it as much of the list as has room."""
-        room = max(rows - 2, 1)
+        head = [*wrapped(_HEAD, columns), ""]
+        head = head if rows > len(head) else []
+        room = rows - len(head)
         self._top = min(max(self._top, self._chosen - room + 1), self._chosen)
         places = range(self._top, min(self._top + room, len(self._names)))
-        listed = [self._row(place) for place in places] or ["There is no game here: no file ends with .game or .txt."]
-        return [_HEAD, ""][:rows - 1] + listed if rows > 2 else listed
+        return head + ([self._row(place) for place in places] or wrapped(_NONE, columns))
 
     def _move(self, step):
         self._chosen = min(max(self._chosen + step, 0), max(len(self._names) - 1, 0))
@@ -61,7 +67,7 @@ class GameList:
     def _row(self, place):
         """A game: a mark where it is the chosen one, its file and its title."""
         name = name_text(self._names[place])
-        blanks = " " * max(24 - width(name), 2)
+        blanks = " " * max(self._title_column - width(name), 2)
         return f"{'>' if place == self._chosen else ' '} {name}{blanks}{self._title(place)}"
 
     def _title(self, place):

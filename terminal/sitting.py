@@ -17,6 +17,7 @@ from view_screen import ViewScreen
 INTERRUPTED = b"* interrupted\n"
 _QUIT = b"* quit"
 _BACK = "Any key leads back to the list."
+_HELP = "h gives a hint, ? explains the signs."
 
 
 class Sitting:
@@ -105,8 +106,10 @@ class Sitting:
         if self.asked.record is not None:
             return None, f"You play from the start, and your keys are kept in {name_text(self.asked.record)}."
         level = progress.level(described.levels)
-        if self.asked.is_fresh or level == 1 or not self.player.knows("--level"):
+        if self.asked.is_fresh or not self.player.knows("--level"):
             return None, None
+        if level == 1:
+            return None, _HELP
         return level, f"You go on at level {level}; --fresh begins at the first."
 
     def _play(self, text, described):

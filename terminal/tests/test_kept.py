@@ -122,6 +122,13 @@ class GameListTest(unittest.TestCase):
         listed._move(-3)
         self.assertEqual(listed.rows(5, 80)[2].split(), [">", "g1.game"])
 
+    def test_a_narrow_terminal(self):
+        self.fill(ab="title A", c="title C")
+        rows = self.listed().rows(12, 40)
+        self.assertEqual(rows[:3], ["w s or the arrows choose a game, Enter", "plays it, q leaves.", ""])
+        self.assertEqual(rows[3:], ["> ab.game  A", "  c.game   C"])
+        self.assertEqual(self.listed().rows(3, 40), ["> ab.game  A", "  c.game   C"])
+
     def test_choosing(self):
         self.fill(a="FAULT", b="FAULT")
         listed, console = self.listed(), mock.Mock(size=lambda: (24, 80))
