@@ -1,5 +1,5 @@
 -- What an answer says of a level is true of another script too, where inputs lead to the same sessions.
-use Rattle.std.proofs.Common.{◌≡◌, ◌∙◌, ◌≢◌, ◌==◌, ◌+◌, ◌⊎◌, inl, inr, ℕ, Bool, true, false, List, [], ◌∷◌, Option, Some, None}
+use Rattle.std.proofs.Common.{◌≡◌, ◌∙◌, ◌≢◌, ◌==◌, ◌+◌, inl, inr, ℕ, Bool, true, false, List, [], ◌∷◌, Option, Some, None}
 use Rattle.std.proofs.Common.{refl, sym, ap, arith}
 use Rattle.std.proofs.lemmas.Bool.Decides.{nat_tests}
 use Rattle.std.proofs.lemmas.List.Elements.{All-weaker}
@@ -8,7 +8,7 @@ use Rattle.ps_model.specs.board.Turns.{Script}
 use Rattle.ps_model.specs.session.Sessions.{Pending, Play, Session, Playing, Waiting, AtMessage, Ended}
 use Rattle.ps_model.specs.session.Solving.{NotWithin, Spot, is_past, session_after_inputs, spot, spot_of}
 use Rattle.ps_laws.proofs.sessions.SolvingSpots.{levels_are_not_past}
-use Rattle.ps_answers.specs.CoveredSpots.{AreKept, CoversAll, CoversWithin, IsLedTo, IsLedWithin}
+use Rattle.ps_answers.specs.CoveredSpots.{AreKept, CoversAll, IsLedTo, IsLedWithin}
 use Rattle.ps_answers.specs.SolvedLevels.{IsSolved}
 use Rattle.ps_answers.specs.declared.solved.Solved.{Solved}
 use Rattle.ps_answers.specs.declared.solved.Solved.TheVariants.{Won, Never, Unknown}
