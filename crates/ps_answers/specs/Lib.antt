@@ -1,3 +1,4 @@
+pub mod CoveredSpots
 pub mod Forms
 pub mod SolvedAfterKeys
 pub mod SolvedLevels

@@ -3,6 +3,7 @@ use Rattle.std.specs.Prelude.{◌≡◌, ⊤, ℕ, ◌≤◌, Bool, true, false,
 use Rattle.ps_model.specs.board.Turns.{Script}
 use Rattle.ps_model.specs.session.Sessions.{Session}
 use Rattle.ps_model.specs.session.Solving.{WinsInFewest, NeverWins, NotWithin, Spot, spot}
+use Rattle.ps_answers.specs.CoveredSpots.{AreKept, CoversAll}
 use Rattle.ps_answers.specs.declared.solved.Solved.{Solved}
 use Rattle.ps_answers.specs.declared.solved.Solved.TheVariants.{Won, Never, Unknown}
 use Rattle.ps_answers.specs.declared.solved.Unsolved.{Unsolved}
@@ -30,10 +31,13 @@ IsUnsolved limit states unsolved.Stopped = ⊤
 IsUnsolved limit states unsolved.Full = ⊤
 IsUnsolved limit states unsolved.Boards = ⊤
 
--- an answer is true of the level of an entry, from a session on, and no more states than the limit are kept
+-- an answer is true of the level of an entry, from a session on, and no more states than the limit are kept. So is the
+-- number of them that it tells
 module _ (script : Script) (entry : ℕ) (session : Session) (limit : ℕ) where
   abbrev pub IsSolved : Solved → Type 0
   IsSolved (Won inputs) = WinsInFewest script entry session inputs.items
-  IsSolved (Never states) = NeverWins script entry session × (states ≤ limit)
+  IsSolved (Never states) =
+      NeverWins script entry session × (states ≤ limit) × CoversAll script entry session states
   IsSolved (Unknown states depth why) =
       NotWithin script entry session depth × (states ≤ limit) × IsUnsolved limit states why
+      × AreKept script entry session depth states

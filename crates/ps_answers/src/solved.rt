@@ -12,11 +12,13 @@ pub enum Solved {
     Won {
         keys: Vec<Input>,
     },
-    /// None do, however many. `states` were kept: all that inputs lead to, and some perhaps more than once.
+    /// None do, however many. `states` were kept: all that inputs lead to, and no others. Some may be kept more than
+    /// once.
     Never {
         states: u32,
     },
-    /// No `depth` of them do, nor fewer. `states` were kept when the search stopped.
+    /// No `depth` of them do, nor fewer. `states` were kept when the search stopped: all that at most `depth` inputs lead
+    /// to, and besides them only such as one input more leads to. None were kept where it couldn't begin.
     Unknown {
         states: u32,
         depth: u32,

@@ -1,17 +1,19 @@
-use Rattle.std.proofs.Common.{◌≡◌, ◌≢◌, ℕ, Bool, ◌+◌, ◌<◌, ◌≤◌, ◌⊎◌, inl, inr, List, [], ◌∷◌, ◌++◌, length, Option, Some, None, map, slice_get, sym, ap, ◌∙◌, arith, subst}
+use Rattle.std.proofs.Common.{◌≡◌, ◌≢◌, ℕ, Bool, ◌+◌, ◌<◌, ◌≤◌, ◌⊎◌, inl, inr, List, [], ◌∷◌, ◌++◌, length, Option, Some, None, map, slice_get, refl, sym, ap, ◌∙◌, arith, subst}
 use Rattle.std.specs.List.{All}
 use Rattle.std.proofs.Math.Nat.{eq-or-lt_of_le}
 use Rattle.std.proofs.lemmas.List.{length-map}
 use Rattle.std.proofs.lemmas.List.Elements.{All-nil, All-cons}
 use Rattle.ps_search.specs.declared.answers.Found.{Found}
 use Rattle.ps_search.specs.declared.answers.Found.TheVariants.{Won, Never, Unknown}
+use Rattle.ps_search.specs.declared.answers.Why.{Why}
 use Rattle.ps_search.specs.declared.answers.Why.TheVariants.{Limit, Memory, Stopped, Moves}
 use Rattle.ps_search.specs.declared.visited.Link.{Link}
 use Rattle.ps_search.specs.Leads.{WinsInFewest, NeverWins, NotWithin}
-use Rattle.ps_search.specs.Answers.{IsAnswer, IsWon}
+use Rattle.ps_search.specs.Covers.{CoversAll, CoversWithin}
+use Rattle.ps_search.specs.Answers.{IsAnswer, IsReason, IsWon}
 use Rattle.ps_search.specs.Noted.{IsKnown, IsNoted}
 use Rattle.ps_search.specs.Searched.{Searched, Kept, IsDone}
-use Rattle.ps_search.proofs.Progress.{started, not_within, next_layer, never}
+use Rattle.ps_search.proofs.Progress.{started, not_within, next_layer, never, covers_within, covers_all}
 
 -- a number with a place below the end of a layer, which is the last one where nothing more has a number
 pub before_end : (at end count : ℕ) → at ≤ end → (at ≡ end → at ≡ count) → at < count → at < end
@@ -20,6 +22,15 @@ before_end at end count order last below = by (eq-or-lt_of_le order)
     by : (at ≡ end) ⊎ (at < end) → at < end
     by (inl same) = let all = last same in absurd (omega arith)
     by (inr less) = less
+
+-- a search that can't begin knows that no list without an input leads past
+pub not_begun : {Place Input Fault : Type 0} (next : Place → Input → Option Place) (start : Place) (inputs : List Input) (limit : ℕ) (why : Why Fault) → IsReason limit 0 why
+    → IsAnswer next start inputs limit (Unknown 0 0 why)
+not_begun next start inputs limit why reason = (not_at_once, omega arith, reason, inr (refl, refl))
+  where
+    not_at_once : NotWithin next start inputs 0
+    not_at_once [] given short past = cc
+    not_at_once (input ∷ list) given short past = absurd (omega arith)
 
 module _ {Place Input Key : Type 0} (next : Place → Input → Option Place) (start : Place) (inputs : List Input) (is_key : Key → Type 0) (place : Key → Place) where
   -- a search begins when the key of the start is kept
@@ -51,6 +62,14 @@ module _ {Place Input Key : Type 0} (next : Place → Input → Option Place) (s
     -- and where nothing is left
     pub ended : length keys ≤ at → NeverWins next start inputs
     ended h = never next start inputs (map place keys) links at end depth before.searched (let e = length-map keys place in omega arith)
+
+    -- how many places are kept until then
+    pub kept_within : (states : ℕ) → states ≡ length keys → CoversWithin next start inputs depth states
+    kept_within states many = covers_within next start inputs (map place keys) links at end depth before.searched states (length-map keys place ∙ sym many)
+
+    pub kept_whole : length keys ≤ at → (states : ℕ) → states ≡ length keys → CoversAll next start inputs states
+    kept_whole h states many =
+        covers_all next start inputs (map place keys) links at end depth before.searched (let e = length-map keys place in omega arith) states (length-map keys place ∙ sym many)
 
     -- the layer after the last place of one
     pub kept_next_layer : at ≡ end → Kept next start inputs is_key place keys links at (length keys) (depth + 1)
@@ -100,16 +119,28 @@ module _ {Place Input Key : Type 0} (next : Place → Input → Option Place) (s
 
   -- the answer where an input leads past
   pub told : {Fault : Type 0} (limit : ℕ) (keys : List Input) (depth count : ℕ) (found : Found Input Fault) → IsWon keys depth count found → WinsInFewest next start inputs keys → NotWithin next start inputs depth
-      → count ≤ limit → IsAnswer next start inputs limit found
-  told limit keys depth count (Won said) same wins short within = subst (WinsInFewest next start inputs) (sym same) wins
-  told limit keys depth count (Never states) same wins short within = absurd same
-  told limit keys depth count (Unknown states deep Memory) same wins short within =
-      let e = same.0 in (subst (NotWithin next start inputs) (sym same.1) short, omega arith, tt)
-  told limit keys depth count (Unknown states deep Limit) same wins short within = absurd same
-  told limit keys depth count (Unknown states deep Stopped) same wins short within = absurd same
-  told limit keys depth count (Unknown states deep (Moves fault)) same wins short within = absurd same
+      → CoversWithin next start inputs depth count → count ≤ limit → IsAnswer next start inputs limit found
+  told limit keys depth count (Won said) same wins short covers within = subst (WinsInFewest next start inputs) (sym same) wins
+  told limit keys depth count (Never states) same wins short covers within = absurd same
+  told limit keys depth count (Unknown states deep Memory) same wins short covers within =
+      let e = same.0 in (
+        subst (NotWithin next start inputs) (sym same.1) short,
+        omega arith,
+        tt,
+        inl (subst (λ (d : ℕ). CoversWithin next start inputs d states) (sym same.1) (subst (CoversWithin next start inputs depth) (sym e) covers)),
+      )
+  told limit keys depth count (Unknown states deep Limit) same wins short covers within = absurd same
+  told limit keys depth count (Unknown states deep Stopped) same wins short covers within = absurd same
+  told limit keys depth count (Unknown states deep (Moves fault)) same wins short covers within = absurd same
 
 -- what is said of a graph is said of one with the same steps and start
+pub kept_as : {Place Input Key : Type 0} (inputs : List Input) (is_key : Key → Type 0) (place : Key → Place) (keys : List Key) (links : List (Link Input)) (at end depth : ℕ)
+    (next other_next : Place → Input → Option Place) (start other_start : Place) → next ≡ other_next → start ≡ other_start
+    → Kept next start inputs is_key place keys links at end depth → Kept other_next other_start inputs is_key place keys links at end depth
+kept_as {Place} {Input} inputs is_key place keys links at end depth next other_next start other_start n s kept =
+    subst (λ (o : Place). Kept other_next o inputs is_key place keys links at end depth) s
+    (subst (λ (o : Place → Input → Option Place). Kept o start inputs is_key place keys links at end depth) n kept)
+
 pub done_as : {Place Input Key : Type 0} (inputs : List Input) (is_key : Key → Type 0) (place : Key → Place) (keys : List Key) (links : List (Link Input)) (at end depth : ℕ)
     (next other_next : Place → Input → Option Place) (start other_start : Place) (found other : Option Input) → next ≡ other_next → start ≡ other_start → found ≡ other
     → IsDone next start inputs is_key place keys links at end depth found → IsDone other_next other_start inputs is_key place keys links at end depth other

@@ -44,6 +44,14 @@ module _ {Place Input Key : Type 0} (next : Place → Input → Option Place) (s
   pub numbered_on : (keys : List Key) → All is_key keys → (led : Option Place) → IsNumbered (map place keys) led → IsNumbered (map new_place keys) led
   numbered_on keys known led numbered = subst (λ (places : List Place). IsNumbered places led) (sym (places_kept keys known)) numbered
 
+-- a search that keeps the same keys with the same links is as far as it was
+pub kept_same : {Place Input Key : Type 0} (next : Place → Input → Option Place) (start : Place) (inputs : List Input) (is_key : Key → Type 0) (place : Key → Place)
+    (keys new_keys : List Key) (links new_links : List (Link Input)) (at end depth : ℕ) → new_keys ≡ keys → new_links ≡ links
+    → Kept next start inputs is_key place keys links at end depth → Kept next start inputs is_key place new_keys new_links at end depth
+kept_same {Place} {Input} {Key} next start inputs is_key place keys new_keys links new_links at end depth k l kept =
+    subst (λ (own : List Key). Kept next start inputs is_key place own new_links at end depth) (sym k)
+    (subst (λ (own : List (Link Input)). Kept next start inputs is_key place keys own at end depth) (sym l) kept)
+
 -- what a step tells
 pub told : {Place Key : Type 0} (is_key : Key → Type 0) (place : Key → Place) (here : Place) (led : Option Place) (step known : Step Key) → IsStep is_key place here led step → step ≡ known → IsStep is_key place here led known
 told is_key place here led step known is same = subst (IsStep is_key place here led) same is

@@ -4,9 +4,10 @@ use Rattle.std.specs.List.{Contains}
 use Rattle.std.specs.Option.{option_and_then}
 use Rattle.std.proofs.lemmas.List.{take-append-drop, length-take, length-drop, append-nil}
 use Rattle.std.proofs.lemmas.List.Elements.{All-nil, All-push, All-head, All-tail, All-take, All-drop}
-use Rattle.std.proofs.lemmas.Option.{slice_get_within}
+use Rattle.std.proofs.lemmas.Option.{slice_get_within, slice_get-get_or, get_or_from_slice_get}
 use Rattle.std.proofs.lemmas.Bool.Decides.{nat_tests}
 use Rattle.ps_search.specs.declared.visited.Link.{Link}
+use Rattle.ps_search.specs.Covers.{CoversAll, CoversWithin}
 use Rattle.ps_search.specs.Leads.{led, AreGiven, WinsInFewest, NeverWins, NotWithin}
 use Rattle.ps_search.specs.Ways.{way, IsBefore, AreOrdered}
 use Rattle.ps_search.specs.Searched.{IsNumbered, IsSpelled, Searched}
@@ -155,6 +156,39 @@ module _ {Place Input : Type 0} (next : Place → Input → Option Place) (start
         let h = searched.within in
         let first = searched.covered [] (All-nil (Contains inputs)) (omega arith) in
         numbered_is_place places (led next start keys) (all_numbered done keys given first.0 start (sym first.2)) past
+
+    -- what has a number is listed
+    listed : (place : Place) (number : ℕ) → slice_get places number ≡ Some place → Contains places place
+    listed place number is =
+        (number, slice_get_within places number place is, get_or_from_slice_get places number place place is)
+
+    -- the places that have a number cover the depth
+    pub covers_within : (states : ℕ) → length places ≡ states → CoversWithin next start inputs depth states
+    covers_within states many = record {
+      places = places;
+      many = many;
+      each_led = λ number other below.
+          let spelled = searched.spelled number below in
+          (way links number, spelled.given, searched.deeper number below, spelled.leads ∙ slice_get-get_or places number other below);
+      all_listed = λ place to.
+          let found = searched.covered to.0 to.1 to.2 in
+          listed place found.0 (sym found.2 ∙ to.3);
+    }
+
+    -- and all that there are, where each place is done
+    pub covers_all : length places ≤ at → (states : ℕ) → length places ≡ states → CoversAll next start inputs states
+    covers_all done states many = record {
+      places = places;
+      many = many;
+      each_led = λ number other below.
+          let spelled = searched.spelled number below in
+          (way links number, spelled.given, spelled.leads ∙ slice_get-get_or places number other below);
+      all_listed = λ place to.
+          let h = searched.within in
+          let first = searched.covered [] (All-nil (Contains inputs)) (omega arith) in
+          let found = all_numbered done to.0 to.1 first.0 start (sym first.2) in
+          listed place found.0 (sym found.2 ∙ to.2);
+    }
 
   -- one more place is met from one of the layer, unless it has a number
   module _ (places : List Place) (links : List (Link Input)) (at end depth : ℕ) (searched : Searched next start inputs places links at end depth)

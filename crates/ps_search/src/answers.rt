@@ -7,11 +7,13 @@ pub enum Found<I, F> {
     Won {
         inputs: Vec<I>,
     },
-    /// No list leads past; `states` keys stand for all places that lists lead to.
+    /// No list leads past. `states` keys stand for all places that lists lead to, and for no others.
     Never {
         states: u32,
     },
-    /// No list of at most `depth` inputs leads past; `states` keys were kept when the search stopped.
+    /// No list of at most `depth` inputs leads past. `states` keys were kept when the search stopped: they stand for all
+    /// places that such lists lead to, and besides them only for such as one input more leads to. None were kept where
+    /// it couldn't begin.
     Unknown {
         states: u32,
         depth: u32,

@@ -1,6 +1,6 @@
 //! What one place leads to.
 
-ghost use Rattle.std.specs.Prelude.{◌≡◌, ◌<◌, ◌≤◌, Option, length, map, IfErr, IfOk, OnOk};
+ghost use Rattle.std.specs.Prelude.{◌≡◌, ◌<◌, ◌≤◌, Option, length, map, IfErr, IfOk, OnErr, OnOk};
 ghost use Rattle.std.specs.List.{Contains};
 ghost use Rattle.ps_search.specs.Answers.{IsReason};
 ghost use Rattle.ps_search.specs.Searched.{Kept, UnderWork, IsNumbered, IsLed, IsDone};
@@ -35,6 +35,9 @@ fn advance<M: Moves>(
     ensures led { IfOk result (IsLed (map (M.place moves.new) visited.new.keys.keys) (M.next moves.old (M.here
         moves.old) input)) }
     ensures here { OnOk result (M.here moves.new ≡ M.here moves.old) }
+    ensures kept { OnErr result (Kept (M.next moves.old) (M.start moves.old) inputs.now (M.is_key moves.new) (M.place
+        moves.new) visited.new.keys.keys (links_of visited.new.parents.items visited.new.inputs.items) layer.at
+        layer.end layer.depth) }
     ensures next { M.next moves.new ≡ M.next moves.old }
     ensures start { M.start moves.new ≡ M.start moves.old }
     ensures within { length visited.new.keys.keys ≤ visited.new.limit }
@@ -76,6 +79,9 @@ fn enter<M: Moves>(
     ensures work { OnOk result (UnderWork (M.next moves.old) (M.start moves.old) inputs.now (M.is_key moves.new)
         (M.place moves.new) (M.here moves.new) visited.now.keys.keys (links_of visited.now.parents.items visited.now.inputs.items) layer.at layer.end
         layer.depth) }
+    ensures kept { OnErr result (Kept (M.next moves.old) (M.start moves.old) inputs.now (M.is_key moves.new) (M.place
+        moves.new) visited.now.keys.keys (links_of visited.now.parents.items visited.now.inputs.items) layer.at
+        layer.end layer.depth) }
     ensures next { M.next moves.new ≡ M.next moves.old }
     ensures start { M.start moves.new ≡ M.start moves.old }
 {
@@ -106,6 +112,9 @@ pub(crate) fn expand<M: Moves>(
     requires within { length visited.old.keys.keys ≤ visited.old.limit }
     ensures done { IfOk result (IsDone (M.next moves.old) (M.start moves.old) inputs.now (M.is_key moves.new)
         (M.place moves.new) visited.new.keys.keys (links_of visited.new.parents.items visited.new.inputs.items) layer.at layer.end layer.depth) }
+    ensures kept { OnErr result (Kept (M.next moves.old) (M.start moves.old) inputs.now (M.is_key moves.new) (M.place
+        moves.new) visited.new.keys.keys (links_of visited.new.parents.items visited.new.inputs.items) layer.at
+        layer.end layer.depth) }
     ensures next { M.next moves.new ≡ M.next moves.old }
     ensures start { M.start moves.new ≡ M.start moves.old }
     ensures within { length visited.new.keys.keys ≤ visited.new.limit }

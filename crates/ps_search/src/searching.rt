@@ -118,7 +118,6 @@ pub fn search<M: Moves, W: Watcher>(
             }
         }
     }
-    Found::Never {
-        states: visited.count(),
-    }
+    let states = visited.count();
+    Found::Never { states }
 }

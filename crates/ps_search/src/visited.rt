@@ -98,6 +98,8 @@ impl<K: Eq + Hash + Drop, I: Copy> Visited<K, I> {
         ensures within { length self.new.keys.keys ≤ self.new.limit }
         ensures limit { self.new.limit ≡ self.old.limit }
         ensures stay { OnErr result (self.new.keys.keys ≡ self.old.keys.keys) }
+        ensures stay_linked { OnErr result (links_of self.new.parents.items self.new.inputs.items
+            ≡ links_of self.old.parents.items self.old.inputs.items) }
         ensures refused { IfErr result (IsRefusal self.new.limit (length self.new.keys.keys)) }
     {
         if self.keys.len() == self.limit as usize {

@@ -1,3 +1,4 @@
+mod SpotsAfterInputs
 mod SearchedSpots
 mod KeptKeys
 mod KeptSituations

@@ -1,10 +1,11 @@
 -- What a search finds over the spots of a level is true of the level.
-use Rattle.std.proofs.Common.{◌≡◌, ◌∙◌, ℕ, Bool, true, false, List, [], ◌∷◌, Option, Some, None}
+use Rattle.std.proofs.Common.{◌≡◌, ◌∙◌, ◌+◌, inl, inr, ℕ, Bool, true, false, List, [], ◌∷◌, Option, Some, None}
 use Rattle.std.proofs.Common.{refl, sym, ap, arith}
 use Rattle.std.specs.Prelude.{is_none, slice_index_or}
 use Rattle.std.specs.List.{Contains}
 use Rattle.std.specs.Option.{option_and_then}
 use Rattle.std.proofs.lemmas.Bool.{false≢true}
+use Rattle.std.proofs.lemmas.List.Elements.{All-weaker}
 use Rattle.ps_model.specs.declared.play.Input.{Input}
 use Rattle.ps_model.specs.declared.play.Input.TheVariants.{Up, Down, Left, Right, Action}
 use Rattle.ps_model.specs.board.Turns.{Script}
@@ -13,12 +14,15 @@ use Rattle.ps_model.specs.session.Solving.{session_after_inputs, is_past, Spot, 
 use Rattle.ps_trial.specs.Scripts.{PlaysAs}
 use Rattle.ps_trial.specs.SilentStarts.{Boards}
 use Rattle.ps_trial.proofs.SameTurns.{spots_of_input}
+use Rattle.ps_answers.specs.CoveredSpots.{AreKept, CoversAll, IsLedTo, IsLedWithin}
 use Rattle.ps_laws.proofs.sessions.SolvingSpots.{lists_go_by_spots}
 use Rattle.ps_search.specs.declared.answers.Found.{Found}
 use Rattle.ps_search.specs.declared.answers.Found.TheVariants.{Won, Never, Unknown}
+use Rattle.ps_search.specs.Covers as graph
 use Rattle.ps_search.specs.Leads.{led, AreGiven}
 use Rattle.ps_search.specs.Answers.{IsAnswer}
 use Rattle.ps_solve.specs.SolvedLevels.{all_inputs, IsFound}
+use Rattle.ps_solve.proofs.SpotsAfterInputs.{spots_after}
 
 -- each input is given
 each_given : (input : Input) → Contains all_inputs input
@@ -70,6 +74,33 @@ module _ (script : Script) (entry : ℕ) (next : Spot → Input → Option Spot)
     not_past list h =
         not_true (is_past entry (session_after_inputs script session list)) (λ e. h (leads_past list e))
 
+    -- inputs lead to the spot to which the search's list leads
+    spot_is : (list : List Input) → spot entry (session_after_inputs script session list) ≡ led next here list
+    spot_is list = spots_after script entry list session here at ∙ sym (same_lists here list)
+
+    -- so what covers the graph covers the level
+    covers_all : (states : ℕ) → graph.CoversAll next here all_inputs states → CoversAll script entry session states
+    covers_all states covers = record {
+      spots = covers.places;
+      many = covers.many;
+      each_led =
+          All-weaker (graph.IsLedTo next here all_inputs) (IsLedTo script entry session)
+          (λ there to. (to.0, spot_is to.0 ∙ to.2)) covers.places covers.each_led;
+      all_listed = λ there to. covers.all_listed there (to.0, all_given to.0, sym (spot_is to.0) ∙ to.1);
+    }
+
+    are_kept : (depth states : ℕ) → graph.AreKept next here all_inputs depth states →
+        AreKept script entry session depth states
+    are_kept depth states (inl covers) = inl (record {
+      spots = covers.places;
+      many = covers.many;
+      each_led =
+          All-weaker (graph.IsLedWithin next here all_inputs (depth + 1)) (IsLedWithin script entry session (depth + 1))
+          (λ there to. (to.0, to.2, spot_is to.0 ∙ to.3)) covers.places covers.each_led;
+      all_listed = λ there to. covers.all_listed there (to.0, all_given to.0, to.1, sym (spot_is to.0) ∙ to.2);
+    })
+    are_kept depth states (inr none) = inr none
+
     -- an answer that is true of a graph of the level's spots is true of the level
     pub solved : {Fault : Type 0} (limit : ℕ) (found : Found Input Fault) →
         IsAnswer next here all_inputs limit found → IsFound script entry session limit found
@@ -77,9 +108,14 @@ module _ (script : Script) (entry : ℕ) (next : Spot → Input → Option Spot)
       wins = past_is told.items ∙ ap is_none h.wins;
       fewest = λ others wins. h.fewest others (all_given others) (leads_past others wins);
     }
-    solved limit (Never states) h = (λ list. not_past list (h.0 list (all_given list)), h.1)
-    solved limit (Unknown states depth why) h =
-        (λ list short. not_past list (h.0 list (all_given list) short), h.1, h.2)
+    solved limit (Never states) h =
+        (λ list. not_past list (h.0 list (all_given list)), h.1, covers_all states h.2)
+    solved limit (Unknown states depth why) h = (
+      λ list short. not_past list (h.0 list (all_given list) short),
+      h.1,
+      h.2,
+      are_kept depth states h.3,
+    )
 
 abbrev boards_at : Spot → Boards
 boards_at here = record { board = here.board; restart_board = here.restart_board }

@@ -5,6 +5,7 @@ use Rattle.ps_model.specs.declared.play.Input.TheVariants.{Up, Down, Left, Right
 use Rattle.ps_model.specs.board.Turns.{Script}
 use Rattle.ps_model.specs.session.Sessions.{Session, Playing, Waiting, AtMessage, Ended}
 use Rattle.ps_model.specs.session.Solving.{WinsInFewest, NeverWins, NotWithin, spot}
+use Rattle.ps_answers.specs.CoveredSpots.{AreKept, CoversAll}
 use Rattle.ps_answers.specs.SolvedLevels.{IsSolved}
 pub use Rattle.ps_answers.specs.SolvedLevels.{IsIn, IsNowhere}
 use Rattle.ps_answers.specs.declared.solved.Solved.{Solved}
@@ -27,12 +28,15 @@ entry_in (AtMessage at) = at
 entry_in (Ended ending) = 0
 
 module _ (script : Script) (entry : ℕ) (session : Session) (limit : ℕ) where
-  -- what a search found is true of the level of an entry from a session on, and keeps the limit
+  -- what a search found is true of the level of an entry from a session on, and keeps the limit. So is the number of
+  -- spots that it tells
   abbrev pub IsFound : {Fault : Type 0} → Found Input Fault → Type 0
   IsFound (Won found) = WinsInFewest script entry session found.items
-  IsFound (Never states) = NeverWins script entry session × (states ≤ limit)
+  IsFound (Never states) =
+      NeverWins script entry session × (states ≤ limit) × CoversAll script entry session states
   IsFound (Unknown states depth why) =
       NotWithin script entry session depth × (states ≤ limit) × IsReason limit states why
+      × AreKept script entry session depth states
 
   -- the session is in the level of the entry, and what is told is true of it; or it isn't in that level
   abbrev pub IsSolvedAt : Result Solved NotSearched → Type 0

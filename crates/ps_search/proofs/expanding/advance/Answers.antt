@@ -1,5 +1,5 @@
 use Rattle.ps_search.specs.declared.moves.Step.TheVariants.{Same, To}
-use Rattle.ps_search.proofs.Keeping.{work_on, numbered_on, told, here_numbered, noted_on}
+use Rattle.ps_search.proofs.Keeping.{work_on, kept_on, kept_same, numbered_on, told, here_numbered, noted_on}
 use Rattle.ps_search.specs.Ways.{links_of}
 use Rattle.ps_search.proofs.expanding.advance.Goals as goal
 
@@ -49,3 +49,16 @@ returns-in-Ok-clause-led g c =
     g.M.Key.PartialEq.eq (g.met.M.Moves.one_place c.step.new.self) c.args.visited.now.keys.keys c.note.new.self.keys.keys (links_of c.args.visited.now.parents.items c.args.visited.now.inputs.items) (links_of c.note.new.self.parents.items c.note.new.self.inputs.items)
     c.in-Ok-To.key c.args.input c.args.layer.at c.args.layer.end c.args.layer.depth (g.M.Moves.here c.args.moves.now) c.in-Ok.ensures.noted is.0 c.requires.given is.1
     (work_on _ _ _ _ _ _ _ c.step.ensures.kept _ _ _ _ _ _ c.requires.work)).leads_on
+
+pub returns-in-Err-clause-kept : goal.returns-in-Err-clause-kept
+returns-in-Err-clause-kept g c = kept_on _ _ _ _ _ _ _ c.step.ensures.kept _ _ _ _ _ c.requires.work.kept
+
+pub returns-in-Err-Limit-clause-kept : goal.returns-in-Err-Limit-clause-kept
+returns-in-Err-Limit-clause-kept g c =
+    kept_same _ _ _ _ _ _ _ _ _ _ _ _ c.in-Err-Limit.ensures.stay c.in-Err-Limit.ensures.stay_linked
+    (kept_on _ _ _ _ _ _ _ c.step.ensures.kept _ _ _ _ _ c.requires.work.kept)
+
+pub returns-in-Err-Memory-clause-kept : goal.returns-in-Err-Memory-clause-kept
+returns-in-Err-Memory-clause-kept g c =
+    kept_same _ _ _ _ _ _ _ _ _ _ _ _ c.in-Err-Memory.ensures.stay c.in-Err-Memory.ensures.stay_linked
+    (kept_on _ _ _ _ _ _ _ c.step.ensures.kept _ _ _ _ _ c.requires.work.kept)

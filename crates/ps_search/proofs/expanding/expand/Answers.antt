@@ -4,6 +4,7 @@ use Rattle.std.proofs.lemmas.List.{take_all}
 use Rattle.std.proofs.lemmas.List.Elements.{Contains-get_or}
 use Rattle.ps_search.specs.Searched.{IsNumbered, IsLed}
 use Rattle.ps_search.proofs.Keeping.{work_as, won_there, done_there, tried_more}
+use Rattle.ps_search.proofs.Answering.{kept_as}
 use Rattle.ps_search.proofs.expanding.expand.Goals as goal
 
 pub returns-in-Ok-true-clause-done : goal.returns-in-Ok-true-clause-done
@@ -39,3 +40,8 @@ returns-clause-done g c =
     let place = λ (x : g.row.M-Input.Denot). IsNumbered (map (g.M.Moves.place c.loop-input.moves) c.loop-input.visited.keys.keys) (g.M.Moves.next c.args.moves.now (g.M.Moves.here c.loop-input.moves) x) in
     done_there c.args.inputs.now _ _ _ _ _ _ _ (g.M.Moves.next c.args.moves.now) (g.M.Moves.start c.args.moves.now) (g.M.Moves.here c.loop-input.moves) c.loop-input.invariant.work
     (subst (All place) (take_all c.loop-input.input-index c.args.inputs.now c.loop-input-test.false) c.loop-input.invariant.tried)
+
+pub returns-in-Err-advance-clause-kept : goal.returns-in-Err-advance-clause-kept
+returns-in-Err-advance-clause-kept g c =
+    kept_as c.args.inputs.now _ _ _ _ _ _ _ _ (g.M.Moves.next c.args.moves.now) _ (g.M.Moves.start c.args.moves.now)
+    c.loop-input.invariant.next c.loop-input.invariant.start c.in-Err-advance.ensures.kept
