@@ -5,7 +5,7 @@ use Rattle.std.specs.Str.{chars, is_utf8}
 use Rattle.std.specs.Str.Lossy.{utf8_valid_len}
 use Rattle.std.proofs.Math.Utf8.{encode}
 use Rattle.ps_warnings.specs.declared.kinds.PreludeWord.TheVariants.{NoUndo, RequirePlayerMovement}
-use Rattle.ps_warnings.specs.declared.kinds.WarningKind.TheVariants.{NearWord, IdleRule, IdleWin, NoPlayer}
+use Rattle.ps_warnings.specs.declared.kinds.WarningKind.TheVariants.{ApartWin, NearWord, IdleRule, IdleWin, NoPlayer}
 use Rattle.ps_warnings.specs.declared.kinds.WarningKind.TheVariants.{LongRow, RuleTwice, ShortRow, UnusedObject}
 use Rattle.ps_warnings.specs.declared.kinds.WarningKind.TheVariants.{UnusedName}
 use Rattle.ps_warnings.specs.NearWords.{is_near}
@@ -59,6 +59,18 @@ wins_that_always_hold : warnings (codes "OBJECTS\nBackground .\ngreen\nPlayer P\
     ≡ record { line = 11; kind = IdleWin } ∷ record { line = 13; kind = IdleWin } ∷ []
 unfolding warnings misspelt chars is_utf8 encode utf8_valid_len
 wins_that_always_hold = refl
+
+-- Player and Wall share a layer, and Key and Gem another one. A property asks for one of its objects, an aggregate for
+-- each
+wins_that_share_a_layer : warnings (codes "OBJECTS\nBackground .\ngreen\nPlayer P\nwhite\nWall #\nred\nKey K\nred\nGem G\nred\n"
+    ++ (codes "LEGEND\nThing = Key or Gem\nBoth = Key and Wall\nEither = Wall or Key\nCOLLISIONLAYERS\nBackground\n"
+    ++ (codes "Player, Wall\nKey, Gem\nWINCONDITIONS\nSome Player on Wall\nAll Key on GEM\nNo Thing on Player\n"
+    ++ (codes "Some Player on Either\nSome Player on Both\nSome Both on P\nSome Thing on Key\nSome Either on Player\n"
+    ++ codes "All Both on Either\nLEVELS\nP#KG\n"))))
+    ≡ record { line = 21; kind = ApartWin } ∷ record { line = 22; kind = ApartWin }
+    ∷ record { line = 25; kind = ApartWin } ∷ record { line = 26; kind = ApartWin } ∷ []
+unfolding warnings misspelt chars is_utf8 encode utf8_valid_len
+wins_that_share_a_layer = refl
 
 -- rows are measured by the first of their level, and no row by that of another level
 rows_of_other_widths : warnings (codes "OBJECTS\nBackground .\ngreen\nPlayer P\nwhite\nCOLLISIONLAYERS\nBackground\n"

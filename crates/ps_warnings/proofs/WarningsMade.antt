@@ -106,7 +106,7 @@ pub sections_warned : (lines prelude wins levels : List Line) (read : Game) (nam
     entries ≡ read.entries → numbers ≡ map number_of (entry_lines levels) →
     words ≡ option_warnings prelude → first ≡ words ++ unused_in read lines →
     second ≡ first ++ rules_in read lines →
-    third ≡ second ++ win_warnings wins → none ≡ [] → ones ≡ none ++ warnings_at names numbers entries → owned ≡ ones →
+    third ≡ second ++ win_warnings names wins → none ≡ [] → ones ≡ none ++ warnings_at names numbers entries → owned ≡ ones →
     nothing ≡ [] → others ≡ nothing ++ row_warnings levels → lent ≡ others → whole ≡ third ++ in_order owned lent →
     whole ≡ warnings_in read lines
 sections_warned lines prelude wins levels read names entries numbers words first second third none ones owned nothing
@@ -114,7 +114,7 @@ sections_warned lines prelude wins levels read names entries numbers words first
     let O : List Warning = option_warnings (section_lines lines Prelude) in
     let U : List Warning = unused_in read lines in
     let R : List Warning = rules_in read lines in
-    let W : List Warning = win_warnings (section_lines lines Wins) in
+    let W : List Warning = win_warnings read.names (section_lines lines Wins) in
     let L : List Warning = level_warnings read.names (section_lines lines Levels) in
     let Rows : List Warning = row_warnings (section_lines lines Levels) in
     let join : List Warning → List Warning → List Warning = λ xs ys. xs ++ ys in
@@ -127,7 +127,7 @@ sections_warned lines prelude wins levels read names entries numbers words first
     ∙ ap (λ (ns : Names). warnings_at ns numbers entries) n
     ∙ levels_warned read.names (section_lines lines Levels) numbers entries starts (e ∙ entries_are lines read is) in
     let two : second ≡ (O ++ U) ++ R = b ∙ ap (λ (told : List Warning). told ++ R) options in
-    let three : third ≡ ((O ++ U) ++ R) ++ W = c ∙ ap₂ join two (ap win_warnings (sym w)) in
+    let three : third ≡ ((O ++ U) ++ R) ++ W = c ∙ ap₂ join two (ap₂ win_warnings n (sym w)) in
     let rows : lent ≡ Rows =
     y ∙ f ∙ ap (λ (told : List Warning). told ++ row_warnings levels) v ∙ ap row_warnings (sym l) in
     g ∙ ap₂ join three (ap₂ in_order levelled rows)

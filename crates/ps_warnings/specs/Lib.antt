@@ -13,6 +13,7 @@ pub mod RepeatedRules
 pub mod RowWarnings
 pub mod RuleWarnings
 pub mod RulesSeen
+pub mod Sharing
 pub mod Sounds
 pub mod Spoken
 pub mod Warnings

@@ -37,7 +37,7 @@ warnings_in read lines =
     option_warnings (section_lines lines Prelude)
     ++ (unused_in read lines
     ++ (rules_in read lines
-    ++ (win_warnings (section_lines lines Wins)
+    ++ (win_warnings read.names (section_lines lines Wins)
     ++ in_order (level_warnings read.names (section_lines lines Levels)) (row_warnings (section_lines lines Levels)))))
 
 -- those of lines

@@ -30,6 +30,8 @@ pub enum WarningKind {
     RuleTwice(u32),
     /// The win condition always holds: it asks for nothing.
     IdleWin,
+    /// What the two names of the win condition stand for can't be in one cell, as a layer has room for one of them.
+    ApartWin,
     /// No cell of the level has an object of Player. The line is its first row.
     NoPlayer,
     /// The row of a level is longer than its first row: what is past that is cut off.

@@ -21,6 +21,7 @@ mod prelude_words;
 mod repeated_rules;
 mod rule_lines;
 mod rules;
+mod sharing;
 mod sounds;
 mod spoken;
 mod telling;

@@ -36,7 +36,7 @@ fn warnings_in(
     warn_of_options(alloc, source, &sections.prelude, &mut told)?;
     warn_of_unused(alloc, source, sections, game, &mut told)?;
     warn_of_rule_lines(alloc, source, sections, game, &mut told)?;
-    warn_of_wins(alloc, source, &sections.wins, &mut told)?;
+    warn_of_wins(alloc, source, &game.names, &sections.wins, &mut told)?;
     let numbers = entry_numbers(alloc, source, &sections.levels)?;
     let mut levels = Vec::new(alloc);
     warn_of_levels(&game.names, &numbers, &game.entries, &mut levels)?;

@@ -59,6 +59,13 @@ pub fn sentence_of(alloc: Global, kind: WarningKind) -> Result<String, Memory>
             let words = String::from_str(alloc, "this win condition always holds")?;
             Ok(words)
         }
+        WarningKind::ApartWin => {
+            let words = String::from_str(
+                alloc,
+                "no cell can have both things that this win condition names, as they share a layer",
+            )?;
+            Ok(words)
+        }
         WarningKind::NoPlayer => {
             let words = String::from_str(alloc, "this level shows no Player")?;
             Ok(words)
