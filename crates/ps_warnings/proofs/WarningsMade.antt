@@ -1,5 +1,5 @@
 -- The warnings of a text, of its lines, and of its sections.
-use Rattle.std.proofs.Common.{◌≡◌, ◌∙◌, ◌++◌, ℕ, List, [], ◌∷◌, Option, Some, None, map, refl, sym, ap, ap₂, subst}
+use Rattle.std.proofs.Common.{◌≡◌, ◌∙◌, ◌++◌, ℕ, Bool, List, [], ◌∷◌, Option, Some, None, map, refl, sym, ap, ap₂, subst}
 use Rattle.std.proofs.Common.{append_assoc}
 use Rattle.std.proofs.lemmas.Option.{same_Some}
 use Rattle.ps_model.specs.declared.texts.Section.TheVariants.{Prelude, Rules, Wins, Levels}
@@ -14,6 +14,7 @@ use Rattle.ps_model.specs.session.LevelLines.{Entry, entries_read, entry_lines}
 use Rattle.ps_model.specs.game.Games.{Game, faults, faults_beside, game, game_of_lines, game_read, unless}
 use Rattle.ps_laws.proofs.texts.OneGame.{fault_bars_game, first_is_fault}
 use Rattle.ps_warnings.specs.declared.kinds.Warning.{Warning}
+use Rattle.ps_warnings.specs.Brought.{objects_there}
 use Rattle.ps_warnings.specs.InOrder.{in_order}
 use Rattle.ps_warnings.specs.LevelStarts.{number_of}
 use Rattle.ps_warnings.specs.LevelWarnings.{level_warnings, warnings_at}
@@ -137,15 +138,20 @@ sections_warned lines prelude wins levels read names entries numbers words first
 
 -- rules ---------------------------------------------------------------------------------------------------------------
 
-pub rules_told : (lines rules : List Line) (read : Game) (names : Names) (own : List RuleLine) (sounding : List ℕ)
-    (idle others ones twice none nothing : List Warning) → section_lines lines Rules ≡ rules → names ≡ read.names →
-    own ≡ read.rules → sounding ≡ sounding_lines rules → none ≡ [] → idle ≡ none ++ rule_warnings names sounding own →
-    ones ≡ idle → nothing ≡ [] → others ≡ nothing ++ repeated_rules rules → twice ≡ others →
-    in_order ones twice ≡ rules_in read lines
-rules_told lines rules read names own sounding idle others ones twice none nothing r n o s e i a m t b =
-    let sounds : sounding ≡ sounding_lines (section_lines lines Rules) = s ∙ ap sounding_lines (sym r) in
-    let ruled : rule_warnings names sounding own
-    ≡ rule_warnings read.names (sounding_lines (section_lines lines Rules)) read.rules = rw (n, o, sounds) refl in
+pub rules_told : (lines rules : List Line) (read : Game) (names : Names) (own : List RuleLine) (sounding sounds : List ℕ)
+    (there marks : List Bool) (wrong others ones twice none nothing : List Warning) →
+    section_lines lines Rules ≡ rules → names ≡ read.names → own ≡ read.rules →
+    sounding ≡ sounding_lines rules → sounds ≡ sounding →
+    there ≡ objects_there read.names read.rules read.entries → marks ≡ there → none ≡ [] →
+    wrong ≡ none ++ rule_warnings names sounds marks own → ones ≡ wrong → nothing ≡ [] →
+    others ≡ nothing ++ repeated_rules rules → twice ≡ others → in_order ones twice ≡ rules_in read lines
+rules_told lines rules read names own sounding sounds there marks wrong others ones twice none nothing r n o s q t m e i
+    a z h b =
+    let heard : sounds ≡ sounding_lines (section_lines lines Rules) = q ∙ s ∙ ap sounding_lines (sym r) in
+    let seen : marks ≡ objects_there read.names read.rules read.entries = m ∙ t in
+    let ruled : rule_warnings names sounds marks own
+    ≡ rule_warnings read.names (sounding_lines (section_lines lines Rules))
+    (objects_there read.names read.rules read.entries) read.rules = rw (n, o, heard, seen) refl in
     ap₂ in_order
-    (a ∙ i ∙ ap (λ (told : List Warning). told ++ rule_warnings names sounding own) e ∙ ruled)
-    (b ∙ t ∙ ap (λ (told : List Warning). told ++ repeated_rules rules) m ∙ ap repeated_rules (sym r))
+    (a ∙ i ∙ ap (λ (told : List Warning). told ++ rule_warnings names sounds marks own) e ∙ ruled)
+    (b ∙ h ∙ ap (λ (told : List Warning). told ++ repeated_rules rules) z ∙ ap repeated_rules (sym r))

@@ -5,7 +5,7 @@ use Rattle.ps_warnings.specs.declared.kinds.PreludeWord.{PreludeWord}
 use Rattle.ps_warnings.specs.declared.kinds.WarningKind.{WarningKind}
 use Rattle.ps_warnings.specs.declared.kinds.WarningKind.TheVariants.{NearWord, IdleRule, IdleWin, NoPlayer}
 use Rattle.ps_warnings.specs.declared.kinds.WarningKind.TheVariants.{LongRow, RuleTwice, ShortRow, UnusedObject}
-use Rattle.ps_warnings.specs.declared.kinds.WarningKind.TheVariants.{ApartWin, UnusedName}
+use Rattle.ps_warnings.specs.declared.kinds.WarningKind.TheVariants.{ApartWin, LackingRule, UnusedName}
 use Rattle.ps_warnings.specs.PreludeWords.{word_text}
 
 -- a line of the prelude is surely meant to begin with the word
@@ -22,6 +22,7 @@ sentence (NearWord word) = near_sentence word
 sentence UnusedObject = codes "no level, rule or win condition uses this object"
 sentence UnusedName = codes "no rule, win condition, layer or other name uses this name"
 sentence IdleRule = codes "this rule can do nothing"
+sentence LackingRule = codes "this rule can never apply, as it needs an object that no level has and no rule makes"
 sentence (RuleTwice line) = twice_sentence line
 sentence IdleWin = codes "this win condition always holds"
 sentence ApartWin = codes "no cell can have both things that this win condition names, as they share a layer"

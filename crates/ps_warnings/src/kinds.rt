@@ -26,6 +26,8 @@ pub enum WarningKind {
     UnusedName,
     /// The rule can do nothing: whatever it may mean fits nothing, or changes nothing and asks for nothing.
     IdleRule,
+    /// The rule can never apply: it needs an object that no level has and no rule makes.
+    LackingRule,
     /// The rule stands at this line too, in its own group or in the one right above.
     RuleTwice(u32),
     /// The win condition always holds: it asks for nothing.
