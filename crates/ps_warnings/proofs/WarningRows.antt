@@ -7,7 +7,7 @@ use Rattle.std.proofs.Math.Utf8.{encode}
 use Rattle.ps_warnings.specs.declared.kinds.PreludeWord.TheVariants.{NoUndo, RequirePlayerMovement}
 use Rattle.ps_warnings.specs.declared.kinds.WarningKind.TheVariants.{ApartWin, NearWord, IdleRule, IdleWin, NoPlayer}
 use Rattle.ps_warnings.specs.declared.kinds.WarningKind.TheVariants.{LongRow, RuleTwice, ShortRow, UnusedObject}
-use Rattle.ps_warnings.specs.declared.kinds.WarningKind.TheVariants.{LackingRule, UnusedName}
+use Rattle.ps_warnings.specs.declared.kinds.WarningKind.TheVariants.{LackingRule, LackingWin, UnusedName}
 use Rattle.ps_warnings.specs.NearWords.{is_near}
 use Rattle.ps_warnings.specs.PreludeWords.{misspelt}
 use Rattle.ps_warnings.specs.Warnings.{warnings}
@@ -72,6 +72,17 @@ wins_that_share_a_layer : warnings (codes "OBJECTS\nBackground .\ngreen\nPlayer 
 unfolding warnings misspelt chars is_utf8 encode utf8_valid_len
 wins_that_share_a_layer = refl
 
+-- no level has Key, and a rule brings Gem. Of a property one object is enough, of an aggregate each is asked for
+wins_that_lack_something : warnings (codes "OBJECTS\nBackground .\ngreen\nPlayer P\nwhite\nKey\nred\nGem\nred\nLEGEND\n"
+    ++ (codes "Thing = Key or Gem\nBoth = Key and Gem\nCOLLISIONLAYERS\nBackground\nPlayer\nKey\nGem\nRULES\n"
+    ++ (codes "[ > Player | ] -> [ > Player | Gem ]\nWINCONDITIONS\nSome KEY\nNo Gem\nAll Player on Key\nNo Key on Player\n"
+    ++ codes "Some Thing\nNo Player on Both\nAll Key\nLEVELS\nP.\n")))
+    ≡ record { line = 21; kind = LackingWin } ∷ record { line = 23; kind = LackingWin }
+    ∷ record { line = 24; kind = LackingWin } ∷ record { line = 26; kind = LackingWin }
+    ∷ record { line = 27; kind = IdleWin } ∷ []
+unfolding warnings misspelt chars is_utf8 encode utf8_valid_len
+wins_that_lack_something = refl
+
 -- rows are measured by the first of their level, and no row by that of another level
 rows_of_other_widths : warnings (codes "OBJECTS\nBackground .\ngreen\nPlayer P\nwhite\nCOLLISIONLAYERS\nBackground\n"
     ++ codes "Player\nLEVELS\nP.\nP\nP..\n\nP...\nP...\n")
@@ -93,7 +104,8 @@ objects_that_nothing_uses : warnings (codes "OBJECTS\nBackground .\ngreen\nHero 
     ++ (codes "Gem\nred\nSand\nred\nLEGEND\nPlayer = Hero or Ice\nS = Sand\nT = Sand and Wall\nThing = Key or Gem\n"
     ++ (codes "COLLISIONLAYERS\nBackground\nHero, Ice, Wall\nThing, Sand\nRULES\n"
     ++ codes "[ > Player | Thing ] -> [ Player | ]\nWINCONDITIONS\nNo Gem\nLEVELS\nP#\n")))
-    ≡ record { line = 14; kind = UnusedObject } ∷ record { line = 26; kind = LackingRule } ∷ []
+    ≡ record { line = 14; kind = UnusedObject } ∷ record { line = 26; kind = LackingRule }
+    ∷ record { line = 28; kind = LackingWin } ∷ []
 unfolding warnings misspelt chars is_utf8 encode utf8_valid_len
 objects_that_nothing_uses = refl
 

@@ -24,7 +24,7 @@ use Rattle.ps_warnings.specs.RowWarnings.{row_warnings}
 use Rattle.ps_warnings.specs.RuleWarnings.{rule_warnings}
 use Rattle.ps_warnings.specs.Sounds.{sounding_lines}
 use Rattle.ps_warnings.specs.WinWarnings.{win_warnings}
-use Rattle.ps_warnings.specs.Warnings.{rules_in, unused_in, warnings, warnings_in, warnings_of_lines}
+use Rattle.ps_warnings.specs.Warnings.{rules_in, unused_in, warnings, warnings_in, warnings_of_lines, wins_in}
 use Rattle.ps_warnings.proofs.EntriesWarned.{warned_alike}
 
 -- lines ---------------------------------------------------------------------------------------------------------------
@@ -99,23 +99,23 @@ levels_warned : (names : Names) (lines : List Line) (numbers : List ℕ) (entrie
 levels_warned names lines numbers entries n e = ap₂ (warnings_at names) n e ∙ warned_alike names (entry_lines lines)
 
 -- section by section
-pub sections_warned : (lines prelude wins levels : List Line) (read : Game) (names : Names)
+pub sections_warned : (lines prelude levels : List Line) (read : Game) (names : Names)
     (entries : List Entry) (numbers : List ℕ) (words first second third none ones owned nothing others lent
     whole : List Warning) →
     game_of_lines lines ≡ Some read → section_lines lines Prelude ≡ prelude →
-    section_lines lines Wins ≡ wins → section_lines lines Levels ≡ levels → names ≡ read.names →
+    section_lines lines Levels ≡ levels → names ≡ read.names →
     entries ≡ read.entries → numbers ≡ map number_of (entry_lines levels) →
     words ≡ option_warnings prelude → first ≡ words ++ unused_in read lines →
     second ≡ first ++ rules_in read lines →
-    third ≡ second ++ win_warnings names wins → none ≡ [] → ones ≡ none ++ warnings_at names numbers entries → owned ≡ ones →
+    third ≡ second ++ wins_in read lines → none ≡ [] → ones ≡ none ++ warnings_at names numbers entries → owned ≡ ones →
     nothing ≡ [] → others ≡ nothing ++ row_warnings levels → lent ≡ others → whole ≡ third ++ in_order owned lent →
     whole ≡ warnings_in read lines
-sections_warned lines prelude wins levels read names entries numbers words first second third none ones owned nothing
-    others lent whole is p w l n e m a h b c u d x v f y g =
+sections_warned lines prelude levels read names entries numbers words first second third none ones owned nothing
+    others lent whole is p l n e m a h b c u d x v f y g =
     let O : List Warning = option_warnings (section_lines lines Prelude) in
     let U : List Warning = unused_in read lines in
     let R : List Warning = rules_in read lines in
-    let W : List Warning = win_warnings read.names (section_lines lines Wins) in
+    let W : List Warning = wins_in read lines in
     let L : List Warning = level_warnings read.names (section_lines lines Levels) in
     let Rows : List Warning = row_warnings (section_lines lines Levels) in
     let join : List Warning → List Warning → List Warning = λ xs ys. xs ++ ys in
@@ -128,7 +128,7 @@ sections_warned lines prelude wins levels read names entries numbers words first
     ∙ ap (λ (ns : Names). warnings_at ns numbers entries) n
     ∙ levels_warned read.names (section_lines lines Levels) numbers entries starts (e ∙ entries_are lines read is) in
     let two : second ≡ (O ++ U) ++ R = b ∙ ap (λ (told : List Warning). told ++ R) options in
-    let three : third ≡ ((O ++ U) ++ R) ++ W = c ∙ ap₂ join two (ap₂ win_warnings n (sym w)) in
+    let three : third ≡ ((O ++ U) ++ R) ++ W = c ∙ ap (λ (told : List Warning). told ++ W) two in
     let rows : lent ≡ Rows =
     y ∙ f ∙ ap (λ (told : List Warning). told ++ row_warnings levels) v ∙ ap row_warnings (sym l) in
     g ∙ ap₂ join three (ap₂ in_order levelled rows)
@@ -155,3 +155,13 @@ rules_told lines rules read names own sounding sounds there marks wrong others o
     ap₂ in_order
     (a ∙ i ∙ ap (λ (told : List Warning). told ++ rule_warnings names sounds marks own) e ∙ ruled)
     (b ∙ h ∙ ap (λ (told : List Warning). told ++ repeated_rules rules) z ∙ ap repeated_rules (sym r))
+
+-- win conditions ------------------------------------------------------------------------------------------------------
+
+pub wins_told : (lines wins : List Line) (read : Game) (names : Names) (there marks : List Bool) →
+    section_lines lines Wins ≡ wins → names ≡ read.names →
+    there ≡ objects_there read.names read.rules read.entries → marks ≡ there →
+    win_warnings names marks wins ≡ wins_in read lines
+wins_told lines wins read names there marks w n t m =
+    let seen : marks ≡ objects_there read.names read.rules read.entries = m ∙ t in
+    rw (n, seen, ← w) refl

@@ -1,8 +1,9 @@
--- What a rule needs so that it can ever apply: each name on its left stands for objects that may come to be.
-use Rattle.std.specs.Prelude.{Bool, true, not, List}
+-- What a rule needs so that it can ever apply: each name on its left stands for objects that may come to be. And names
+-- of which that isn't so.
+use Rattle.std.specs.Prelude.{ℕ, Bool, true, false, not, Option, Some, None, List}
 use Rattle.std.specs.List.{list_all, list_any}
 use Rattle.ps_model.specs.declared.pieces.ObjectId.{ObjectId}
-use Rattle.ps_model.specs.names.Names.{Meaning, One, AllOf, AnyOf}
+use Rattle.ps_model.specs.names.Names.{Meaning, One, AllOf, AnyOf, Names, meaning_of}
 use Rattle.ps_model.specs.rules.SourceRules.{Item, Is, No, CellPair, SourceRule}
 use Rattle.ps_warnings.specs.Marks.{is_marked}
 
@@ -34,3 +35,11 @@ may_fit_row there parts = list_all (may_fit_part there) parts
 -- the rule needs what can't come to be
 abbrev pub lacks_something : List Bool → SourceRule → Bool
 lacks_something there rule = not (list_all (may_fit_row there) rule.rows)
+
+-- a name is declared, and what it stands for can't come to be
+abbrev pub never_stands : List Bool → Option Meaning → Bool
+never_stands there None = false
+never_stands there (Some meaning) = not (may_stand there meaning)
+
+abbrev pub never_is : Names → List Bool → List ℕ → Bool
+never_is names there word = never_stands there (meaning_of names word)

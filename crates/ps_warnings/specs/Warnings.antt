@@ -34,13 +34,18 @@ rules_in read lines =
     (objects_there read.names read.rules read.entries) read.rules)
     (repeated_rules (section_lines lines Rules))
 
+-- those of the win conditions of lines that are this game
+abbrev pub wins_in : Game → List Line → List Warning
+wins_in read lines =
+    win_warnings read.names (objects_there read.names read.rules read.entries) (section_lines lines Wins)
+
 -- those of lines that are this game
 abbrev pub warnings_in : Game → List Line → List Warning
 warnings_in read lines =
     option_warnings (section_lines lines Prelude)
     ++ (unused_in read lines
     ++ (rules_in read lines
-    ++ (win_warnings read.names (section_lines lines Wins)
+    ++ (wins_in read lines
     ++ in_order (level_warnings read.names (section_lines lines Levels)) (row_warnings (section_lines lines Levels)))))
 
 -- those of lines

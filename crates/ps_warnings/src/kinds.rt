@@ -34,6 +34,8 @@ pub enum WarningKind {
     IdleWin,
     /// What the two names of the win condition stand for can't be in one cell, as a layer has room for one of them.
     ApartWin,
+    /// The win condition names an object that no level has and no rule makes.
+    LackingWin,
     /// No cell of the level has an object of Player. The line is its first row.
     NoPlayer,
     /// The row of a level is longer than its first row: what is past that is cut off.

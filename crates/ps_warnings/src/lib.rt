@@ -31,6 +31,7 @@ mod telling;
 mod unused;
 mod used_names;
 mod used_objects;
+mod win_lines;
 mod wins;
 mod wording;
 mod written_rules;

@@ -1,4 +1,4 @@
-//! Whether rules need what can't come to be.
+//! Whether rules need what can't come to be, and whether names stand for that.
 
 ghost use Rattle.std.specs.Prelude.{◌≡◌};
 ghost use Rattle.std.specs.List.{list_all, list_any};
@@ -6,11 +6,11 @@ ghost use Rattle.ps_names.specs.Shown.{meaning_shown};
 ghost use Rattle.ps_rules.specs.RulesShown.{cell_shown, item_shown, items_shown, part_shown, rule_shown};
 ghost use Rattle.ps_rules.specs.RulesShown.{tree_row_shown, tree_rows_shown};
 ghost use Rattle.ps_warnings.specs.Needs.{lacks_something, may_be, may_be_met, may_fit_cell, may_fit_part};
-ghost use Rattle.ps_warnings.specs.Needs.{may_fit_row, may_stand};
+ghost use Rattle.ps_warnings.specs.Needs.{may_fit_row, may_stand, never_is};
 
 use crate::marks::is_marked;
 use ps_model::ObjectId;
-use ps_names::Meaning;
+use ps_names::{Meaning, Names};
 use ps_rules::{CellPair, Item, SourceRule};
 use ps_text::List;
 
@@ -130,4 +130,14 @@ pub fn lacks_something(there: &[bool], rule: &SourceRule) -> bool
     ensures { result ≡ lacks_something there.now (rule_shown rule.now) }
 {
     !may_fit_rows(there, rule.rows.as_slice())
+}
+
+/// Whether a name is declared, and what it stands for can't come to be.
+pub fn never_is(names: &Names, there: &[bool], word: &str) -> bool
+    ensures { result ≡ never_is names.now there.now word.now }
+{
+    let Some(meaning) = names.meaning(word) else {
+        return false;
+    };
+    !may_stand(there, meaning)
 }

@@ -73,6 +73,13 @@ pub fn sentence_of(alloc: Global, kind: WarningKind) -> Result<String, Memory>
             )?;
             Ok(words)
         }
+        WarningKind::LackingWin => {
+            let words = String::from_str(
+                alloc,
+                "this win condition names an object that no level has and no rule makes",
+            )?;
+            Ok(words)
+        }
         WarningKind::NoPlayer => {
             let words = String::from_str(alloc, "this level shows no Player")?;
             Ok(words)
