@@ -5,6 +5,7 @@ exports, once for all types; of crates that others stand on. A call can answer t
 is a `Result` whose error is `AllocError`, or one of these crates' types that is called `Memory`, has a variant of that name, or
 has a variant with such an error; and so can the command line, and the search of a graph.
 """
+import collections
 import re
 
 from crates import TOP, read_uses
@@ -62,14 +63,18 @@ def errors_in(texts):
 
 
 def public_calls():
-    """Those calls by name, a method after its type or trait and `::`, each once."""
+    """Those calls by name, a method after its type or trait and `::`, each once.
+
+    Before a name that two crates have stands that of the crate and `::`.
+    """
     uses = read_uses()
     crates = {crate: sources_of(crate) for crate in uses if any(crate in rest for rest in uses.values())}
     errors = errors_in([source for sources in crates.values() for source in sources])
-    calls = []
+    owners = collections.defaultdict(list)
     for crate, sources in crates.items():
         exported = exports_of(crate)
         for owner, name, error in (answer for source in sources for answer in answers_in(source)):
             if (owner or name) in exported and (error in errors or name in TELLING):
-                calls.append(f"{owner}::{name}" if owner else name)
-    return list(dict.fromkeys(calls))
+                owners[f"{owner}::{name}" if owner else name].append(crate)
+    owners = {call: list(dict.fromkeys(crates)) for call, crates in owners.items()}
+    return [f"{crate}::{call}" if crates[1:] else call for call, crates in owners.items() for crate in crates]

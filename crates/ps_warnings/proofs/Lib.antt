@@ -4,6 +4,7 @@ pub mod EntriesWarned
 pub mod LinesPassed
 pub mod MarksMade
 pub mod NamesFolded
+pub mod ObjectsThere
 pub mod OrderKept
 pub mod RowsPassed
 pub mod RulesPassed

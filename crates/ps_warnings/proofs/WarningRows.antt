@@ -5,9 +5,9 @@ use Rattle.std.specs.Str.{chars, is_utf8}
 use Rattle.std.specs.Str.Lossy.{utf8_valid_len}
 use Rattle.std.proofs.Math.Utf8.{encode}
 use Rattle.ps_warnings.specs.declared.kinds.PreludeWord.TheVariants.{NoUndo, RequirePlayerMovement}
-use Rattle.ps_warnings.specs.declared.kinds.WarningKind.TheVariants.{NearWord, IdleRule, IdleWin, NoPlayer}
+use Rattle.ps_warnings.specs.declared.kinds.WarningKind.TheVariants.{ApartWin, NearWord, IdleRule, IdleWin, NoPlayer}
 use Rattle.ps_warnings.specs.declared.kinds.WarningKind.TheVariants.{LongRow, RuleTwice, ShortRow, UnusedObject}
-use Rattle.ps_warnings.specs.declared.kinds.WarningKind.TheVariants.{UnusedName}
+use Rattle.ps_warnings.specs.declared.kinds.WarningKind.TheVariants.{LackingRule, LackingWin, UnusedName}
 use Rattle.ps_warnings.specs.NearWords.{is_near}
 use Rattle.ps_warnings.specs.PreludeWords.{misspelt}
 use Rattle.ps_warnings.specs.Warnings.{warnings}
@@ -60,6 +60,29 @@ wins_that_always_hold : warnings (codes "OBJECTS\nBackground .\ngreen\nPlayer P\
 unfolding warnings misspelt chars is_utf8 encode utf8_valid_len
 wins_that_always_hold = refl
 
+-- Player and Wall share a layer, and Key and Gem another one. A property asks for one of its objects, an aggregate for
+-- each
+wins_that_share_a_layer : warnings (codes "OBJECTS\nBackground .\ngreen\nPlayer P\nwhite\nWall #\nred\nKey K\nred\nGem G\nred\n"
+    ++ (codes "LEGEND\nThing = Key or Gem\nBoth = Key and Wall\nEither = Wall or Key\nCOLLISIONLAYERS\nBackground\n"
+    ++ (codes "Player, Wall\nKey, Gem\nWINCONDITIONS\nSome Player on Wall\nAll Key on GEM\nNo Thing on Player\n"
+    ++ (codes "Some Player on Either\nSome Player on Both\nSome Both on P\nSome Thing on Key\nSome Either on Player\n"
+    ++ codes "All Both on Either\nLEVELS\nP#KG\n"))))
+    ≡ record { line = 21; kind = ApartWin } ∷ record { line = 22; kind = ApartWin }
+    ∷ record { line = 25; kind = ApartWin } ∷ record { line = 26; kind = ApartWin } ∷ []
+unfolding warnings misspelt chars is_utf8 encode utf8_valid_len
+wins_that_share_a_layer = refl
+
+-- no level has Key, and a rule brings Gem. Of a property one object is enough, of an aggregate each is asked for
+wins_that_lack_something : warnings (codes "OBJECTS\nBackground .\ngreen\nPlayer P\nwhite\nKey\nred\nGem\nred\nLEGEND\n"
+    ++ (codes "Thing = Key or Gem\nBoth = Key and Gem\nCOLLISIONLAYERS\nBackground\nPlayer\nKey\nGem\nRULES\n"
+    ++ (codes "[ > Player | ] -> [ > Player | Gem ]\nWINCONDITIONS\nSome KEY\nNo Gem\nAll Player on Key\nNo Key on Player\n"
+    ++ codes "Some Thing\nNo Player on Both\nAll Key\nLEVELS\nP.\n")))
+    ≡ record { line = 21; kind = LackingWin } ∷ record { line = 23; kind = LackingWin }
+    ∷ record { line = 24; kind = LackingWin } ∷ record { line = 26; kind = LackingWin }
+    ∷ record { line = 27; kind = IdleWin } ∷ []
+unfolding warnings misspelt chars is_utf8 encode utf8_valid_len
+wins_that_lack_something = refl
+
 -- rows are measured by the first of their level, and no row by that of another level
 rows_of_other_widths : warnings (codes "OBJECTS\nBackground .\ngreen\nPlayer P\nwhite\nCOLLISIONLAYERS\nBackground\n"
     ++ codes "Player\nLEVELS\nP.\nP\nP..\n\nP...\nP...\n")
@@ -75,13 +98,14 @@ levels_and_rows_in_order : warnings (codes "OBJECTS\nBackground .\ngreen\nPlayer
 unfolding warnings misspelt chars is_utf8 encode utf8_valid_len
 levels_and_rows_in_order = refl
 
--- Wall stands in a level alone. Key is of a property that a rule names, and Gem of one that a win condition names. Ice is
--- Player's own. Sand is named by glyphs and its layer alone
+-- Wall stands in a level alone. Key is of a property that a rule names, and Gem of one that a win condition names, though
+-- no level has them. Ice is Player's own. Sand is named by glyphs and its layer alone
 objects_that_nothing_uses : warnings (codes "OBJECTS\nBackground .\ngreen\nHero P\nwhite\nIce\nblue\nWall #\nred\nKey\nred\n"
     ++ (codes "Gem\nred\nSand\nred\nLEGEND\nPlayer = Hero or Ice\nS = Sand\nT = Sand and Wall\nThing = Key or Gem\n"
     ++ (codes "COLLISIONLAYERS\nBackground\nHero, Ice, Wall\nThing, Sand\nRULES\n"
     ++ codes "[ > Player | Thing ] -> [ Player | ]\nWINCONDITIONS\nNo Gem\nLEVELS\nP#\n")))
-    ≡ record { line = 14; kind = UnusedObject } ∷ []
+    ≡ record { line = 14; kind = UnusedObject } ∷ record { line = 26; kind = LackingRule }
+    ∷ record { line = 28; kind = LackingWin } ∷ []
 unfolding warnings misspelt chars is_utf8 encode utf8_valid_len
 objects_that_nothing_uses = refl
 
@@ -95,6 +119,20 @@ names_that_nothing_uses : warnings (codes "OBJECTS\nBackground .\ngreen\nPlayer 
     ∷ record { line = 18; kind = UnusedName } ∷ []
 unfolding warnings misspelt chars is_utf8 encode utf8_valid_len
 names_that_nothing_uses = refl
+
+-- Ghost is in no level, and no rule brings it: it is moved where it stands. Key is brought, and so is Fire, if by a rule
+-- that never applies. A property asks for one of its objects, an aggregate for each, and `no` for none
+rules_that_lack_something : warnings (codes "OBJECTS\nBackground .\ngreen\nPlayer P\nwhite\nWall #\nred\nKey\nred\n"
+    ++ (codes "Ghost\nred\nFire\nred\nLEGEND\nThing = Ghost or Key\nBoth = Ghost and Key\nCOLLISIONLAYERS\nBackground\n"
+    ++ (codes "Player, Wall\nKey, Fire\nGhost\nRULES\n[ > Player | Ghost ] -> [ > Player | > Ghost ]\n[ Ghost | ] -> [ | Ghost ]\n"
+    ++ (codes "[ > Player | Wall ] -> [ > Player | Key ]\n[ > Player | Key no Ghost ] -> cancel\n[ > Player | Thing ] -> again\n"
+    ++ (codes "[ > Player ] [ Both ] -> cancel\n[ ] [ GHOST ] -> [ Fire ] [ ]\n[ Fire ] -> win\n[ Ghost no Ghost ] -> win\n"
+    ++ codes "LEVELS\nP#\n")))))
+    ≡ record { line = 23; kind = LackingRule } ∷ record { line = 24; kind = LackingRule }
+    ∷ record { line = 28; kind = LackingRule } ∷ record { line = 29; kind = LackingRule }
+    ∷ record { line = 31; kind = IdleRule } ∷ []
+unfolding warnings misspelt chars is_utf8 encode utf8_valid_len
+rules_that_lack_something = refl
 
 -- a rule right below itself stands twice, however it is cut and cased, and one of a group twice in it; another direction
 -- or another message makes another rule, and so does a group between

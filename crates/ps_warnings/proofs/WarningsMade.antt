@@ -1,5 +1,5 @@
 -- The warnings of a text, of its lines, and of its sections.
-use Rattle.std.proofs.Common.{◌≡◌, ◌∙◌, ◌++◌, ℕ, List, [], ◌∷◌, Option, Some, None, map, refl, sym, ap, ap₂, subst}
+use Rattle.std.proofs.Common.{◌≡◌, ◌∙◌, ◌++◌, ℕ, Bool, List, [], ◌∷◌, Option, Some, None, map, refl, sym, ap, ap₂, subst}
 use Rattle.std.proofs.Common.{append_assoc}
 use Rattle.std.proofs.lemmas.Option.{same_Some}
 use Rattle.ps_model.specs.declared.texts.Section.TheVariants.{Prelude, Rules, Wins, Levels}
@@ -14,6 +14,7 @@ use Rattle.ps_model.specs.session.LevelLines.{Entry, entries_read, entry_lines}
 use Rattle.ps_model.specs.game.Games.{Game, faults, faults_beside, game, game_of_lines, game_read, unless}
 use Rattle.ps_laws.proofs.texts.OneGame.{fault_bars_game, first_is_fault}
 use Rattle.ps_warnings.specs.declared.kinds.Warning.{Warning}
+use Rattle.ps_warnings.specs.Brought.{objects_there}
 use Rattle.ps_warnings.specs.InOrder.{in_order}
 use Rattle.ps_warnings.specs.LevelStarts.{number_of}
 use Rattle.ps_warnings.specs.LevelWarnings.{level_warnings, warnings_at}
@@ -23,7 +24,7 @@ use Rattle.ps_warnings.specs.RowWarnings.{row_warnings}
 use Rattle.ps_warnings.specs.RuleWarnings.{rule_warnings}
 use Rattle.ps_warnings.specs.Sounds.{sounding_lines}
 use Rattle.ps_warnings.specs.WinWarnings.{win_warnings}
-use Rattle.ps_warnings.specs.Warnings.{rules_in, unused_in, warnings, warnings_in, warnings_of_lines}
+use Rattle.ps_warnings.specs.Warnings.{rules_in, unused_in, warnings, warnings_in, warnings_of_lines, wins_in}
 use Rattle.ps_warnings.proofs.EntriesWarned.{warned_alike}
 
 -- lines ---------------------------------------------------------------------------------------------------------------
@@ -98,23 +99,23 @@ levels_warned : (names : Names) (lines : List Line) (numbers : List ℕ) (entrie
 levels_warned names lines numbers entries n e = ap₂ (warnings_at names) n e ∙ warned_alike names (entry_lines lines)
 
 -- section by section
-pub sections_warned : (lines prelude wins levels : List Line) (read : Game) (names : Names)
+pub sections_warned : (lines prelude levels : List Line) (read : Game) (names : Names)
     (entries : List Entry) (numbers : List ℕ) (words first second third none ones owned nothing others lent
     whole : List Warning) →
     game_of_lines lines ≡ Some read → section_lines lines Prelude ≡ prelude →
-    section_lines lines Wins ≡ wins → section_lines lines Levels ≡ levels → names ≡ read.names →
+    section_lines lines Levels ≡ levels → names ≡ read.names →
     entries ≡ read.entries → numbers ≡ map number_of (entry_lines levels) →
     words ≡ option_warnings prelude → first ≡ words ++ unused_in read lines →
     second ≡ first ++ rules_in read lines →
-    third ≡ second ++ win_warnings wins → none ≡ [] → ones ≡ none ++ warnings_at names numbers entries → owned ≡ ones →
+    third ≡ second ++ wins_in read lines → none ≡ [] → ones ≡ none ++ warnings_at names numbers entries → owned ≡ ones →
     nothing ≡ [] → others ≡ nothing ++ row_warnings levels → lent ≡ others → whole ≡ third ++ in_order owned lent →
     whole ≡ warnings_in read lines
-sections_warned lines prelude wins levels read names entries numbers words first second third none ones owned nothing
-    others lent whole is p w l n e m a h b c u d x v f y g =
+sections_warned lines prelude levels read names entries numbers words first second third none ones owned nothing
+    others lent whole is p l n e m a h b c u d x v f y g =
     let O : List Warning = option_warnings (section_lines lines Prelude) in
     let U : List Warning = unused_in read lines in
     let R : List Warning = rules_in read lines in
-    let W : List Warning = win_warnings (section_lines lines Wins) in
+    let W : List Warning = wins_in read lines in
     let L : List Warning = level_warnings read.names (section_lines lines Levels) in
     let Rows : List Warning = row_warnings (section_lines lines Levels) in
     let join : List Warning → List Warning → List Warning = λ xs ys. xs ++ ys in
@@ -127,7 +128,7 @@ sections_warned lines prelude wins levels read names entries numbers words first
     ∙ ap (λ (ns : Names). warnings_at ns numbers entries) n
     ∙ levels_warned read.names (section_lines lines Levels) numbers entries starts (e ∙ entries_are lines read is) in
     let two : second ≡ (O ++ U) ++ R = b ∙ ap (λ (told : List Warning). told ++ R) options in
-    let three : third ≡ ((O ++ U) ++ R) ++ W = c ∙ ap₂ join two (ap win_warnings (sym w)) in
+    let three : third ≡ ((O ++ U) ++ R) ++ W = c ∙ ap (λ (told : List Warning). told ++ W) two in
     let rows : lent ≡ Rows =
     y ∙ f ∙ ap (λ (told : List Warning). told ++ row_warnings levels) v ∙ ap row_warnings (sym l) in
     g ∙ ap₂ join three (ap₂ in_order levelled rows)
@@ -137,15 +138,30 @@ sections_warned lines prelude wins levels read names entries numbers words first
 
 -- rules ---------------------------------------------------------------------------------------------------------------
 
-pub rules_told : (lines rules : List Line) (read : Game) (names : Names) (own : List RuleLine) (sounding : List ℕ)
-    (idle others ones twice none nothing : List Warning) → section_lines lines Rules ≡ rules → names ≡ read.names →
-    own ≡ read.rules → sounding ≡ sounding_lines rules → none ≡ [] → idle ≡ none ++ rule_warnings names sounding own →
-    ones ≡ idle → nothing ≡ [] → others ≡ nothing ++ repeated_rules rules → twice ≡ others →
-    in_order ones twice ≡ rules_in read lines
-rules_told lines rules read names own sounding idle others ones twice none nothing r n o s e i a m t b =
-    let sounds : sounding ≡ sounding_lines (section_lines lines Rules) = s ∙ ap sounding_lines (sym r) in
-    let ruled : rule_warnings names sounding own
-    ≡ rule_warnings read.names (sounding_lines (section_lines lines Rules)) read.rules = rw (n, o, sounds) refl in
+pub rules_told : (lines rules : List Line) (read : Game) (names : Names) (own : List RuleLine) (sounding sounds : List ℕ)
+    (there marks : List Bool) (wrong others ones twice none nothing : List Warning) →
+    section_lines lines Rules ≡ rules → names ≡ read.names → own ≡ read.rules →
+    sounding ≡ sounding_lines rules → sounds ≡ sounding →
+    there ≡ objects_there read.names read.rules read.entries → marks ≡ there → none ≡ [] →
+    wrong ≡ none ++ rule_warnings names sounds marks own → ones ≡ wrong → nothing ≡ [] →
+    others ≡ nothing ++ repeated_rules rules → twice ≡ others → in_order ones twice ≡ rules_in read lines
+rules_told lines rules read names own sounding sounds there marks wrong others ones twice none nothing r n o s q t m e i
+    a z h b =
+    let heard : sounds ≡ sounding_lines (section_lines lines Rules) = q ∙ s ∙ ap sounding_lines (sym r) in
+    let seen : marks ≡ objects_there read.names read.rules read.entries = m ∙ t in
+    let ruled : rule_warnings names sounds marks own
+    ≡ rule_warnings read.names (sounding_lines (section_lines lines Rules))
+    (objects_there read.names read.rules read.entries) read.rules = rw (n, o, heard, seen) refl in
     ap₂ in_order
-    (a ∙ i ∙ ap (λ (told : List Warning). told ++ rule_warnings names sounding own) e ∙ ruled)
-    (b ∙ t ∙ ap (λ (told : List Warning). told ++ repeated_rules rules) m ∙ ap repeated_rules (sym r))
+    (a ∙ i ∙ ap (λ (told : List Warning). told ++ rule_warnings names sounds marks own) e ∙ ruled)
+    (b ∙ h ∙ ap (λ (told : List Warning). told ++ repeated_rules rules) z ∙ ap repeated_rules (sym r))
+
+-- win conditions ------------------------------------------------------------------------------------------------------
+
+pub wins_told : (lines wins : List Line) (read : Game) (names : Names) (there marks : List Bool) →
+    section_lines lines Wins ≡ wins → names ≡ read.names →
+    there ≡ objects_there read.names read.rules read.entries → marks ≡ there →
+    win_warnings names marks wins ≡ wins_in read lines
+wins_told lines wins read names there marks w n t m =
+    let seen : marks ≡ objects_there read.names read.rules read.entries = m ∙ t in
+    rw (n, seen, ← w) refl

@@ -1,10 +1,13 @@
+pub mod Brought
 pub mod InOrder
+pub mod LeftNames
 pub mod LevelStarts
 pub mod LevelWarnings
 pub mod Marks
 pub mod MeaningsSeen
 pub mod NameWarnings
 pub mod NearWords
+pub mod Needs
 pub mod Numbers
 pub mod ObjectWarnings
 pub mod OptionWarnings
@@ -13,6 +16,7 @@ pub mod RepeatedRules
 pub mod RowWarnings
 pub mod RuleWarnings
 pub mod RulesSeen
+pub mod Sharing
 pub mod Sounds
 pub mod Spoken
 pub mod Warnings

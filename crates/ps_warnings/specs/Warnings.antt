@@ -7,6 +7,7 @@ use Rattle.ps_model.specs.text.Sections.{section_lines}
 use Rattle.ps_model.specs.text.TextFaults.{text_fault}
 use Rattle.ps_model.specs.game.Games.{Game, game_of_lines}
 use Rattle.ps_warnings.specs.declared.kinds.Warning.{Warning}
+use Rattle.ps_warnings.specs.Brought.{objects_there}
 use Rattle.ps_warnings.specs.InOrder.{in_order}
 use Rattle.ps_warnings.specs.OptionWarnings.{option_warnings}
 use Rattle.ps_warnings.specs.RepeatedRules.{repeated_rules}
@@ -28,8 +29,15 @@ unused_in read lines =
 -- those of the rules of lines that are this game
 abbrev pub rules_in : Game → List Line → List Warning
 rules_in read lines =
-    in_order (rule_warnings read.names (sounding_lines (section_lines lines Rules)) read.rules)
+    in_order
+    (rule_warnings read.names (sounding_lines (section_lines lines Rules))
+    (objects_there read.names read.rules read.entries) read.rules)
     (repeated_rules (section_lines lines Rules))
+
+-- those of the win conditions of lines that are this game
+abbrev pub wins_in : Game → List Line → List Warning
+wins_in read lines =
+    win_warnings read.names (objects_there read.names read.rules read.entries) (section_lines lines Wins)
 
 -- those of lines that are this game
 abbrev pub warnings_in : Game → List Line → List Warning
@@ -37,7 +45,7 @@ warnings_in read lines =
     option_warnings (section_lines lines Prelude)
     ++ (unused_in read lines
     ++ (rules_in read lines
-    ++ (win_warnings (section_lines lines Wins)
+    ++ (wins_in read lines
     ++ in_order (level_warnings read.names (section_lines lines Levels)) (row_warnings (section_lines lines Levels)))))
 
 -- those of lines

@@ -5,7 +5,7 @@ use Rattle.ps_warnings.specs.declared.kinds.PreludeWord.{PreludeWord}
 use Rattle.ps_warnings.specs.declared.kinds.WarningKind.{WarningKind}
 use Rattle.ps_warnings.specs.declared.kinds.WarningKind.TheVariants.{NearWord, IdleRule, IdleWin, NoPlayer}
 use Rattle.ps_warnings.specs.declared.kinds.WarningKind.TheVariants.{LongRow, RuleTwice, ShortRow, UnusedObject}
-use Rattle.ps_warnings.specs.declared.kinds.WarningKind.TheVariants.{UnusedName}
+use Rattle.ps_warnings.specs.declared.kinds.WarningKind.TheVariants.{ApartWin, LackingRule, LackingWin, UnusedName}
 use Rattle.ps_warnings.specs.PreludeWords.{word_text}
 
 -- a line of the prelude is surely meant to begin with the word
@@ -22,8 +22,11 @@ sentence (NearWord word) = near_sentence word
 sentence UnusedObject = codes "no level, rule or win condition uses this object"
 sentence UnusedName = codes "no rule, win condition, layer or other name uses this name"
 sentence IdleRule = codes "this rule can do nothing"
+sentence LackingRule = codes "this rule can never apply, as it needs an object that no level has and no rule makes"
 sentence (RuleTwice line) = twice_sentence line
 sentence IdleWin = codes "this win condition always holds"
+sentence ApartWin = codes "no cell can have both things that this win condition names, as they share a layer"
+sentence LackingWin = codes "this win condition names an object that no level has and no rule makes"
 sentence NoPlayer = codes "this level shows no Player"
 sentence LongRow = codes "this row is cut off, as it is longer than the first of its level"
 sentence ShortRow = codes "this row is filled up, as it is shorter than the first of its level"

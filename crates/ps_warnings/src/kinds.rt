@@ -26,10 +26,16 @@ pub enum WarningKind {
     UnusedName,
     /// The rule can do nothing: whatever it may mean fits nothing, or changes nothing and asks for nothing.
     IdleRule,
+    /// The rule can never apply: it needs an object that no level has and no rule makes.
+    LackingRule,
     /// The rule stands at this line too, in its own group or in the one right above.
     RuleTwice(u32),
     /// The win condition always holds: it asks for nothing.
     IdleWin,
+    /// What the two names of the win condition stand for can't be in one cell, as a layer has room for one of them.
+    ApartWin,
+    /// The win condition names an object that no level has and no rule makes.
+    LackingWin,
     /// No cell of the level has an object of Player. The line is its first row.
     NoPlayer,
     /// The row of a level is longer than its first row: what is past that is cut off.

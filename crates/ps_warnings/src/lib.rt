@@ -4,9 +4,11 @@
 //! [`warnings`] tells all of it, line by line. Nothing here knows of command lines, files or screens.
 #![tactic(auto)]
 
+mod brought;
 mod first_words;
 mod in_order;
 mod kinds;
+mod left_names;
 mod level_rows;
 mod level_starts;
 mod levels;
@@ -14,6 +16,7 @@ mod marks;
 mod named_lines;
 mod names;
 mod near_words;
+mod needs;
 mod numbers;
 mod objects;
 mod options;
@@ -21,12 +24,14 @@ mod prelude_words;
 mod repeated_rules;
 mod rule_lines;
 mod rules;
+mod sharing;
 mod sounds;
 mod spoken;
 mod telling;
 mod unused;
 mod used_names;
 mod used_objects;
+mod win_lines;
 mod wins;
 mod wording;
 mod written_rules;

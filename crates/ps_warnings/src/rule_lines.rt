@@ -1,14 +1,15 @@
-//! Rules that can do nothing, and rules that stand twice.
+//! Rules that can do nothing or never apply, and rules that stand twice.
 
 ghost use Rattle.std.specs.Prelude.{◌≡◌, ◌++◌, OnOk};
 ghost use Rattle.ps_model.specs.text.Lines.{lines_of};
 ghost use Rattle.ps_sections.specs.SectionPlaces.{AreSections};
 ghost use Rattle.ps_warnings.specs.Warnings.{rules_in};
 
+use crate::brought::objects_there;
 use crate::in_order::push_in_order;
 use crate::kinds::Warning;
 use crate::repeated_rules::warn_of_repeated;
-use crate::rules::warn_of_rules;
+use crate::rules::{RuleFacts, warn_of_rules};
 use crate::sounds::sounding_lines;
 use ps_game::Game;
 use ps_model::Memory;
@@ -28,9 +29,15 @@ pub fn warn_of_rule_lines(
     ensures { OnOk result (told.new.items ≡ told.old.items ++ rules_in game.now (lines_of source.now)) }
 {
     let sounding = sounding_lines(alloc, source, &sections.rules)?;
-    let mut idle = Vec::new(alloc);
-    warn_of_rules(alloc, &game.names, &game.rules, &sounding, &mut idle)?;
+    let there = objects_there(alloc, game)?;
+    let facts = RuleFacts {
+        names: &game.names,
+        sounding: &sounding,
+        there: &there,
+    };
+    let mut wrong = Vec::new(alloc);
+    warn_of_rules(alloc, &facts, &game.rules, &mut wrong)?;
     let mut repeated = Vec::new(alloc);
     warn_of_repeated(alloc, source, &sections.rules, &mut repeated)?;
-    push_in_order(told, &idle, &repeated)
+    push_in_order(told, &wrong, &repeated)
 }

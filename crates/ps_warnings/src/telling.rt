@@ -14,7 +14,7 @@ use crate::levels::warn_of_levels;
 use crate::options::warn_of_options;
 use crate::rule_lines::warn_of_rule_lines;
 use crate::unused::warn_of_unused;
-use crate::wins::warn_of_wins;
+use crate::win_lines::warn_of_win_lines;
 use ps_game::{Game, read_game};
 use ps_model::{Memory, Refusal};
 use ps_sections::{Sections, read_sections};
@@ -36,7 +36,7 @@ fn warnings_in(
     warn_of_options(alloc, source, &sections.prelude, &mut told)?;
     warn_of_unused(alloc, source, sections, game, &mut told)?;
     warn_of_rule_lines(alloc, source, sections, game, &mut told)?;
-    warn_of_wins(alloc, source, &sections.wins, &mut told)?;
+    warn_of_win_lines(alloc, source, sections, game, &mut told)?;
     let numbers = entry_numbers(alloc, source, &sections.levels)?;
     let mut levels = Vec::new(alloc);
     warn_of_levels(&game.names, &numbers, &game.entries, &mut levels)?;

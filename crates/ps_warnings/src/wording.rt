@@ -54,9 +54,30 @@ pub fn sentence_of(alloc: Global, kind: WarningKind) -> Result<String, Memory>
             let words = String::from_str(alloc, "this rule can do nothing")?;
             Ok(words)
         }
+        WarningKind::LackingRule => {
+            let words = String::from_str(
+                alloc,
+                "this rule can never apply, as it needs an object that no level has and no rule makes",
+            )?;
+            Ok(words)
+        }
         WarningKind::RuleTwice(line) => twice_sentence(alloc, line),
         WarningKind::IdleWin => {
             let words = String::from_str(alloc, "this win condition always holds")?;
+            Ok(words)
+        }
+        WarningKind::ApartWin => {
+            let words = String::from_str(
+                alloc,
+                "no cell can have both things that this win condition names, as they share a layer",
+            )?;
+            Ok(words)
+        }
+        WarningKind::LackingWin => {
+            let words = String::from_str(
+                alloc,
+                "this win condition names an object that no level has and no rule makes",
+            )?;
             Ok(words)
         }
         WarningKind::NoPlayer => {

@@ -5,11 +5,13 @@ use Rattle.ps_warnings.proofs.wins.warn_of_wins.Goals as goal
 
 pub loop-line-preserved : goal.loop-line-preserved
 loop-line-preserved c =
-    passed warnings_of_win c.args.source.now c.loop-line.line c.args.lines.now.end c.loop-line.told.items
+    passed (warnings_of_win c.args.facts.now.names.now c.args.facts.now.there.now)
+    c.args.source.now c.loop-line.line c.args.lines.now.end c.loop-line.told.items
     c.warn_of_line.new.told.items _ (omega arith) (omega arith) (omega arith) c.in_ok-warn_of_line.ensures
     c.loop-line.invariant
 
 pub returns : goal.returns
 returns c =
-    all_passed warnings_of_win c.args.source.now c.loop-line.line c.args.lines.now.end c.loop-line.told.items _
+    all_passed (warnings_of_win c.args.facts.now.names.now c.args.facts.now.there.now)
+    c.args.source.now c.loop-line.line c.args.lines.now.end c.loop-line.told.items _
     (omega arith) c.loop-line.invariant
