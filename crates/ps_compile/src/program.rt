@@ -38,7 +38,7 @@ impl<'r> Drop for CompiledPrograms<'r> {
 }
 
 /// Whether the rule belongs to that part of a turn.
-fn is_in_part(part: Part, rule: &SourceRule) -> bool
+pub fn is_in_part(part: Part, rule: &SourceRule) -> bool
     ensures { result ≡ is_in_part part (source_shown rule.now) }
 {
     match part {

@@ -20,3 +20,4 @@ pub use ps_engine::{ListBoard, Scan};
 pub use ps_model::Memory;
 pub use ps_rows::{RowBoard, RowHistory};
 pub use ps_turn::{Rules, TurnRules};
+pub use queues::{lent, owned};

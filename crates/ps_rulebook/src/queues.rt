@@ -10,7 +10,7 @@ use ps_turn::Queue;
 use std::alloc::Global;
 
 /// The commands of a turn's queue, its message lent.
-pub(crate) fn lent<'q>(queue: &'q Queue) -> LentQueue<'q>
+pub fn lent<'q>(queue: &'q Queue) -> LentQueue<'q>
     ensures { result ≡ queue_shown queue.entry.now }
 {
     LentQueue {
@@ -35,7 +35,7 @@ fn message_copied(alloc: Global, message: Option<&Text>) -> Result<Option<Text>,
 }
 
 /// A turn's queue of the same commands, with a message of its own. `Memory` if there is no room for the message.
-pub(crate) fn owned(alloc: Global, queue: LentQueue<'_>) -> Result<Queue, Memory>
+pub fn owned(alloc: Global, queue: LentQueue<'_>) -> Result<Queue, Memory>
     ensures { IfOk result (λ own. queue_shown own ≡ queue.entry) }
 {
     let message = message_copied(alloc, queue.message)?;

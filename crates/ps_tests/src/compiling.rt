@@ -15,14 +15,14 @@ const HEAD: &str =
     COLLISIONLAYERS\nBackground\nTarget\nPlayer, Wall, Crate\nA B C D\nRULES\n";
 
 /// The text of the game with these rules.
-fn source_of(alloc: Global, rules: &str) -> Result<Source, Refusal> {
+pub fn source_of(alloc: Global, rules: &str) -> Result<Source, Refusal> {
     let mut text = String::from_str(alloc, HEAD)?;
     text.push_str(rules)?;
     Source::read(alloc, text.as_bytes())
 }
 
 /// The names of the game.
-fn names_of_game(alloc: Global, source: &Source) -> Result<Names, Refusal> {
+pub fn names_of_game(alloc: Global, source: &Source) -> Result<Names, Refusal> {
     if source.lines() < 29 {
         return Err(Refusal::Memory);
     }
@@ -30,7 +30,7 @@ fn names_of_game(alloc: Global, source: &Source) -> Result<Names, Refusal> {
 }
 
 /// The game's rules, which stand from line 30 on.
-fn rules_of_game(alloc: Global, source: &Source, names: &Names) -> Result<RuleText, Refusal> {
+pub fn rules_of_game(alloc: Global, source: &Source, names: &Names) -> Result<RuleText, Refusal> {
     let end = source.lines() + 1;
     if end < 30 {
         return Err(Refusal::Memory);

@@ -1,0 +1,4 @@
+pub mod Changes
+pub mod Tellings
+pub mod ToldRuns
+pub mod TrueRuns

@@ -1,0 +1,101 @@
+//! Attempts of rules that are told.
+
+ghost use Rattle.std.specs.Prelude.{◌≡◌, ◌≤◌, ◌++◌, IfOk, OnOk, length};
+ghost use Rattle.ps_turn.specs.States.{HaveSameSides};
+ghost use Rattle.ps_told.specs.Tellings.{state_seen};
+ghost use Rattle.ps_told.specs.ToldRuns.{told_between};
+
+use crate::changes::slot_changes;
+use crate::commands::are_same_commands;
+use crate::telling::Telling;
+use crate::told::{Event, Moment, Told};
+use ps_board::Board;
+use ps_engine::{LentQueue, Scan, Workspace, attempt};
+use ps_model::Memory;
+use ps_origins::RuleOrigin;
+use ps_program::CompiledRule;
+use ps_rulebook::owned;
+use std::alloc::Global;
+
+/// A board and a queue at one moment.
+#[derive(Drop)]
+pub struct Seen<'a, 'r, B: Board> {
+    pub board: &'a B,
+    pub queue: &'a LentQueue<'r>,
+}
+
+/// What is told of an attempt between these moments.
+fn told_between<B: Board>(
+    alloc: Global,
+    origin: RuleOrigin,
+    moment: Moment,
+    before: Seen<'_, '_, B>,
+    after: Seen<'_, '_, B>,
+) -> Result<Told, Memory>
+    requires { HaveSameSides (B.grid after.board.now) (B.grid before.board.now) }
+    ensures { IfOk result (λ told.
+        told ≡ told_between origin moment (state_seen B.Board before) (state_seen B.Board after)) }
+{
+    Ok(Told {
+        origin,
+        moment,
+        changes: slot_changes(alloc, before.board, after.board)?,
+        before: owned(alloc, before.queue.copy())?,
+        after: owned(alloc, after.queue.copy())?,
+    })
+}
+
+impl<'b, 'q, 's, 'r, B: Scan> Telling<'b, 'q, 's, 'r, B> {
+    ghost use Rattle.ps_model.specs.board.Attempts.{attempt};
+    ghost use Rattle.ps_engine.specs.RulesInRoom.{rule_meaning};
+    ghost use Rattle.ps_told.specs.Tellings.{fixed_in_telling, state_of_telling};
+    ghost use Rattle.ps_told.specs.ToldRuns.{told_attempt};
+
+    /// An attempt of a rule, which is told if it changed something or entered a command. Answers whether a cell
+    /// changed.
+    ///
+    /// # Errors
+    ///
+    /// `Memory`, and the attempt has been made.
+    pub fn attempt(
+        &mut self,
+        rule: &CompiledRule<'r>,
+        origin: RuleOrigin,
+        moment: Moment,
+    ) -> Result<bool, Memory>
+        requires { length rule.now.rows ≤ length self.old.scratch.now }
+        ensures attempt { IfOk result (λ changed. record { state = state_of_telling B.Board self.new; changed = changed }
+            ≡ attempt (rule_meaning (B.table self.old.board.now) rule.now) (state_of_telling B.Board self.old)) }
+        ensures told { OnOk result (self.new.events.now.items ≡ self.old.events.now.items
+            ++ told_attempt origin moment (rule_meaning (B.table self.old.board.now) rule.now)
+            (state_of_telling B.Board self.old)) }
+        ensures fixed { fixed_in_telling B.Board self.new ≡ fixed_in_telling B.Board self.old }
+    {
+        let queued = self.queue.copy();
+        let mut work = Workspace {
+            board: &mut *self.board,
+            queue: &mut *self.queue,
+            scratch: &mut *self.scratch,
+        };
+        let changed = attempt(rule, &mut work);
+        if !changed && are_same_commands(&queued, &*self.queue) {
+            return Ok(false);
+        }
+        let told = told_between(
+            self.alloc,
+            origin,
+            moment,
+            Seen {
+                board: &*self.before,
+                queue: &queued,
+            },
+            Seen {
+                board: &*self.board,
+                queue: &*self.queue,
+            },
+        );
+        self.board.copy_into(&mut *self.before);
+        self.events.push(Event::Attempt(told?))?;
+        Ok(changed)
+    }
+}
