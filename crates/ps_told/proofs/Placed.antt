@@ -1,6 +1,6 @@
 -- Rules counted, and the origins after those of some rules.
 use Rattle.std.proofs.Common.{◌≡◌, ◌∙◌, ℕ, ◌+◌, ◌-◌, ◌<◌, ◌≤◌, suc, List, [], ◌∷◌, Option, drop, get_or, length, map}
-use Rattle.std.proofs.Common.{refl, sym, ap, ap₂, arith}
+use Rattle.std.proofs.Common.{refl, sym, ap, ap₂, arith, length-append}
 use Rattle.std.proofs.Math.Seq.{drop-cons}
 use Rattle.std.proofs.lemmas.List.{drop-drop, length-drop, length-map}
 use Rattle.ps_model.specs.board.Programs.{Section}
@@ -8,6 +8,8 @@ use Rattle.ps_program.specs.declared.rules.CompiledRule.{CompiledRule}
 use Rattle.ps_program.specs.declared.program.CompiledSection.{CompiledSection}
 use Rattle.ps_program.specs.declared.program.CompiledSection.TheVariants.{Group, Loop}
 use Rattle.ps_origins.specs.declared.origins.RuleOrigin.{RuleOrigin}
+use Rattle.ps_program.specs.ProgramShown.{groups_shown, rule_shown, rules_shown, section_shown, sections_shown}
+use Rattle.ps_origins.specs.Besides.{rules_of, rules_of_groups, rules_of_section}
 use Rattle.ps_engine.specs.RulesInRoom.{rule_meaning, rules_meaning, section_meaning}
 use Rattle.ps_told.specs.Tellings.{rules_in, rules_in_all}
 use Rattle.ps_told.specs.ToldRuns.{count_in, rule_count}
@@ -40,6 +42,24 @@ pub counted_section : (table : Option (List ℕ)) (section : CompiledSection) �
     rule_count (section_meaning table section) ≡ rules_in section
 counted_section table (Group rules) = length-map rules (rule_meaning table)
 counted_section table (Loop groups) = counted_groups (rule_meaning table) groups
+
+-- and as many are shown
+shown_groups : (groups : List (List CompiledRule)) → length (rules_of_groups (groups_shown groups)) ≡ count_in groups
+shown_groups [] = refl
+shown_groups (rules ∷ groups) =
+    length-append (rules_shown rules) (rules_of_groups (groups_shown groups))
+    ∙ ap₂ (λ (m n : ℕ). m + n) (length-map rules rule_shown) (shown_groups groups)
+
+shown_section : (section : CompiledSection) → length (rules_of_section (section_shown section)) ≡ rules_in section
+shown_section (Group rules) = length-map rules rule_shown
+shown_section (Loop groups) = shown_groups groups
+
+pub shown_sections : (sections : List CompiledSection) →
+    length (rules_of (sections_shown sections)) ≡ rules_in_all sections
+shown_sections [] = refl
+shown_sections (section ∷ others) =
+    length-append (rules_of_section (section_shown section)) (rules_of (sections_shown others))
+    ∙ ap₂ (λ (m n : ℕ). m + n) (shown_section section) (shown_sections others)
 
 pub behind_rules : (table : Option (List ℕ)) (rules : List CompiledRule) (origins rest : List RuleOrigin) (count : ℕ) →
     rest ≡ drop count origins → count ≡ length rules → rest ≡ drop (length (rules_meaning table rules)) origins

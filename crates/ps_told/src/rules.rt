@@ -11,9 +11,9 @@ ghost use Rattle.ps_told.specs.TrueRuns.{IsTrueRun, state_after, state_before};
 
 use crate::telling::Telling;
 use crate::told::ToldRun;
-use ps_origins::RuleOrigin;
 use ps_engine::{LentQueue, Scan, ScratchFor, scratch_for};
 use ps_model::{Extent, Memory};
+use ps_origins::{PlacedProgram, RuleOrigin};
 use ps_program::CompiledSection;
 use ps_rulebook::{lent, owned};
 use ps_turn::{Queue, Rules};
@@ -48,23 +48,20 @@ impl<'p, 'r, B: Scan> Drop for TracedRules<'p, 'r, B> {
 }
 
 impl<'p, 'r, B: Scan> TracedRules<'p, 'r, B> {
-    /// The rules of these sections, whose origins stand in a list of as many or more. `Memory` if there is no room for
-    /// what their runs need.
+    /// The rules of a program. `Memory` if there is no room for what their runs need.
     pub fn try_new(
         alloc: Global,
-        sections: &'p [CompiledSection<'r>],
-        origins: &'p [RuleOrigin],
+        program: PlacedProgram<'p, 'r>,
     ) -> Result<TracedRules<'p, 'r, B>, Memory>
-        requires { rules_in_all sections.now ≤ length origins.now }
-        ensures sections { IfOk result (λ rules. rules.sections.now ≡ sections.entry.now) }
-        ensures origins { IfOk result (λ rules. rules.origins.now ≡ origins.entry.now) }
+        ensures sections { IfOk result (λ rules. rules.sections.now ≡ program.sections.now) }
+        ensures origins { IfOk result (λ rules. rules.origins.now ≡ program.origins.now) }
         ensures none { IfOk result (λ rules. rules.runs.items ≡ []) }
     {
-        let scratch = scratch_for(alloc, sections)?;
+        let scratch = scratch_for(alloc, program.sections)?;
         Ok(TracedRules {
             alloc,
-            sections,
-            origins,
+            sections: program.sections,
+            origins: program.origins,
             scratch,
             runs: Vec::new(alloc),
         })

@@ -1,4 +1,4 @@
-use Rattle.std.proofs.Common.{◌≡◌, ◌∙◌, ◌++◌, ◌≤◌, ℕ, List, Option, ap, length, sym, subst, refl, get_or, drop}
+use Rattle.std.proofs.Common.{◌≡◌, ◌∙◌, ◌++◌, ◌≤◌, ℕ, List, Option, ap, length, sym, subst, refl, get_or, drop, arith}
 use Rattle.std.proofs.lemmas.Result.{IfOk-from_err}
 use Rattle.ps_model.specs.board.Attempts.{State, Result}
 use Rattle.ps_model.specs.board.Programs.{group}
@@ -10,7 +10,7 @@ use Rattle.ps_engine.proofs.Sequences.{pass_end, pass_more}
 use Rattle.ps_told.specs.declared.told.Event.{Event}
 use Rattle.ps_told.specs.Tellings.{same_layers, same_rows, state_of_telling}
 use Rattle.ps_told.specs.ToldRuns.{told_group}
-use Rattle.ps_told.proofs.Placed.{behind_rules}
+use Rattle.ps_told.proofs.Placed.{behind_rules, count_more, enough_left}
 use Rattle.ps_told.proofs.Steps.{told_pass_end, told_pass_more}
 use Rattle.ps_told.proofs.groups.Telling.pass.Goals as goal
 
@@ -43,7 +43,9 @@ loop-rules-preserved g c =
           c.in_ok-more.more origins _ events _ now next c.loop-rules-test.true c.rules-item.is made told
           (behind_rules table rules origins _ _ c.split_at.ensures.back (ap length c.as_slice-2.ensures))
           ∙ was.told;
-      origins = search rules;
+      origins = enough_left origins _ _ _ _ (c.split_at.ensures.back ∙ ap (λ (n : ℕ). drop n origins)
+          (ap length c.as_slice-2.ensures)) (count_more c.args.groups.now c.loop-rules.rules-index rules
+          c.loop-rules-test.true c.rules-item.is) was.origins;
       fixed = c.group.ensures.fixed ∙ was.fixed;
     }
 
@@ -71,3 +73,21 @@ returns-clause-told g c =
     c.loop-rules.rules-index c.loop-rules.rest.now c.loop-rules.self.events.now.items
     (state_of_telling g.B.Board c.loop-rules.self) c.loop-rules-test.false
     ∙ c.loop-rules.invariant.told
+
+pub group-requires-clause-scratch : goal.group-requires-clause-scratch
+group-requires-clause-scratch g c =
+    let rules : List CompiledRule = c.rules-item.result in
+    subst (HaveScratch (length c.loop-rules.self.scratch.now)) (sym (c.as_slice.ensures ∙ c.rules-item.is))
+    (subst (λ (count : ℕ). HaveScratch count (get_or c.args.groups.now c.loop-rules.rules-index rules))
+    (sym (same_rows c.loop-rules.invariant.fixed))
+    (c.requires.scratch c.loop-rules.rules-index rules c.loop-rules-test.true))
+
+pub group-requires-clause-origins : goal.group-requires-clause-origins
+group-requires-clause-origins g c =
+    omega (arith, ap length c.as_slice.ensures, c.loop-rules.invariant.origins, count_more c.args.groups.now
+    c.loop-rules.rules-index c.rules-item.result c.loop-rules-test.true c.rules-item.is)
+
+pub split_at-requires : goal.split_at-requires
+split_at-requires g c =
+    omega (arith, ap length c.as_slice-2.ensures, c.loop-rules.invariant.origins, count_more c.args.groups.now
+    c.loop-rules.rules-index c.rules-item.result c.loop-rules-test.true c.rules-item.is)
