@@ -159,13 +159,17 @@ program_kept made part lines = sections_made made (sections_of part lines) ∙ a
 -- origins -------------------------------------------------------------------------------------------------------------
 
 -- rules that aren't void, turned before they are sifted or after
+sift_one : (names : Names) (rule : CompiledRule) (rules : List CompiledRule) (yes : Bool) →
+    compact names rules ≡ map rule_forwards (busy names rules) →
+    cond yes (rule_forwards rule ∷ compact names rules) (compact names rules)
+    ≡ map rule_forwards (cond yes (rule ∷ busy names rules) (busy names rules))
+sift_one names rule rules true rest = ap (λ (all : List CompiledRule). rule_forwards rule ∷ all) rest
+sift_one names rule rules false rest = rest
+
 sifted : (names : Names) (rules : List CompiledRule) → compact names rules ≡ map rule_forwards (busy names rules)
 sifted names [] = refl
-sifted names (rule ∷ rules) = by (is_busy names (rule_forwards rule)) where
-  by : (yes : Bool) → cond yes (rule_forwards rule ∷ compact names rules) (compact names rules)
-      ≡ map rule_forwards (cond yes (rule ∷ busy names rules) (busy names rules))
-  by true = ap (λ (rest : List CompiledRule). rule_forwards rule ∷ rest) (sifted names rules)
-  by false = sifted names rules
+sifted names (rule ∷ rules) =
+    sift_one names rule rules (is_busy names (rule_forwards rule)) (sifted names rules)
 
 module _ (names : Names) where
   sourced_rules : (rule : SourceRule) → compact_rules names rule ≡ map turned_rule (sourced_of names rule)

@@ -59,6 +59,8 @@ mod solved_puzzles;
 #[cfg(test)]
 mod solving;
 #[cfg(test)]
+mod told;
+#[cfg(test)]
 mod told_levels;
 #[cfg(test)]
 mod watched;

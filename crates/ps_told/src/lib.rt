@@ -17,5 +17,5 @@ mod told;
 pub use ps_origins::RuleOrigin;
 pub use ps_turn::Queue;
 pub use rules::TracedRules;
-pub use slots::slot_on;
+pub use slots::{cell_count, slot_on};
 pub use told::{Event, Moment, SlotChange, Told, ToldRun};
