@@ -8,7 +8,9 @@
 mod counts;
 mod keys;
 mod tracers;
+mod tracings;
 
 pub use keys::TracedKeys;
-pub use ps_devices::{ByteReader, ByteWriter, Failed};
+pub use ps_devices::{ByteReader, ByteWriter, Failed, LevelFault, Player, RunFault};
 pub use tracers::Tracer;
+pub use tracings::Tracing;
