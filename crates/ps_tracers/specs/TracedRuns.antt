@@ -1,24 +1,23 @@
--- Runs whose keys are told of before they are played: each is right as a run is that isn't told of. What it reads comes
--- by a reader above the one that is lent, which has the same bytes to give before the run, and the same left after it.
-use Rattle.std.specs.Prelude.{◌≡◌, ℕ, List}
+-- Runs that begin at a level or at the start, and runs whose keys are told of before they are played. Each of these is
+-- right as a run is that isn't told of. What it reads comes by a reader above the one that is lent, which has the same
+-- bytes to give before the run, and the same left after it.
+use Rattle.std.specs.Prelude.{◌≡◌, ℕ, ⊥, Option, Some, None, List}
 use Rattle.ps_model.specs.game.Tellings.{ReaderState, WriterState}
-use Rattle.ps_model.specs.game.Headline.{Answer, RunsRightly}
-use Rattle.ps_model.specs.game.LevelRuns.{LevelAnswer, RunsRightlyFromLevel}
+use Rattle.ps_model.specs.game.Headline.{RunsRightly}
+use Rattle.ps_model.specs.game.LevelRuns.{LevelAnswer, LacksLevel, Plays, RunsRightlyFromLevel}
 
--- a run that is told of
-pub record RunsTraced (text : List ℕ) (reader_before reader_after : ReaderState)
-    (writer_before writer_after : WriterState) (answer : Answer) : Type 0 where
-  pub first : ReaderState
-  pub last : ReaderState
-  pub same_first : first.remaining ≡ reader_before.remaining
-  pub same_last : last.remaining ≡ reader_after.remaining
-  pub rightly : RunsRightly text first last writer_before writer_after answer
+-- a run is right that begins at that level; without one, at the start, where no level can be lacking
+abbrev pub RunsFrom : List ℕ → Option ℕ → ReaderState → ReaderState → WriterState → WriterState → LevelAnswer → Type 0
+RunsFrom text None before after first last (Plays answer) = RunsRightly text before after first last answer
+RunsFrom text None before after first last (LacksLevel levels) = ⊥
+RunsFrom text (Some level) before after first last answer =
+    RunsRightlyFromLevel text level before after first last answer
 
--- one that begins at a level
-pub record RunsTracedFromLevel (text : List ℕ) (level : ℕ) (reader_before reader_after : ReaderState)
+-- a run that is told of is right
+pub record RunsTraced (text : List ℕ) (level : Option ℕ) (reader_before reader_after : ReaderState)
     (writer_before writer_after : WriterState) (answer : LevelAnswer) : Type 0 where
   pub first : ReaderState
   pub last : ReaderState
   pub same_first : first.remaining ≡ reader_before.remaining
   pub same_last : last.remaining ≡ reader_after.remaining
-  pub rightly : RunsRightlyFromLevel text level first last writer_before writer_after answer
+  pub rightly : RunsFrom text level first last writer_before writer_after answer
