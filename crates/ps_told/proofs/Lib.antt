@@ -1,3 +1,4 @@
+mod Attempts
 mod Growing
 mod Placed
 mod Steps

@@ -1,6 +1,6 @@
 //! Attempts of rules that are told.
 
-ghost use Rattle.std.specs.Prelude.{◌≡◌, ◌≤◌, ◌++◌, IfOk, OnOk, length};
+ghost use Rattle.std.specs.Prelude.{◌≡◌, ◌≤◌, ◌++◌, ◌||◌, IfOk, OnOk, length, not};
 ghost use Rattle.ps_turn.specs.States.{HaveSameSides};
 ghost use Rattle.ps_told.specs.Tellings.{state_seen};
 ghost use Rattle.ps_told.specs.ToldRuns.{told_between};
@@ -24,6 +24,13 @@ pub struct Seen<'a, 'r, B: Board> {
     pub queue: &'a LentQueue<'r>,
 }
 
+/// Whether an attempt is told: it changed a cell, or the commands aren't the same.
+fn is_told(changed: bool, same: bool) -> bool
+    ensures { result ≡ (changed || not same) }
+{
+    changed || !same
+}
+
 /// What is told of an attempt between these moments.
 fn told_between<B: Board>(
     alloc: Global,
@@ -36,12 +43,15 @@ fn told_between<B: Board>(
     ensures { IfOk result (λ told.
         told ≡ told_between origin moment (state_seen B.Board before) (state_seen B.Board after)) }
 {
+    let changes = slot_changes(alloc, before.board, after.board)?;
+    let was = owned(alloc, before.queue.copy())?;
+    let is = owned(alloc, after.queue.copy())?;
     Ok(Told {
         origin,
         moment,
-        changes: slot_changes(alloc, before.board, after.board)?,
-        before: owned(alloc, before.queue.copy())?,
-        after: owned(alloc, after.queue.copy())?,
+        changes,
+        before: was,
+        after: is,
     })
 }
 
@@ -78,8 +88,9 @@ impl<'b, 'q, 's, 'r, B: Scan> Telling<'b, 'q, 's, 'r, B> {
             scratch: &mut *self.scratch,
         };
         let changed = attempt(rule, &mut work);
-        if !changed && are_same_commands(&queued, &*self.queue) {
-            return Ok(false);
+        let same = are_same_commands(&queued, &*self.queue);
+        if !is_told(changed, same) {
+            return Ok(changed);
         }
         let told = told_between(
             self.alloc,
@@ -95,7 +106,8 @@ impl<'b, 'q, 's, 'r, B: Scan> Telling<'b, 'q, 's, 'r, B> {
             },
         );
         self.board.copy_into(&mut *self.before);
-        self.events.push(Event::Attempt(told?))?;
+        let told = told?;
+        self.events.push(Event::Attempt(told))?;
         Ok(changed)
     }
 }
