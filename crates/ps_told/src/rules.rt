@@ -117,12 +117,14 @@ impl<'p, 'r, B: Scan> TracedRules<'p, 'r, B> {
             };
             telling.program(self.sections, self.origins)?;
         }
+        let queued = owned(self.alloc, lent(queue))?;
+        let came = owned(self.alloc, during)?;
         Ok(ToldRun {
             extent,
             before,
             after,
-            queued: owned(self.alloc, lent(queue))?,
-            queue: owned(self.alloc, during)?,
+            queued,
+            queue: came,
             events,
         })
     }
