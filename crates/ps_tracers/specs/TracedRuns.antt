@@ -1,7 +1,7 @@
 -- Runs that begin at a level or at the start, and runs whose keys are told of before they are played. Each of these is
 -- right as a run is that isn't told of. What it reads comes by a reader above the one that is lent, which has the same
 -- bytes to give before the run, and the same left after it.
-use Rattle.std.specs.Prelude.{◌≡◌, ℕ, ⊥, Option, Some, None, List}
+use Rattle.std.specs.Prelude.{◌≡◌, ℕ, Option, Some, None, List}
 use Rattle.ps_model.specs.game.Tellings.{ReaderState, WriterState}
 use Rattle.ps_model.specs.game.Headline.{RunsRightly}
 use Rattle.ps_model.specs.game.LevelRuns.{LevelAnswer, LacksLevel, Plays, RunsRightlyFromLevel}
