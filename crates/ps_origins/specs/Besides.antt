@@ -1,6 +1,6 @@
 -- Each rule of a compiled program has its origin: what the program has in its order, and what the origins are in theirs,
 -- comes from the same compiled rules of the source, one by one.
-use Rattle.std.specs.Prelude.{◌≡◌, ◌×◌, List, [], ◌∷◌, ◌++◌, length, map}
+use Rattle.std.specs.Prelude.{◌≡◌, List, [], ◌∷◌, ◌++◌, length, map}
 use Rattle.std.specs.List.{flat_map}
 use Rattle.ps_model.specs.declared.rules.Part.{Part}
 use Rattle.ps_model.specs.names.Names.{Names}

@@ -7,5 +7,5 @@ pub invariant_of-result : goal.invariant_of-result
 invariant_of-result c = record {
   beside = ap (λ (program : List CompiledSection). length (rules_of program)) c.sections.ensures
       ∙ c.args.self.now.late_beside
-      ∙ sym (ap length c.as_slice.ensures);
+      ∙ sym (ap length c.as_slice.ensures.value);
 }
