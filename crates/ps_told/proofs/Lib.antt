@@ -1,4 +1,4 @@
-mod Attempts
+mod ToldAttempts
 mod Growing
 mod Placed
 mod Steps

@@ -7,13 +7,8 @@ use Rattle.ps_board.specs.declared.words.ColumnWords.{Ghosts as ColumnWords}
 use Rattle.ps_match.specs.FixedParts.{FixedPart, fixed_part}
 use Rattle.ps_program.specs.declared.program.CompiledSection.{CompiledSection}
 use Rattle.ps_program.specs.declared.program.CompiledSection.TheVariants.{Group, Loop}
-use Rattle.ps_told.specs.declared.attempts.Seen.{Seen}
 use Rattle.ps_told.specs.declared.telling.Telling.{Telling}
 use Rattle.ps_told.specs.ToldRuns.{count_in}
-
--- a board and a queue at one moment
-abbrev pub state_seen : {B Words : Type 0} → Board B Words → Seen B Words → State
-state_seen kind seen = record { grid = kind.grid seen.board.now; queue = seen.queue.now }
 
 -- the grid of its board, and its queue
 abbrev pub state_of_telling : {B Words : Type 0} {words : ColumnWords Words} → (kind : Board B Words) → Telling B Words kind words → State

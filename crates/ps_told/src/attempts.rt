@@ -1,58 +1,23 @@
 //! Attempts of rules that are told.
 
 ghost use Rattle.std.specs.Prelude.{◌≡◌, ◌≤◌, ◌++◌, ◌||◌, IfOk, OnOk, length, not};
-ghost use Rattle.ps_turn.specs.States.{HaveSameSides};
-ghost use Rattle.ps_told.specs.Tellings.{state_seen};
-ghost use Rattle.ps_told.specs.ToldRuns.{told_between};
 
 use crate::changes::slot_changes;
 use crate::commands::are_same_commands;
 use crate::telling::Telling;
 use crate::told::{Event, Moment, Told};
-use ps_board::Board;
-use ps_engine::{LentQueue, Scan, Workspace, attempt};
+use ps_engine::{Scan, Workspace, attempt};
 use ps_model::Memory;
 use ps_origins::RuleOrigin;
 use ps_program::CompiledRule;
 use ps_rulebook::owned;
 use std::alloc::Global;
 
-/// A board and a queue at one moment.
-#[derive(Drop)]
-pub struct Seen<'a, 'r, B: Board> {
-    pub board: &'a B,
-    pub queue: &'a LentQueue<'r>,
-}
-
 /// Whether an attempt is told: it changed a cell, or the commands aren't the same.
 fn is_told(changed: bool, same: bool) -> bool
     ensures { result ≡ (changed || not same) }
 {
     changed || !same
-}
-
-/// What is told of an attempt between these moments.
-fn told_between<B: Board>(
-    alloc: Global,
-    origin: RuleOrigin,
-    moment: Moment,
-    before: Seen<'_, '_, B>,
-    after: Seen<'_, '_, B>,
-) -> Result<Told, Memory>
-    requires { HaveSameSides (B.grid after.board.now) (B.grid before.board.now) }
-    ensures { IfOk result (λ told.
-        told ≡ told_between origin moment (state_seen B.Board before) (state_seen B.Board after)) }
-{
-    let changes = slot_changes(alloc, before.board, after.board)?;
-    let was = owned(alloc, before.queue.copy())?;
-    let is = owned(alloc, after.queue.copy())?;
-    Ok(Told {
-        origin,
-        moment,
-        changes,
-        before: was,
-        after: is,
-    })
 }
 
 impl<'b, 'q, 's, 'r, B: Scan> Telling<'b, 'q, 's, 'r, B> {
@@ -92,21 +57,18 @@ impl<'b, 'q, 's, 'r, B: Scan> Telling<'b, 'q, 's, 'r, B> {
         if !is_told(changed, same) {
             return Ok(changed);
         }
-        let told = told_between(
-            self.alloc,
+        let changes = slot_changes(self.alloc, &*self.before, &*self.board);
+        self.board.copy_into(&mut *self.before);
+        let changes = changes?;
+        let was = owned(self.alloc, queued)?;
+        let is = owned(self.alloc, self.queue.copy())?;
+        let told = Told {
             origin,
             moment,
-            Seen {
-                board: &*self.before,
-                queue: &queued,
-            },
-            Seen {
-                board: &*self.board,
-                queue: &*self.queue,
-            },
-        );
-        self.board.copy_into(&mut *self.before);
-        let told = told?;
+            changes,
+            before: was,
+            after: is,
+        };
         self.events.push(Event::Attempt(told))?;
         Ok(changed)
     }

@@ -1,16 +1,17 @@
 //! The rules of a turn that tell what they do.
 
-ghost use Rattle.std.specs.Prelude.{◌≡◌, ◌≤◌, [], All, IfOk, length};
+ghost use Rattle.std.specs.Prelude.{◌≡◌, ◌≤◌, ◌++◌, [], All, IfOk, OnOk, length};
 ghost use Rattle.ps_engine.specs.RulesInRoom.{sections_meaning};
 ghost use Rattle.ps_engine.specs.Scratch.{SectionsHaveScratch};
 ghost use Rattle.ps_match.specs.InRoom.{sides_of};
 ghost use Rattle.ps_model.specs.board.Programs.{program_run};
 ghost use Rattle.ps_turn.specs.States.{queue_shown, state_of};
 ghost use Rattle.ps_told.specs.Tellings.{rules_in_all};
+ghost use Rattle.ps_told.specs.ToldRuns.{told_program};
 ghost use Rattle.ps_told.specs.TrueRuns.{IsTrueRun, state_after, state_before};
 
 use crate::telling::Telling;
-use crate::told::ToldRun;
+use crate::told::{Event, ToldRun};
 use ps_engine::{LentQueue, Scan, ScratchFor, scratch_for};
 use ps_model::{Extent, Memory};
 use ps_origins::{PlacedProgram, RuleOrigin};
@@ -83,7 +84,49 @@ impl<'p, 'r, B: Scan> TracedRules<'p, 'r, B> {
         self.runs.clear();
     }
 
-    /// Runs the sections on a board and a queue that are lent, and answers what is told of that.
+    /// Runs the sections on a board and a queue that are lent, and tells of it. Another board, which shows what the first
+    /// one does, shows that after it too.
+    ///
+    /// # Errors
+    ///
+    /// `Memory`, and a part of the sections may have been run.
+    fn tell_lent<'q>(
+        &mut self,
+        board: &mut B,
+        shown: &mut B,
+        queue: &mut LentQueue<'q>,
+        events: &mut Vec<Event>,
+    ) -> Result<(), Memory>
+    where
+        'r: 'q,
+        requires alike { B.grid shown.old ≡ B.grid board.old }
+        requires table { B.table shown.old ≡ B.table board.old }
+        ensures ran { OnOk result (state_of (B.grid board.new) queue.new
+            ≡ program_run (sections_meaning (B.table board.old) self.old.sections.now)
+            (state_of (B.grid board.old) queue.old)) }
+        ensures told { OnOk result (events.new.items ≡ events.old.items
+            ++ told_program (sections_meaning (B.table board.old) self.old.sections.now) self.old.origins.now
+            (state_of (B.grid board.old) queue.old)) }
+        ensures alike { B.grid shown.new ≡ B.grid board.new }
+        ensures sections { self.new.sections ≡ self.old.sections }
+        ensures origins { self.new.origins ≡ self.old.origins }
+        ensures runs { self.new.runs ≡ self.old.runs }
+        ensures sides { sides_of (B.grid board.new) ≡ sides_of (B.grid board.old) }
+        ensures table { B.table board.new ≡ B.table board.old }
+        ensures origin { B.origin board.new ≡ B.origin board.old }
+    {
+        let mut telling = Telling {
+            alloc: self.alloc,
+            board,
+            before: shown,
+            queue,
+            scratch: self.scratch.as_mut_slice(),
+            events,
+        };
+        telling.program(self.sections, self.origins)
+    }
+
+    /// Runs the sections on a board, and answers what is told of that.
     ///
     /// # Errors
     ///
@@ -105,19 +148,9 @@ impl<'p, 'r, B: Scan> TracedRules<'p, 'r, B> {
         let before = board.try_copy(self.alloc)?;
         let mut after = board.try_copy(self.alloc)?;
         let mut events = Vec::new(self.alloc);
-        let mut during: LentQueue<'_> = lent(queue);
-        {
-            let mut telling = Telling {
-                alloc: self.alloc,
-                board,
-                before: &mut after,
-                queue: &mut during,
-                scratch: self.scratch.as_mut_slice(),
-                events: &mut events,
-            };
-            telling.program(self.sections, self.origins)?;
-        }
         let queued = owned(self.alloc, lent(queue))?;
+        let mut during = lent(queue);
+        self.tell_lent(board, &mut after, &mut during, &mut events)?;
         let came = owned(self.alloc, during)?;
         Ok(ToldRun {
             extent,

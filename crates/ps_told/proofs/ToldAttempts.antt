@@ -33,10 +33,10 @@ told_if origin moment before result tells =
 pub untold : (origin : RuleOrigin) (moment : Moment) (before : State) (result : Result) →
     (result.changed || not (same_commands before.queue result.state.queue)) ≡ false →
     told_result origin moment before result ≡ []
-untold origin moment before result no = ap (told_if origin moment before result) no
+untold origin moment before result e = ap (told_if origin moment before result) e
 
 -- else it is
 pub told : (origin : RuleOrigin) (moment : Moment) (before : State) (result : Result) →
     (result.changed || not (same_commands before.queue result.state.queue)) ≡ true →
     told_result origin moment before result ≡ Attempt (told_between origin moment before result.state) ∷ []
-told origin moment before result yes = ap (told_if origin moment before result) yes
+told origin moment before result e = ap (told_if origin moment before result) e

@@ -12,7 +12,7 @@ use Rattle.ps_told.specs.declared.told.Event.{Event}
 use Rattle.ps_told.specs.Tellings.{same_layers, same_rows, state_of_telling}
 use Rattle.ps_told.specs.ToldRuns.{moment_of, told_round}
 use Rattle.ps_told.proofs.Steps.{told_group_is, told_settled_end, told_settled_off, told_settled_on}
-use Rattle.ps_told.proofs.groups.Telling.group.Goals as goal
+use Rattle.ps_told.proofs.telling.Telling.group.Goals as goal
 
 pub loop-left-init : goal.loop-left-init
 loop-left-init g c =

@@ -10,7 +10,7 @@ use Rattle.ps_told.specs.declared.told.Event.{Event}
 use Rattle.ps_told.specs.Tellings.{same_layers, same_rows, state_of_telling}
 use Rattle.ps_told.specs.ToldRuns.{told_pass}
 use Rattle.ps_told.proofs.Steps.{told_looped_off, told_looped_on, told_looped_stop}
-use Rattle.ps_told.proofs.programs.Telling.looped.Goals as goal
+use Rattle.ps_told.proofs.telling.Telling.looped.Goals as goal
 
 pub loop-again-init : goal.loop-again-init
 loop-again-init g c = record { looped = refl; told = refl; total = refl; fixed = refl }

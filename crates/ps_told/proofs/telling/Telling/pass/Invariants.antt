@@ -3,7 +3,7 @@ use Rattle.ps_model.specs.board.Programs.{after_change, pass}
 use Rattle.ps_engine.specs.RulesInRoom.{groups_meaning, rules_meaning}
 use Rattle.ps_told.specs.Tellings.{fixed_in_telling, state_of_telling}
 use Rattle.ps_told.specs.ToldRuns.{count_in, told_pass}
-use Rattle.ps_told.proofs.groups.Telling.pass.Given as goal
+use Rattle.ps_told.proofs.telling.Telling.pass.Given as goal
 
 -- the groups passed by were played, and told
 abbrev pub invariant-loop-rules : goal.invariant-loop-rules

@@ -14,7 +14,7 @@ use Rattle.ps_told.specs.Tellings.{same_layers, same_rows, state_of_telling}
 use Rattle.ps_told.specs.ToldRuns.{told_section}
 use Rattle.ps_told.proofs.Placed.{counted_section, enough_left, sections_count_more}
 use Rattle.ps_told.proofs.Steps.{told_program_is, told_sections_end, told_sections_on, told_sections_stop}
-use Rattle.ps_told.proofs.programs.Telling.program.Goals as goal
+use Rattle.ps_told.proofs.telling.Telling.program.Goals as goal
 
 pub loop-section-init : goal.loop-section-init
 loop-section-init g c =

@@ -4,7 +4,7 @@ use Rattle.ps_model.specs.board.Programs.{program_run, sections_run}
 use Rattle.ps_engine.specs.RulesInRoom.{section_meaning, sections_meaning}
 use Rattle.ps_told.specs.Tellings.{fixed_in_telling, rules_in_all, state_of_telling}
 use Rattle.ps_told.specs.ToldRuns.{told_program, told_sections}
-use Rattle.ps_told.proofs.programs.Telling.program.Given as goal
+use Rattle.ps_told.proofs.telling.Telling.program.Given as goal
 
 -- what is left of the program comes to the same, and tells the rest
 abbrev pub invariant-loop-section : goal.invariant-loop-section

@@ -3,7 +3,7 @@ use Rattle.ps_model.specs.board.Programs.{looped}
 use Rattle.ps_engine.specs.RulesInRoom.{groups_meaning}
 use Rattle.ps_told.specs.Tellings.{fixed_in_telling, state_of_telling}
 use Rattle.ps_told.specs.ToldRuns.{told_looped}
-use Rattle.ps_told.proofs.programs.Telling.looped.Given as goal
+use Rattle.ps_told.proofs.telling.Telling.looped.Given as goal
 
 -- what is left of the loop comes to the same, and tells the rest
 abbrev pub invariant-loop-again : goal.invariant-loop-again

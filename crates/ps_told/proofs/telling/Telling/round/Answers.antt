@@ -9,7 +9,7 @@ use Rattle.ps_told.specs.declared.told.Event.{Event}
 use Rattle.ps_told.specs.Tellings.{same_layers, same_rows, state_of_telling}
 use Rattle.ps_told.specs.ToldRuns.{told_attempt}
 use Rattle.ps_told.proofs.Steps.{told_round_end, told_round_more}
-use Rattle.ps_told.proofs.groups.Telling.round.Goals as goal
+use Rattle.ps_told.proofs.telling.Telling.round.Goals as goal
 
 pub loop-number-init : goal.loop-number-init
 loop-number-init g c = record { round = refl; told = refl; fixed = refl }

@@ -3,7 +3,7 @@ use Rattle.ps_model.specs.board.Programs.{after_change, round}
 use Rattle.ps_engine.specs.RulesInRoom.{rule_meaning, rules_meaning}
 use Rattle.ps_told.specs.Tellings.{fixed_in_telling, state_of_telling}
 use Rattle.ps_told.specs.ToldRuns.{told_round}
-use Rattle.ps_told.proofs.groups.Telling.round.Given as goal
+use Rattle.ps_told.proofs.telling.Telling.round.Given as goal
 
 -- the rules passed by were attempted, and told
 abbrev pub invariant-loop-number : goal.invariant-loop-number

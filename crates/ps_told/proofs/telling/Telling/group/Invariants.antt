@@ -4,7 +4,7 @@ use Rattle.ps_model.specs.board.Programs.{group, settled}
 use Rattle.ps_engine.specs.RulesInRoom.{rules_meaning}
 use Rattle.ps_told.specs.Tellings.{fixed_in_telling, state_of_telling}
 use Rattle.ps_told.specs.ToldRuns.{told_group, told_settled}
-use Rattle.ps_told.proofs.groups.Telling.group.Given as goal
+use Rattle.ps_told.proofs.telling.Telling.group.Given as goal
 
 -- the rounds that are left come to the same, and tell the rest
 abbrev pub invariant-loop-left : goal.invariant-loop-left

@@ -11,7 +11,7 @@ use Rattle.ps_engine.specs.Scratch.{GroupsHaveScratch, HaveScratch}
 use Rattle.ps_told.specs.declared.told.Event.{Event}
 use Rattle.ps_told.specs.Tellings.{rules_in, state_of_telling}
 use Rattle.ps_told.specs.ToldRuns.{count_in, told_section}
-use Rattle.ps_told.proofs.programs.Telling.section.Goals as goal
+use Rattle.ps_told.proofs.telling.Telling.section.Goals as goal
 
 pub group-requires-clause-scratch : goal.group-requires-clause-scratch
 group-requires-clause-scratch g c =

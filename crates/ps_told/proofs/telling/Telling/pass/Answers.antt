@@ -12,7 +12,7 @@ use Rattle.ps_told.specs.Tellings.{same_layers, same_rows, state_of_telling}
 use Rattle.ps_told.specs.ToldRuns.{told_group}
 use Rattle.ps_told.proofs.Placed.{behind_rules, count_more, enough_left}
 use Rattle.ps_told.proofs.Steps.{told_pass_end, told_pass_more}
-use Rattle.ps_told.proofs.groups.Telling.pass.Goals as goal
+use Rattle.ps_told.proofs.telling.Telling.pass.Goals as goal
 
 pub loop-rules-preserved : goal.loop-rules-preserved
 loop-rules-preserved g c =
