@@ -7,9 +7,9 @@ ghost use Rattle.ps_devices.specs.Devices.{most_calls};
 use ps_devices::Failed;
 use ps_model::CALL_LIMIT;
 
-/// What is counted of a reader's calls: whether one has failed, how many bytes the last one gave, how many calls there
-/// were, how many of them gave nothing without failing, and how many had room for another number of bytes than
-/// `CALL_LIMIT`.
+/// What is counted of a reader's calls. It has whether one has failed, how many bytes the last one gave, and how many
+/// calls there were. It has how many of them gave nothing without failing, and how many had room for another number of
+/// bytes than `CALL_LIMIT`.
 #[derive(Drop)]
 pub struct Counts {
     pub failed: bool,
@@ -65,7 +65,7 @@ impl Counts {
         Ok(())
     }
 
-    /// The call that is counted has given so many bytes.
+    /// The call that is counted has given `count` bytes.
     pub fn gave(&mut self, count: usize)
         requires { self.old.empty_calls < self.old.calls }
         ensures last { self.new.last ≡ count }
