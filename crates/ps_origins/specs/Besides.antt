@@ -1,5 +1,5 @@
--- Each rule of a compiled program has its origin: what the program has in its order, and what the origins are in theirs,
--- comes from the same compiled rules of the source, one by one.
+-- Each rule of a compiled program has its origin. The rules of the program in their order, and the origins in theirs,
+-- come from the same compiled rules of the source, one by one.
 use Rattle.std.specs.Prelude.{◌≡◌, List, [], ◌∷◌, ◌++◌, length, map}
 use Rattle.std.specs.List.{flat_map}
 use Rattle.ps_model.specs.declared.rules.Part.{Part}

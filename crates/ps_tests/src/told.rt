@@ -41,8 +41,8 @@ fn word_of(direction: Direction) -> &'static str {
     }
 }
 
-/// An attempt in a line: where its rule comes from, its pass and its round, each slot that it changed by its cell and
-/// its layer, and whether it entered `again`.
+/// An attempt in a line: where its rule comes from, its pass and its round. After these stands each slot that it
+/// changed, by its cell and its layer, and whether it entered `again`.
 fn line_of_attempt(alloc: Global, told: &Told) -> Result<String, Memory> {
     let (number, word) = (told.origin.line, word_of(told.origin.direction));
     let (pass, round) = (told.moment.pass, told.moment.round);
@@ -57,7 +57,7 @@ fn line_of_attempt(alloc: Global, told: &Told) -> Result<String, Memory> {
     Ok(line)
 }
 
-/// What is told of a run, a line for each event.
+/// What a run tells, a line for each event.
 fn lines_of(alloc: Global, events: &[Event]) -> Result<String, Memory> {
     let mut lines = String::new(alloc);
     for event in events {
@@ -114,7 +114,7 @@ fn is_told(told: Option<String>, wanted: &str) -> bool {
     }
 }
 
-/// Whether so many lines are told, and this one last.
+/// Whether this number of lines is told, and this line last.
 fn ends_so(told: Option<String>, lines: usize, last: &str) -> bool {
     match told {
         Some(text) => text.lines().count() == lines && text.ends_with(last),

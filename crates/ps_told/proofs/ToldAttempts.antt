@@ -1,4 +1,4 @@
--- What is told of an attempt.
+-- What an attempt tells.
 use Rattle.std.proofs.Common.{◌≡◌, ◌||◌, not, Bool, true, false, List, [], ◌∷◌, ap, refl}
 use Rattle.ps_model.specs.rules.SourceRules.{Commands}
 use Rattle.ps_model.specs.board.Attempts.{Result, State}

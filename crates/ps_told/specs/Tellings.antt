@@ -45,8 +45,8 @@ abbrev pub rules_in_all : List CompiledSection → ℕ
 rules_in_all [] = 0
 rules_in_all (section ∷ others) = rules_in section + rules_in_all others
 
--- where the fixed parts of two are one, so are the layers that objects own, the sides of the boards, and for how many
--- rows there is scratch memory
+-- where the fixed parts of two are one, so is each part: the layers that objects own, the sides of the boards, and the
+-- number of rows with scratch memory
 pub same_layers : {a b : FixedInTelling} → a ≡ b → a.board.own_layers ≡ b.board.own_layers
 same_layers e = ap (λ (f : FixedInTelling). f.board.own_layers) e
 

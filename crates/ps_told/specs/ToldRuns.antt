@@ -1,6 +1,6 @@
--- What is told of a run of rules: each attempt that changed a cell or the queue, with the line and the direction of its
--- rule, the pass of its loop, the round of its group, the slots that it changed, and the commands before it and after
--- it. So does it tell where a group or a loop stops at its limit. What rules do is `attempt`, `round`, `settled`,
+-- What a run of rules tells: each attempt that changed a cell or the queue. With it stand the line and the direction of
+-- its rule, the pass of its loop and the round of its group. So do the slots that it changed, and the commands before it
+-- and after it. It also tells where a group or a loop stops at its limit. What rules do is `attempt`, `round`, `settled`,
 -- `group`, `pass`, `looped` and `sections_run`: each word here goes beside one of those.
 use Rattle.std.specs.Prelude.{ℕ, zero, suc, ◌+◌, Bool, true, false, ◌||◌, not, List, [], ◌∷◌, ◌++◌, drop, length, map}
 use Rattle.ps_model.specs.declared.limits.TheConstants.{ROUND_LIMIT, REPEAT_LIMIT}
@@ -29,7 +29,7 @@ queue_of commands = record {
 
 -- attempts ------------------------------------------------------------------------------------------------------------
 
--- what is told of an attempt between these states
+-- what an attempt tells between these states
 abbrev pub told_between : RuleOrigin → Moment → State → State → Told
 told_between origin moment before after = record {
   origin = origin;
@@ -47,13 +47,13 @@ told_result origin moment before result =
       | false ↦ []
     ]
 
--- what is told of an attempt of a rule
+-- what an attempt of a rule tells
 abbrev pub told_attempt : RuleOrigin → Moment → RuleMeaning → State → List Event
 told_attempt origin moment rule state = told_result origin moment state (attempt rule state)
 
 -- groups --------------------------------------------------------------------------------------------------------------
 
--- what is told of a round of rules, whose origins stand in a list of as many or more
+-- what a round of rules tells, whose origins stand in a list of as many or more
 abbrev pub told_round : Moment → List RuleMeaning → List RuleOrigin → State → List Event
 told_round moment [] origins state = []
 told_round moment (rule ∷ rules) [] state = []
@@ -65,7 +65,7 @@ told_round moment (rule ∷ rules) (origin ∷ origins) state =
 abbrev pub moment_of : ℕ → ℕ → Moment
 moment_of pass number = record { pass = pass; round = number }
 
--- what is told of rounds, of which this one is next, up to a limit, until one changes nothing
+-- what rounds tell, of which this one is next, up to a limit, until one changes nothing
 abbrev pub told_settled : ℕ → List RuleMeaning → List RuleOrigin → ℕ → ℕ → State → List Event
 told_settled pass rules origins zero number state = GroupStops ∷ []
 told_settled pass rules origins (suc rounds) number state =
@@ -75,20 +75,20 @@ told_settled pass rules origins (suc rounds) number state =
       | false ↦ []
     ]
 
--- what is told of a group
+-- what a group tells
 unfoldable pub told_group : ℕ → List RuleMeaning → List RuleOrigin → State → List Event
 told_group pass rules origins state = told_settled pass rules origins ROUND_LIMIT 1 state
 
 -- loops ---------------------------------------------------------------------------------------------------------------
 
--- what is told of a pass of a loop's body
+-- what a pass of a loop's body tells
 abbrev pub told_pass : ℕ → List (List RuleMeaning) → List RuleOrigin → State → List Event
 told_pass number [] origins state = []
 told_pass number (rules ∷ others) origins state =
     let first : Result = group rules state in
     told_group number rules origins state ++ told_pass number others (drop (length rules) origins) first.state
 
--- what is told of a loop, of which this pass is next, with a number of repeats left
+-- what a loop tells, of which this pass is next, with a number of repeats left
 abbrev pub told_looped : List (List RuleMeaning) → List RuleOrigin → ℕ → ℕ → State → List Event
 told_looped body origins zero number state =
     let next : Result = pass body state in
@@ -112,12 +112,12 @@ abbrev pub rule_count : Section → ℕ
 rule_count (Group rules) = length rules
 rule_count (Loop body) = count_in body
 
--- what is told of a section with a number of repeats left
+-- what a section with a number of repeats left tells
 abbrev pub told_section : Section → List RuleOrigin → ℕ → State → List Event
 told_section (Group rules) origins repeats state = told_group 0 rules origins state
 told_section (Loop body) origins repeats state = told_looped body origins repeats 1 state
 
--- what is told of the sections of a program, one after the other
+-- what the sections of a program tell, one after the other
 abbrev pub told_sections : List Section → List RuleOrigin → ℕ → State → List Event
 told_sections [] origins repeats state = []
 told_sections (section ∷ others) origins repeats state =
@@ -127,6 +127,6 @@ told_sections (section ∷ others) origins repeats state =
       | false ↦ told_sections others (drop (rule_count section) origins) next.repeats next.state
     ]
 
--- what is told of a run of a program
+-- what a run of a program tells
 unfoldable pub told_program : List Section → List RuleOrigin → State → List Event
 told_program sections origins state = told_sections sections origins REPEAT_LIMIT state

@@ -1,4 +1,4 @@
--- What is told of a run is so.
+-- What a run is so tells.
 use Rattle.std.specs.Prelude.{◌≡◌, ℕ, Option, List}
 use Rattle.ps_model.specs.board.Attempts.{State}
 use Rattle.ps_model.specs.board.Programs.{program_run}

@@ -126,7 +126,7 @@ impl<'p, 'r, B: Scan> TracedRules<'p, 'r, B> {
         telling.program(self.sections, self.origins)
     }
 
-    /// Runs the sections on a board, and answers what is told of that.
+    /// Runs the sections on a board, and answers what that tells.
     ///
     /// # Errors
     ///

@@ -1,4 +1,4 @@
-//! What is told of a run of rules.
+//! What a run of rules tells.
 
 use ps_origins::RuleOrigin;
 use ps_model::{Extent, Slot};
@@ -38,7 +38,7 @@ pub struct Told {
     pub after: Queue,
 }
 
-/// Something that is told of a run.
+/// Something that a run tells.
 #[derive(Drop)]
 pub enum Event {
     /// An attempt that changed something or entered a command.
@@ -49,7 +49,7 @@ pub enum Event {
     LoopsStop,
 }
 
-/// What is told of a run of one part of a turn, with the boards that it began and ended on.
+/// What a run of one part of a turn tells, with the boards that it began and ended on.
 pub struct ToldRun<B> {
     /// How far the run had to go. It is told as a whole all the same.
     pub extent: Extent,
@@ -61,7 +61,7 @@ pub struct ToldRun<B> {
     pub queued: Queue,
     /// Those that were queued after it.
     pub queue: Queue,
-    /// What is told of it, in order.
+    /// What it tells, in order.
     pub events: Vec<Event>,
 }
 

@@ -1,6 +1,6 @@
--- Runs that begin at a level or at the start, and runs whose keys are told of before they are played. Each of these is
--- right as a run is that isn't told of. What it reads comes by a reader above the one that is lent, which has the same
--- bytes to give before the run, and the same left after it.
+-- Runs that begin at a level or at the start, and traced runs: a tracer tells of each key before it is played. A traced
+-- run is right as any run is. It reads by a reader above the one that is lent. That has the same bytes to give before
+-- the run, and the same left after it.
 use Rattle.std.specs.Prelude.{◌≡◌, ℕ, Option, Some, None, List}
 use Rattle.ps_model.specs.game.Tellings.{ReaderState, WriterState}
 use Rattle.ps_model.specs.game.Headline.{RunsRightly}
@@ -13,7 +13,7 @@ RunsFrom text None before after first last (LacksLevel levels) = ⊥
 RunsFrom text (Some level) before after first last answer =
     RunsRightlyFromLevel text level before after first last answer
 
--- a run that is told of is right
+-- a traced run is right
 pub record RunsTraced (text : List ℕ) (level : Option ℕ) (reader_before reader_after : ReaderState)
     (writer_before writer_after : WriterState) (answer : LevelAnswer) : Type 0 where
   pub first : ReaderState
