@@ -167,6 +167,7 @@ fn changes_nothing<W: ColumnWords>(change: RowChange<Columns<W>>) -> bool
 
 /// Changes the row of each of these planes, and answers whether one has other columns then, or something had `changed`
 /// before. No plane is read for a change that clears and sets nothing.
+#[inline(always)]
 pub fn change_rows<W: ColumnWords>(
     planes: &mut Planes<W>,
     row: u32,

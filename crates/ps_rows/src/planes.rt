@@ -12,8 +12,11 @@ ghost use Rattle.ps_rows.specs.PlaneCopies.{AreCopied, AreMarksTaken, ArePlanesO
 ghost use Rattle.ps_rows.specs.RowIndex.{AreRowsMarked};
 ghost use Rattle.ps_rows.specs.RowTests.{five_rows};
 ghost use Rattle.ps_rows.specs.Sameness.{DifferOnlyOnRows};
+ghost use Rattle.ps_rows.specs.UsedPlanes.{AreAmongUsed, AreUsesNoted, sets_for};
+ghost use Rattle.ps_rows.specs.declared.used_planes.TheConstants.{MANY_PLANES};
 ghost use Rattle.ps_rows.specs.Showing.{cleared_from, motion_planes};
 
+use crate::used_planes::{UsedPlanes, are_many};
 use ps_board::{ColumnWords, Columns, WORD_BITS};
 use ps_model::Memory;
 use std::alloc::Global;
@@ -33,12 +36,16 @@ pub struct Planes<W: ColumnWords> {
     pub height: u32,
     pub words: Vec<Columns<W>>,
     index: Vec<Columns<W>>,
+    /// Where there are many, each plane with a row that is marked; there may be more of them.
+    pub(crate) used: UsedPlanes,
     ghost some_row: { 0 < height },
     ghost rows: { height ≤ SIDE_LIMIT },
     ghost low: { height ≤ W.limit },
     ghost whole: { vec_len words ≡ vec_len index * height },
     ghost sets: { AreSets words.items },
     ghost marked: { AreRowsMarked (vec_len index) height words.items index.items },
+    ghost noted: { MANY_PLANES ≤ vec_len index → AreUsesNoted (vec_len index) index.items used.words.items },
+    ghost room: { vec_len used.words ≡ sets_for (vec_len index) },
 }
 
 /// The columns of a row that a plane has.
@@ -175,10 +182,12 @@ impl<W: ColumnWords> Planes<W> {
     {
         let words = Vec::from_elem(alloc, Columns::none(), count as usize * height as usize)?;
         let index = Vec::from_elem(alloc, Columns::none(), count as usize)?;
+        let used = UsedPlanes::try_new(alloc, count)?;
         Ok(Planes {
             height,
             words,
             index,
+            used,
         })
     }
 
@@ -189,10 +198,12 @@ impl<W: ColumnWords> Planes<W> {
     {
         let words = Vec::from_slice(alloc, &self.words)?;
         let index = Vec::from_slice(alloc, &self.index)?;
+        let used = self.used.try_copy(alloc)?;
         Ok(Planes {
             height: self.height,
             words,
             index,
+            used,
         })
     }
 
@@ -305,7 +316,9 @@ impl<W: ColumnWords> Planes<W> {
     {
         let place = plane as usize;
         self.words[place * self.height as usize + row as usize] = word;
+        let others = self.index[place].with(row, false);
         self.index[place] = self.index[place].with(row, !word.is_empty());
+        self.used.note_first(plane, others);
     }
 
     /// Whether a plane has a cell.
@@ -464,16 +477,31 @@ impl<W: ColumnWords> Planes<W> {
         self.clear_from(first);
     }
 
-    /// Makes planes of others, from the first one up to the end, the same.
-    fn copy_planes(&self, other: &mut Planes<W>, first: usize, end: usize)
+    /// Notes all planes that others have noted, as many of the same height.
+    fn note_all(&mut self, other: &Planes<W>)
+        requires height { other.now.height ≡ self.old.height }
+        requires count { vec_len other.now.words ≡ vec_len self.old.words }
+        ensures uses { AreAmongUsed other.now.used.words.items self.new.used.words.items }
+        ensures words { self.new.words.items ≡ self.old.words.items }
+        ensures count { vec_len self.new.words ≡ vec_len self.old.words }
+        ensures height { self.new.height ≡ self.old.height }
+    {
+        self.used.join(&other.used);
+    }
+
+    /// Makes planes of others, from the first one up to the end, the same, where they have noted all that are noted here.
+    pub(crate) fn copy_planes(&self, other: &mut Planes<W>, first: usize, end: usize)
         requires order { first ≤ end }
         requires height { other.old.height ≡ self.now.height }
         requires here { end * self.now.height ≤ vec_len self.now.words }
         requires there { end * self.now.height ≤ vec_len other.old.words }
+        requires count { vec_len other.old.words ≡ vec_len self.now.words }
+        requires uses { AreAmongUsed self.now.used.words.items other.old.used.words.items }
         ensures words { let p = self.now in
             ArePlanesOf p.height first end p.words.items other.old.words.items other.new.words.items }
         ensures height { other.new.height ≡ self.now.height }
         ensures count { vec_len other.new.words ≡ vec_len other.old.words }
+        ensures uses { other.new.used.words.items ≡ other.old.used.words.items }
     {
         if first == end {
             return;
@@ -491,6 +519,7 @@ impl<W: ColumnWords> Planes<W> {
         requires height { other.old.height ≡ self.now.height }
         requires here { planes * self.now.height ≤ vec_len self.now.words }
         requires count { vec_len other.old.words ≡ vec_len self.now.words }
+        requires uses { AreAmongUsed self.now.used.words.items other.old.used.words.items }
         ensures words { let p = self.now in
             ArePlanesOf p.height 0 planes p.words.items other.old.words.items other.new.words.items }
         ensures height { other.new.height ≡ self.now.height }
@@ -510,17 +539,23 @@ impl<W: ColumnWords> Planes<W> {
     }
 
     /// Makes other planes, as many of the same height, the same, of which so many, the first ones, aren't known to be
-    /// so. Where they are few, all of them are copied in one go, up to the last with a column on either side.
-    pub fn copy_into(&self, other: &mut Planes<W>, planes: usize)
+    /// so, and which have noted all that are noted here. Where they are few, all of them are copied in one go, up to the
+    /// last with a column on either side. Of very many those are copied that have a column on either side.
+    fn copy_noted(&self, other: &mut Planes<W>, planes: u32)
         requires height { other.old.height ≡ self.now.height }
         requires count { vec_len other.old.words ≡ vec_len self.now.words }
         requires within { planes * self.now.height ≤ vec_len self.now.words }
         requires rest { AreSameFrom (planes * self.now.height) self.now.words.items other.old.words.items }
+        requires uses { AreAmongUsed self.now.used.words.items other.old.used.words.items }
         ensures words { other.new.words.items ≡ self.now.words.items }
         ensures height { other.new.height ≡ self.now.height }
         ensures count { vec_len other.new.words ≡ vec_len self.now.words }
     {
-        let marked = self.planes_marked(other, planes);
+        if are_many(planes) {
+            self.copy_marked(other, planes);
+            return;
+        }
+        let marked = self.planes_marked(other, planes) as usize;
         let most = (most_sets::<W>() / self.height) as usize;
         if marked <= most {
             self.copy_planes(other, 0, marked);
@@ -529,11 +564,27 @@ impl<W: ColumnWords> Planes<W> {
         self.copy_pieces(other, marked, most);
     }
 
+    /// Makes other planes, as many of the same height, the same, of which so many, the first ones, aren't known to be
+    /// so.
+    pub fn copy_into(&self, other: &mut Planes<W>, planes: u32)
+        requires height { other.old.height ≡ self.now.height }
+        requires count { vec_len other.old.words ≡ vec_len self.now.words }
+        requires within { planes * self.now.height ≤ vec_len self.now.words }
+        requires rest { AreSameFrom (planes * self.now.height) self.now.words.items other.old.words.items }
+        ensures words { other.new.words.items ≡ self.now.words.items }
+        ensures height { other.new.height ≡ self.now.height }
+        ensures count { vec_len other.new.words ≡ vec_len self.now.words }
+    {
+        other.note_all(self);
+        self.copy_noted(other, planes);
+    }
+
     /// Makes rows of so many planes of others the same, the first ones, those in a set.
     pub fn copy_rows(&self, other: &mut Planes<W>, planes: u32, rows: Columns<W>)
         requires height { other.old.height ≡ self.now.height }
         requires here { planes * self.now.height ≤ vec_len self.now.words }
         requires there { planes * self.now.height ≤ vec_len other.old.words }
+        requires count { vec_len other.old.words ≡ vec_len self.now.words }
         ensures words { let p = self.now in
             AreRowsOf p.height 0 planes rows p.words.items other.old.words.items other.new.words.items }
         ensures height { other.new.height ≡ self.now.height }
@@ -544,6 +595,7 @@ impl<W: ColumnWords> Planes<W> {
         copy_row_sets(self.words.as_slice(), words, self.height, planes, within);
         let index = other.index.as_mut_slice();
         take_marks(self.index.as_slice(), index, planes, within);
+        other.used.join(&self.used);
     }
 
     /// Whether a plane has the same rows on others, of the same height. All of them are looked at in one go, without a
@@ -604,8 +656,8 @@ impl<W: ColumnWords> Planes<W> {
     }
 
     /// How many of so many planes, the first ones, there are up to the last that has a marked row, here or on others of
-    /// the same height.
-    pub fn planes_marked(&self, other: &Planes<W>, planes: usize) -> usize
+    /// the same height. Very many aren't gone through.
+    pub fn planes_marked(&self, other: &Planes<W>, planes: u32) -> u32
         requires height { other.now.height ≡ self.now.height }
         requires here { planes * self.now.height ≤ vec_len self.now.words }
         requires there { planes * self.now.height ≤ vec_len other.now.words }
@@ -613,8 +665,11 @@ impl<W: ColumnWords> Planes<W> {
         ensures same { (plane : ℕ) → result ≤ plane → plane < planes →
             DifferOnlyOnRows self.now.height plane self.now.words.items other.now.words.items no_columns }
     {
+        if are_many(planes) {
+            return planes;
+        }
         let mut count = planes;
-        while 0 < count && self.is_unmarked_plane(other, count - 1) {
+        while 0 < count && self.is_unmarked_plane(other, count as usize - 1) {
             count -= 1;
         }
         count
