@@ -81,25 +81,16 @@ uses_marked count plane mark index used used' inside here kept noted each row be
           ∙ noted each row below low (kept each off)
     ]
 
--- a plane without marked rows has none in the others either
-others_empty : (mark : List Bool) (row : ℕ) → ((y : ℕ) → y < SIDE_LIMIT → column_at mark y ≡ false) →
-    set_columns (with_column mark row false) ≡ []
-others_empty mark row none = empty_of (with_column mark row false) (λ y low. elim (cases_eq y row) [
-  | inl e ↦
-      ap (column_at (with_column mark row false)) e ∙ with_here mark row false (subst (λ (n : ℕ). n < SIDE_LIMIT) e low)
-  | inr n ↦ with_other mark row y false low n ∙ none y low
-])
-
--- one row of a plane, which is noted unless other rows of it are marked
-pub uses_row : (count plane row : ℕ) (mark others : List Bool) (index used used' : List (List Bool)) →
-    plane < length index → plane < count → others ≡ with_column (row_of index plane) row false →
-    (set_columns others ≡ [] → is_used used' plane ≡ true) → AreAmongUsed used used' →
+-- a row of a plane that is noted where none of its rows had been marked; else it was noted already
+pub uses_row : (count plane : ℕ) (mark before : List Bool) (index used used' : List (List Bool)) →
+    plane < length index → plane < count → before ≡ row_of index plane →
+    (set_columns before ≡ [] → is_used used' plane ≡ true) → AreAmongUsed used used' →
     AreUsesNoted count index used → AreUsesNoted count (slice_set index plane mark) used'
-uses_row count plane row mark others index used used' inside below is tells kept noted =
+uses_row count plane mark before index used used' inside below is tells kept noted =
     uses_marked count plane mark index used used' inside
     (λ off y low.
     absurd (false≢true (sym off ∙ tells (ap set_columns is
-    ∙ others_empty (row_of index plane) row (λ x few. noted plane x below few (kept plane off))))))
+    ∙ empty_of (row_of index plane) (λ x few. noted plane x below few (kept plane off))))))
     kept noted
 
 -- planes that are copied

@@ -316,9 +316,9 @@ impl<W: ColumnWords> Planes<W> {
     {
         let place = plane as usize;
         self.words[place * self.height as usize + row as usize] = word;
-        let others = self.index[place].with(row, false);
-        self.index[place] = self.index[place].with(row, !word.is_empty());
-        self.used.note_first(plane, others);
+        let before = self.index[place];
+        self.index[place] = before.with(row, !word.is_empty());
+        self.used.note_first(plane, before);
     }
 
     /// Whether a plane has a cell.

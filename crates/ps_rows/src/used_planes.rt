@@ -99,15 +99,15 @@ impl UsedPlanes {
         }
     }
 
-    /// Notes a plane of which a row is marked, unless other rows of it are: then it is noted.
+    /// Notes a plane, unless it has these marked rows: then it is noted.
     #[inline(always)]
-    pub fn note_first<W: ColumnWords>(&mut self, plane: u32, others: Columns<W>)
-        ensures noted { plane / WORD_BITS < vec_len self.old.words → set_columns others ≡ [] →
+    pub fn note_first<W: ColumnWords>(&mut self, plane: u32, marked: Columns<W>)
+        ensures noted { plane / WORD_BITS < vec_len self.old.words → set_columns marked ≡ [] →
             is_used self.new.words.items plane ≡ true }
         ensures kept { AreAmongUsed self.old.words.items self.new.words.items }
         ensures long { vec_len self.new.words ≡ vec_len self.old.words }
     {
-        if !others.is_empty() {
+        if !marked.is_empty() {
             return;
         }
         self.note(plane);

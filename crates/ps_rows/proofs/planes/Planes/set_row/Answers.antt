@@ -19,7 +19,7 @@ invariant_of-self-clause-marked g c =
     omega (arith, c.requires.plane, c.requires.row, p.words.ok.0) in
     let mark : c.with.result ≡ with_column (row_of p.index.items plane) c.args.row (not c.is_empty.result) =
     c.with.ensures ∙ ap (λ (w : List Bool). with_column w c.args.row (not c.is_empty.result))
-    (get_or_read p.index.items _ _ own c.index-2.ensures no_columns) in
+    (get_or_read p.index.items _ _ own c.index-before.ensures no_columns) in
     let P : List Bool → Type 0 =
     λ made. AreRowsMarked p.index.len p.height (slice_set p.words.items (plane * p.height + c.args.row) c.args.word)
     (slice_set p.index.items plane made) in
@@ -41,11 +41,8 @@ invariant_of-self-clause-noted g c = λ many.
     let counted : plane < p.index.len = plane_indexed p.index.len p.height plane p.words.len p.some_row p.whole
     c.requires.plane in
     let own : plane < length p.index.items = omega (arith, counted, p.index.ok.0) in
-    let others : c.with-others.result ≡ with_column (row_of p.index.items plane) c.args.row false =
-    c.with-others.ensures ∙ ap (λ (w : List Bool). with_column w c.args.row false)
-    (get_or_read p.index.items _ _ own c.index.ensures no_columns) in
-    uses_row p.index.len plane c.args.row c.with.result c.with-others.result p.index.items p.used.words.items
-    c.note_first.new.self.words.items own counted others
+    uses_row p.index.len plane c.with.result c.index-before.result.now p.index.items p.used.words.items
+    c.note_first.new.self.words.items own counted (get_or_read p.index.items _ _ own c.index-before.ensures no_columns)
     (c.note_first.ensures.noted (place_below plane p.index.len p.used.words.len many counted p.room))
     c.note_first.ensures.kept (p.noted many)
 
