@@ -81,17 +81,40 @@ uses_marked count plane mark index used used' inside here kept noted each row be
           ∙ noted each row below low (kept each off)
     ]
 
--- a row of a plane that is noted where none of its rows had been marked; else it was noted already
-pub uses_row : (count plane : ℕ) (mark before : List Bool) (index used used' : List (List Bool)) →
-    plane < length index → plane < count → before ≡ row_of index plane →
-    (set_columns before ≡ [] → is_used used' plane ≡ true) → AreAmongUsed used used' →
-    AreUsesNoted count index used → AreUsesNoted count (slice_set index plane mark) used'
-uses_row count plane mark before index used used' inside below is tells kept noted =
-    uses_marked count plane mark index used used' inside
-    (λ off y low.
-    absurd (false≢true (sym off ∙ tells (ap set_columns is
-    ∙ empty_of (row_of index plane) (λ x few. noted plane x below few (kept plane off))))))
-    kept noted
+-- a plane that isn't noted has no marked row, and is to be noted for its first one
+pub noted_first : (count plane : ℕ) (before : List Bool) (index used used' : List (List Bool)) → plane < count →
+    before ≡ row_of index plane → (set_columns before ≡ [] → is_used used' plane ≡ true) → AreAmongUsed used used' →
+    AreUsesNoted count index used → is_used used' plane ≡ true
+noted_first count plane before index used used' below is tells kept noted = elim (cases_Bool (is_used used' plane)) [
+  | inl on ↦ on
+  | inr off ↦
+      tells (ap set_columns is ∙ empty_of (row_of index plane) (λ y low. noted plane y below low (kept plane off)))
+]
+
+-- a row of a plane that is noted, or of one that has no columns in it
+pub uses_row : (count plane row : ℕ) (mark : List Bool) (empty : Bool) (index used : List (List Bool)) →
+    plane < length index → plane < count → row < SIDE_LIMIT →
+    mark ≡ with_column (row_of index plane) row (not empty) → (is_used used plane ≡ false → empty ≡ true) →
+    AreUsesNoted count index used → AreUsesNoted count (slice_set index plane mark) used
+uses_row count plane row mark empty index used inside below low is blank noted =
+    uses_marked count plane mark index used used inside
+    (λ off y few. ap (λ (w : List Bool). column_at w y) is ∙ elim (cases_eq y row) [
+      | inl e ↦
+          ap (column_at (with_column (row_of index plane) row (not empty))) e
+          ∙ with_here (row_of index plane) row (not empty) low ∙ ap not (blank off)
+      | inr n ↦ with_other (row_of index plane) row y (not empty) few n ∙ noted plane y below few off
+    ])
+    (λ each off. off) noted
+
+-- a set has no more columns with one taken away
+pub less_one : (word : List Bool) (column x : ℕ) → x < SIDE_LIMIT → column_at word x ≡ false →
+    column_at (with_column word column false) x ≡ false
+less_one word column x low off = elim (cases_eq x column) [
+  | inl e ↦
+      ap (column_at (with_column word column false)) e
+      ∙ with_here word column false (subst (λ (n : ℕ). n < SIDE_LIMIT) e low)
+  | inr n ↦ with_other word column x false low n ∙ off
+]
 
 -- planes that are copied
 pub uses_copied : (count first end : ℕ) (source before after mine theirs : List (List Bool)) →

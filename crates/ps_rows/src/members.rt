@@ -3,7 +3,7 @@
 ghost use Rattle.std.specs.Prelude.{◌≡◌, ◌++◌, ◌+◌, ◌<◌, ◌≤◌, ◌∷◌, [], IfOk, IfSome, OnOk, Some, cond, length, map, slice_get, true};
 ghost use Rattle.std.specs.Prelude.{slice_range, vec_len};
 ghost use Rattle.ps_model.specs.board.Movement.{is_number};
-ghost use Rattle.ps_rows.specs.Members.{AreRangesOf, on_layer};
+ghost use Rattle.ps_rows.specs.Members.{AreRangesOf, on_layer, short_range};
 ghost use Rattle.ps_rows.specs.declared.members.TheConstants.{TABLE_LIMIT};
 
 use ps_model::{LayerId, Memory};
@@ -28,8 +28,11 @@ pub struct Members {
     pub table: Vec<u32>,
     pub numbers: Vec<u32>,
     pub ranges: Vec<MemberRange>,
+    /// The same, but for an empty one in place of each range of several objects.
+    short: Vec<MemberRange>,
     ghost few: { vec_len table ≤ TABLE_LIMIT },
     ghost each: { AreRangesOf table.items numbers.items ranges.items },
+    ghost shorter: { short.items ≡ map short_range ranges.items },
 }
 
 /// Adds an object, if it is wanted.
@@ -76,6 +79,27 @@ fn push_layer(
     Ok(())
 }
 
+/// A range, or an empty one in place of one of several objects.
+fn shortened(range: MemberRange) -> MemberRange
+    ensures { result ≡ short_range range }
+{
+    if range.end.saturating_sub(range.start) < SEVERAL_MEMBERS {
+        return range;
+    }
+    MemberRange {
+        start: range.start,
+        end: range.start,
+    }
+}
+
+/// Ranges, with an empty one in place of each of several objects.
+fn all_shortened(alloc: Global, ranges: &[MemberRange]) -> Result<Vec<MemberRange>, Memory>
+    ensures { IfOk result (λ short. short.items ≡ map short_range ranges.now) }
+{
+    let short: Vec<MemberRange> = ranges.iter().map(|range| shortened(*range)).collect(alloc)?;
+    Ok(short)
+}
+
 /// The numbers of a range of a list.
 fn numbers_in(numbers: &[u32], range: MemberRange) -> &[u32]
     requires order { range.start ≤ range.end }
@@ -101,10 +125,12 @@ impl Members {
         for layer in 0..layers {
             push_layer(&mut numbers, &mut ranges, &table, layer)?;
         }
+        let short = all_shortened(alloc, &ranges)?;
         Ok(Members {
             table,
             numbers,
             ranges,
+            short,
         })
     }
 
@@ -116,10 +142,12 @@ impl Members {
         let table = Vec::from_slice(alloc, &self.table)?;
         let numbers = Vec::from_slice(alloc, &self.numbers)?;
         let ranges = Vec::from_slice(alloc, &self.ranges)?;
+        let short = Vec::from_slice(alloc, &self.short)?;
         Ok(Members {
             table,
             numbers,
             ranges,
+            short,
         })
     }
 
@@ -174,6 +202,17 @@ impl Members {
             slice_range m.numbers.items result.start result.end ≡ on_layer m.table.items layer }
     {
         self.ranges[layer as usize]
+    }
+
+    /// The range of a layer's objects; an empty one, where they are several.
+    pub fn short_range_of(&self, layer: u32) -> MemberRange
+        requires { layer < vec_len self.now.ranges }
+        ensures order { result.start ≤ result.end }
+        ensures within { result.end ≤ length self.now.numbers.items }
+        ensures objects { let m = self.now in result.start < result.end →
+            slice_range m.numbers.items result.start result.end ≡ on_layer m.table.items layer }
+    {
+        self.short[layer as usize]
     }
 
     /// The objects of a range.

@@ -12,7 +12,7 @@ ghost use Rattle.ps_rows.specs.PlaneCopies.{AreCopied, AreMarksTaken, ArePlanesO
 ghost use Rattle.ps_rows.specs.RowIndex.{AreRowsMarked};
 ghost use Rattle.ps_rows.specs.RowTests.{five_rows};
 ghost use Rattle.ps_rows.specs.Sameness.{DifferOnlyOnRows};
-ghost use Rattle.ps_rows.specs.UsedPlanes.{AreAmongUsed, AreUsesNoted, sets_for};
+ghost use Rattle.ps_rows.specs.UsedPlanes.{AreAmongUsed, AreUsesNoted, is_used, sets_for};
 ghost use Rattle.ps_rows.specs.declared.used_planes.TheConstants.{MANY_PLANES};
 ghost use Rattle.ps_rows.specs.Showing.{cleared_from, motion_planes};
 
@@ -305,6 +305,23 @@ impl<W: ColumnWords> Planes<W> {
             .either(five[4])
     }
 
+    /// Gives a row of a plane these columns; one of a plane that isn't noted gets none.
+    #[inline(always)]
+    fn write_row(&mut self, plane: u32, row: u32, word: Columns<W>)
+        requires row { row < self.old.height }
+        requires plane { (plane + 1) * self.old.height ≤ vec_len self.old.words }
+        requires set { IsSet word }
+        requires noted { let p = self.old in
+            MANY_PLANES ≤ vec_len p.index → is_used p.used.words.items plane ≡ false → set_columns word ≡ [] }
+        ensures words { self.new.words.items ≡ slice_set self.old.words.items (plane * self.old.height + row) word }
+        ensures height { self.new.height ≡ self.old.height }
+        ensures count { vec_len self.new.words ≡ vec_len self.old.words }
+    {
+        let place = plane as usize;
+        self.words[place * self.height as usize + row as usize] = word;
+        self.index[place] = self.index[place].with(row, !word.is_empty());
+    }
+
     /// Gives a row of a plane these columns.
     pub fn set_row(&mut self, plane: u32, row: u32, word: Columns<W>)
         requires row { row < self.old.height }
@@ -314,11 +331,24 @@ impl<W: ColumnWords> Planes<W> {
         ensures height { self.new.height ≡ self.old.height }
         ensures count { vec_len self.new.words ≡ vec_len self.old.words }
     {
-        let place = plane as usize;
-        self.words[place * self.height as usize + row as usize] = word;
-        let before = self.index[place];
-        self.index[place] = before.with(row, !word.is_empty());
+        let before = self.index[plane as usize];
         self.used.note_first(plane, before);
+        self.write_row(plane, row, word);
+    }
+
+    /// Leaves these columns in a row of a plane, and takes the others away. The plane needn't be noted for it.
+    #[inline(always)]
+    pub fn leave_in_row(&mut self, plane: u32, row: u32, word: Columns<W>)
+        requires row { row < self.old.height }
+        requires plane { (plane + 1) * self.old.height ≤ vec_len self.old.words }
+        requires set { IsSet word }
+        requires within { let p = self.old in let before = row_of p.words.items (plane * p.height + row) in
+            (x : ℕ) → x < SIDE_LIMIT → column_at before x ≡ false → column_at word x ≡ false }
+        ensures words { self.new.words.items ≡ slice_set self.old.words.items (plane * self.old.height + row) word }
+        ensures height { self.new.height ≡ self.old.height }
+        ensures count { vec_len self.new.words ≡ vec_len self.old.words }
+    {
+        self.write_row(plane, row, word);
     }
 
     /// Whether a plane has a cell.
@@ -350,11 +380,16 @@ impl<W: ColumnWords> Planes<W> {
         ensures height { self.new.height ≡ self.old.height }
         ensures count { vec_len self.new.words ≡ vec_len self.old.words }
     {
-        if !on && !self.rows_of(plane).has(row) {
+        if on {
+            let word = self.row(plane, row).with(column, true);
+            self.set_row(plane, row, word);
             return;
         }
-        let word = self.row(plane, row).with(column, on);
-        self.set_row(plane, row, word);
+        if !self.rows_of(plane).has(row) {
+            return;
+        }
+        let word = self.row(plane, row).with(column, false);
+        self.leave_in_row(plane, row, word);
     }
 
     /// Puts a cell into a plane.

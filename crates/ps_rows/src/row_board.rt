@@ -22,7 +22,7 @@ ghost use Rattle.ps_rows.specs.SlotsWritten.{AreSlotsLeft, AreSlotsWritten, in_c
 ghost use Rattle.ps_rows.specs.SlotsWritten.{slot_by, stands_on};
 
 use crate::changes::change_layer;
-use crate::members::{MemberRange, Members, SEVERAL_MEMBERS};
+use crate::members::{MemberRange, Members};
 use crate::motions::{choose_motion, first_motion};
 use crate::planes::Planes;
 use crate::row_differences::{RowDifference, change_rows, differences, reach};
@@ -274,9 +274,9 @@ impl<W: ColumnWords> RowBoard<W> {
             (slice_range b.members.numbers.items result.start result.end)
             ≡ object_shown b.members.table.items p.height p.words.items cell layer }
     {
-        let range = self.members.range_of(layer);
-        if range.end - range.start < SEVERAL_MEMBERS {
-            return range;
+        let short = self.members.short_range_of(layer);
+        if short.start != short.end {
+            return short;
         }
         self.sought_range(cell, layer)
     }

@@ -87,7 +87,7 @@ impl UsedPlanes {
     }
 
     /// Notes a plane, if there is a set for it.
-    #[inline(always)]
+    #[inline(never)]
     fn note(&mut self, plane: u32)
         ensures noted { plane / WORD_BITS < vec_len self.old.words → is_used self.new.words.items plane ≡ true }
         ensures kept { AreAmongUsed self.old.words.items self.new.words.items }
