@@ -32,14 +32,14 @@ returns-then-not-has-clause-words g c =
 pub leave_in_row-requires-clause-set : goal.leave_in_row-requires-clause-set
 leave_in_row-requires-clause-set g c =
     let P : List Bool → Type 0 = λ set. IsSet set in
-    subst P (sym c.with-word.ensures) (set_where (λ x.
-    if nat_eq x c.args.column then false else column_at c.row.result x))
+    subst P (sym c.with-word-2.ensures) (set_where (λ x.
+    if nat_eq x c.args.column then false else column_at c.row-2.result x))
 
 pub leave_in_row-requires-clause-within : goal.leave_in_row-requires-clause-within
 leave_in_row-requires-clause-within g c = λ x low off.
-    ap (λ (w : List Bool). column_at w x) c.with-word.ensures
-    ∙ less_one c.row.result c.args.column x low (ap (λ (w : List Bool). column_at w x) c.row.ensures ∙ off)
+    ap (λ (w : List Bool). column_at w x) c.with-word-2.ensures
+    ∙ less_one c.row-2.result c.args.column x low (ap (λ (w : List Bool). column_at w x) c.row-2.ensures ∙ off)
 
 pub returns-clause-words : goal.returns-clause-words
 returns-clause-words g c =
-    rw (c.leave_in_row.ensures.words, c.with-word.ensures, c.row.ensures, c.if-on.false) refl
+    rw (c.leave_in_row.ensures.words, c.with-word-2.ensures, c.row-2.ensures, c.if-on.false) refl
