@@ -371,6 +371,7 @@ impl<W: ColumnWords> Planes<W> {
     }
 
     /// Puts the cell of a row and a column into a plane, or takes it away. A row that isn't marked has nothing to take.
+    #[inline(always)]
     fn set_cell(&mut self, row: u32, column: u32, plane: u32, on: bool)
         requires row { row < self.old.height }
         requires column { column < W.limit }
@@ -691,7 +692,7 @@ impl<W: ColumnWords> Planes<W> {
     }
 
     /// How many of so many planes, the first ones, there are up to the last that has a marked row, here or on others of
-    /// the same height. Very many aren't gone through.
+    /// the same height.
     pub fn planes_marked(&self, other: &Planes<W>, planes: u32) -> u32
         requires height { other.now.height ≡ self.now.height }
         requires here { planes * self.now.height ≤ vec_len self.now.words }
@@ -700,9 +701,6 @@ impl<W: ColumnWords> Planes<W> {
         ensures same { (plane : ℕ) → result ≤ plane → plane < planes →
             DifferOnlyOnRows self.now.height plane self.now.words.items other.now.words.items no_columns }
     {
-        if are_many(planes) {
-            return planes;
-        }
         let mut count = planes;
         while 0 < count && self.is_unmarked_plane(other, count as usize - 1) {
             count -= 1;

@@ -248,13 +248,45 @@ fn add_all<W: ColumnWords>(
         IfOk result (λ enough. enough ≡ true →
         LeadBothWays p.height (planes * p.height) p.words.items mixed found.new.items) }
 {
-    if are_many(planes) {
-        return add_marked(first, second, planes, rows, found);
-    }
     if rows.has_few() {
         return add_few(first, second, planes, rows, found);
     }
     add_many(first, second, planes, rows, found)
+}
+
+/// What `differences` answers of many planes: those that neither side has marked are passed over.
+///
+/// # Errors
+///
+/// `Memory`.
+#[inline(never)]
+fn differences_of_many<W: ColumnWords>(
+    alloc: Global,
+    first: &Planes<W>,
+    second: &Planes<W>,
+    planes: u32,
+    rows: Columns<W>,
+) -> Result<Option<Vec<RowDifference<Columns<W>>>>, Memory>
+    requires many { MANY_PLANES ≤ planes }
+    requires height { second.now.height ≡ first.now.height }
+    requires count { vec_len second.now.words ≡ vec_len first.now.words }
+    requires planes { planes * first.now.height ≤ vec_len first.now.words }
+    requires rest { AreSameFrom (planes * first.now.height) first.now.words.items second.now.words.items }
+    ensures forth { let p = first.now in
+        let mixed = mixed_planes p.height rows p.words.items second.now.words.items in
+        IfOk result (λ found. IfSome found (λ rows. rows_changed p.height p.words.items rows.items ≡ mixed)) }
+    ensures back { let p = first.now in
+        let mixed = mixed_planes p.height rows p.words.items second.now.words.items in
+        IfOk result (λ found. IfSome found (λ rows. rows_changed p.height mixed rows.items ≡ p.words.items)) }
+{
+    let mut found = Vec::new(alloc);
+    let all = Columns::below(first.height);
+    let within = rows.both(all);
+    let enough = add_marked(first, second, planes, within, &mut found)?;
+    if !enough {
+        return Ok(None);
+    }
+    Ok(Some(found))
 }
 
 /// The rows, of some, in which planes differ from others, as many of the same height, of which so many, the first ones,
@@ -282,6 +314,9 @@ pub fn differences<W: ColumnWords>(
         let mixed = mixed_planes p.height rows p.words.items second.now.words.items in
         IfOk result (λ found. IfSome found (λ rows. rows_changed p.height mixed rows.items ≡ p.words.items)) }
 {
+    if are_many(planes) {
+        return differences_of_many(alloc, first, second, planes, rows);
+    }
     let mut found = Vec::new(alloc);
     let marked = first.planes_marked(second, planes);
     let all = Columns::below(first.height);
