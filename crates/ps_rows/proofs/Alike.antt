@@ -253,3 +253,19 @@ board_other table width height layers first second layer told on fails tells =
           (cells_shown table layers height second (width * height)) h))))
       | inr h ↦ sym h
     ]
+
+-- boards of which it is told by all layers
+pub boards_other : (table : List ℕ) (width height layers : ℕ) (first second : List (List Bool)) (told : Bool) →
+    told ≡ false →
+    (((layer : ℕ) → layer < layers → IsSameLayer table width height first second layer) → told ≡ true) →
+    false ≡ shown_same table width height layers first second
+boards_other table width height layers first second told fails tells =
+    elim (cases_Bool (shown_same table width height layers first second)) [
+      | inl h ↦
+          absurd (false≢true
+          (sym fails
+          ∙ tells (λ layer on. layer_of_board table width height layers first second layer on
+          (same_cells-true (cells_shown table layers height first (width * height))
+          (cells_shown table layers height second (width * height)) h))))
+      | inr h ↦ sym h
+    ]

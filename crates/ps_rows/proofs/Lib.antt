@@ -19,6 +19,8 @@ pub mod Rows
 pub mod Alike
 pub mod RowSets
 pub mod Differences
+pub mod BlankPlanes
+pub mod UsedPlanes
 pub mod SameRows
 pub mod Absent
 pub mod Marked

@@ -1,18 +1,19 @@
 -- The lists of the objects of layers, and how they are made.
 use Rattle.std.proofs.Common.{◌≡◌, ℕ, ◌+◌, ◌-◌, ◌<◌, ◌≤◌, inl, inr, Bool, true, false, cond, Some, List, [], ◌∷◌, ◌++◌}
-use Rattle.std.proofs.Common.{length, get_or, take, drop, refl, sym, ap, subst, ◌∙◌, arith, filter, append_assoc}
-use Rattle.std.specs.Prelude.{nat_eq, slice_get, slice_range}
+use Rattle.std.proofs.Common.{length, get_or, map, take, drop, refl, sym, ap, subst, ◌∙◌, arith, filter, append_assoc}
+use Rattle.std.specs.Prelude.{if◌then◌else◌, nat_eq, nat_lt, slice_get, slice_range}
 use Rattle.std.specs.List.{list_any, range_with_len}
 use Rattle.std.proofs.lemmas.Bool.{cases_lt, false_from_ne_true}
-use Rattle.std.proofs.lemmas.List.{map-id, length-append, length-drop, get_or_append_left, get_or_push, drop-append-le}
+use Rattle.std.proofs.lemmas.List.{drop_more, get_or-map, map-id, length-append, length-drop, get_or_append_left, get_or_push, drop-append-le}
 use Rattle.std.proofs.lemmas.List.{take-append-le, drop_at, take_all}
 use Rattle.std.proofs.lemmas.List.Elements.{filter-append}
 use Rattle.std.proofs.lemmas.List.FromFn.{map-range_with_len_more}
-use Rattle.std.proofs.lemmas.Option.{slice_get_within, slice_get-get_or}
+use Rattle.std.proofs.lemmas.Option.{same_Some, slice_get_within, slice_get-get_or}
 use Rattle.ps_model.specs.board.Movement.{is_number}
 use Rattle.ps_laws.proofs.common.SameThings.{is_number-true, is_number-own}
 use Rattle.ps_rows.specs.declared.members.MemberRange.{MemberRange}
-use Rattle.ps_rows.specs.Members.{on_layer, on_layer_below, IsRangeOf, AreRangesOf}
+use Rattle.ps_rows.specs.declared.members.TheConstants.{SEVERAL_MEMBERS}
+use Rattle.ps_rows.specs.Members.{on_layer, on_layer_below, short_range, IsRangeOf, AreRangesOf}
 use Rattle.ps_rows.proofs.Listed.{listed_passes, listed_range}
 
 -- an object is listed with its layer, and with no other
@@ -133,6 +134,47 @@ range_at table numbers ranges n layer range each long below is =
     let P : MemberRange → Type 0 = λ s. IsRangeOf table numbers layer s in
     let inside : layer < length ranges = omega arith in
     subst P (sym is) (each layer range inside)
+
+-- the range of one number
+pub one_range : (numbers : List ℕ) (place object : ℕ) → slice_get numbers place ≡ Some object →
+    slice_range numbers place (place + 1) ≡ object ∷ []
+one_range numbers place object e =
+    let inside : place < length numbers = slice_get_within numbers place object e in
+    let one : place + 1 - place ≡ 1 = omega arith in
+    let is : get_or numbers place 0 ≡ object = same_Some (get_or numbers place 0) object
+    (sym (slice_get-get_or numbers place 0 inside) ∙ e) in
+    ap (λ (n : ℕ). take n (drop place numbers)) one ∙ ap (take 1) (drop_more numbers place 0 inside)
+    ∙ ap (λ (y : ℕ). y ∷ []) is
+
+-- a range that is shortened is within the list, and has all objects of the layer where it isn't empty
+pub record IsShortRangeOf (table numbers : List ℕ) (layer : ℕ) (range : MemberRange) : Type 0 where
+  pub order : range.start ≤ range.end
+  pub within : range.end ≤ length numbers
+  pub objects : range.start < range.end → slice_range numbers range.start range.end ≡ on_layer table layer
+
+short_by : (table numbers : List ℕ) (layer : ℕ) (range : MemberRange) (few : Bool) → IsRangeOf table numbers layer range →
+    IsShortRangeOf table numbers layer (if few then range else record { start = range.start; end = range.start })
+short_by table numbers layer range true whole =
+    record { order = whole.order; within = whole.within; objects = λ some. whole.objects }
+short_by table numbers layer range false whole =
+    let order : range.start ≤ range.end = whole.order in
+    let within : range.end ≤ length numbers = whole.within in
+    record {
+      order = omega arith;
+      within = omega (arith, order, within);
+      objects = λ some. absurd (omega (arith, some));
+    }
+
+pub short_at : (table numbers : List ℕ) (ranges short : List MemberRange) (layer : ℕ) (range : MemberRange) →
+    AreRangesOf table numbers ranges → short ≡ map short_range ranges → layer < length ranges →
+    range ≡ get_or short layer range → IsShortRangeOf table numbers layer range
+short_at table numbers ranges short layer range each made inside is =
+    let whole : MemberRange = get_or ranges layer range in
+    let P : MemberRange → Type 0 = λ r. IsShortRangeOf table numbers layer r in
+    subst P
+    (sym (is ∙ ap (λ (rs : List MemberRange). get_or rs layer range) made
+    ∙ get_or-map short_range ranges layer range range inside))
+    (short_by table numbers layer whole (nat_lt (whole.end - whole.start) SEVERAL_MEMBERS) (each layer range inside))
 
 -- without ranges
 pub no_ranges : (table numbers : List ℕ) (ranges : List MemberRange) → ranges ≡ [] → AreRangesOf table numbers ranges

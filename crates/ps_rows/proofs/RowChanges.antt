@@ -10,23 +10,32 @@ use Rattle.std.proofs.lemmas.List.{get_or-set_same, get_or-set_other, length-set
 use Rattle.std.proofs.lemmas.List.Folds.{list_any_more}
 use Rattle.ps_model.specs.board.Movement.{is_number}
 use Rattle.ps_rows.specs.Planes.{AreSets, HavePlanes, IsSet, row_of}
-use Rattle.ps_rows.specs.RowChanges.{AreRowsChanged, Change, IsLayerWritten, IsRowLeft, bit_after, row_after, set_in}
+use Rattle.ps_rows.specs.RowChanges.{AreRowsChanged, AreRowsLeft, Change, IsLayerWritten, IsRowLeft, bit_after}
+use Rattle.ps_rows.specs.RowChanges.{clearing, row_after, set_in}
 use Rattle.ps_rows.specs.RowChanges.{word_after}
 use Rattle.ps_rows.specs.Showing.{motion_planes}
 use Rattle.ps_rows.proofs.Moves.{five_false, five_high}
-use Rattle.ps_rows.proofs.Sets.{alike_at, either_at, neither_at, none_at, same_by_unlike, same_set, set_where}
+use Rattle.ps_rows.proofs.Sets.{alike_at, both_at, either_at, neither_at, none_at, same_by_unlike, same_set, set_where}
 use Rattle.ps_rows.proofs.Sets.{without_at}
-use Rattle.ps_board.specs.ColumnSets.{column_at, columns_without, either_columns, no_columns, set_columns}
+use Rattle.ps_board.specs.ColumnSets.{both_columns, column_at, columns_without, either_columns, no_columns, set_columns}
 use Rattle.ps_board.specs.ColumnSets.{unlike_columns}
+use Rattle.ps_board.proofs.ColumnLaws.{none_in}
 use Rattle.ps_board.proofs.EmptySets.{empty_of}
 use Rattle.ps_model.specs.declared.limits.TheConstants.{SIDE_LIMIT}
 
 -- one row -------------------------------------------------------------------------------------------------------------
 
-pub word_made : (change : Change) (plane : ℕ) (word set : List Bool) → set ≡ set_in change plane →
+word_made : (change : Change) (plane : ℕ) (word set : List Bool) → set ≡ set_in change plane →
     either_columns (columns_without word change.cleared) set ≡ word_after change plane word
 unfolding word_after
 word_made change plane word set e = ap (either_columns (columns_without word change.cleared)) e
+
+-- where it sets columns
+pub word_filled : (change : Change) (plane : ℕ) (word : List Bool) → is_number change.plane plane ≡ true →
+    either_columns (columns_without word change.cleared) change.set ≡ word_after change plane word
+word_filled change plane word chosen =
+    word_made change plane word change.set
+    (sym (ap (λ (on : Bool). if on then change.set else no_columns) chosen))
 
 set_at : (on : Bool) (set : List Bool) (x : ℕ) → column_at (if on then set else no_columns) x ≡ (on && column_at set x)
 set_at true set x = refl
@@ -46,6 +55,37 @@ pub set_after : (change : Change) (plane : ℕ) (word : List Bool) → IsSet (wo
 unfolding word_after
 set_after change plane word = set_where (λ x. column_at (columns_without word change.cleared) x || column_at
     (set_in change plane) x)
+
+-- where it sets nothing, it takes columns away
+word_bit : (change : Change) (plane : ℕ) (x : ℕ) (before : Bool) → is_number change.plane plane ≡ false →
+    bit_after change plane x before ≡ ((before && not (column_at change.cleared x)) || (false && column_at change.set x))
+word_bit change plane x before unset =
+    ap (λ (on : Bool). (before && not (column_at change.cleared x)) || (on && column_at change.set x)) unset
+
+or_nothing : (before on : Bool) → before ≡ (before || (false && on))
+or_nothing true on = refl
+or_nothing false on = refl
+
+pub word_cleared : (change : Change) (plane : ℕ) (word : List Bool) → is_number change.plane plane ≡ false →
+    columns_without word change.cleared ≡ word_after change plane word
+word_cleared change plane word unset =
+    same_set (columns_without word change.cleared) (word_after change plane word)
+    (set_where (λ x. column_at word x && not (column_at change.cleared x))) (set_after change plane word)
+    (λ x low.
+    without_at word change.cleared x low
+    ∙ or_nothing (column_at word x && not (column_at change.cleared x)) (column_at change.set x)
+    ∙ sym (column_at-after change plane word x low ∙ word_bit change plane x (column_at word x) unset))
+
+-- and none, where it would take none
+kept_bit : (before off on : Bool) → (before && off) ≡ false → ((before && not off) || (false && on)) ≡ before
+kept_bit true true on none = sym none
+kept_bit true false on none = refl
+kept_bit false off on none = refl
+
+untaken_bit : (before off on : Bool) → ((before && not off) || (false && on)) ≡ before → (before && off) ≡ false
+untaken_bit true true on same = sym same
+untaken_bit true false on same = refl
+untaken_bit false off on same = refl
 
 -- a change made twice
 twice : (a c s : Bool) → ((((a && not c) || s) && not c) || s) ≡ ((a && not c) || s)
@@ -187,6 +227,55 @@ module _ (h row : ℕ) (change : Change) (under : row < h) where
       (ap (λ (w : List Bool). column_at w x) f ∙ column_at-after change plane word x low
       ∙ ap (λ (w : List Bool). bit_after change plane x (column_at w x)) e ∙ left x low
       ∙ ap (λ (w : List Bool). column_at w x) (sym e)))
+
+  -- a row of which no columns are taken away stays
+  pub row_uncleared : (words : List (List Bool)) (plane : ℕ) (word : List Bool) → AreSets words →
+      word ≡ row_of words (plane * h + row) → is_number change.plane plane ≡ false →
+      set_columns (both_columns word change.cleared) ≡ [] → words ≡ row_after h row change words plane
+  row_uncleared words plane word are e unset none =
+      row_stays words plane word (word_after change plane word) are e refl
+      (empty_of (unlike_columns (word_after change plane word) word)
+      (λ x low.
+      alike_at (word_after change plane word) word x low
+      (column_at-after change plane word x low ∙ word_bit change plane x (column_at word x) unset
+      ∙ kept_bit (column_at word x) (column_at change.cleared x) (column_at change.set x)
+      (sym (both_at word change.cleared x low) ∙ none_in (both_columns word change.cleared) x none low))))
+
+  pub nothing_cleared : (words : List (List Bool)) (plane : ℕ) (word : List Bool) →
+      word ≡ row_of words (plane * h + row) → is_number change.plane plane ≡ false →
+      IsRowLeft h row change words plane → set_columns (both_columns word change.cleared) ≡ []
+  nothing_cleared words plane word e unset left =
+      empty_of (both_columns word change.cleared)
+      (λ x low.
+      both_at word change.cleared x low
+      ∙ untaken_bit (column_at word x) (column_at change.cleared x) (column_at change.set x)
+      (sym (word_bit change plane x (column_at word x) unset)
+      ∙ ap (λ (w : List Bool). bit_after change plane x (column_at w x)) e ∙ left x low
+      ∙ ap (λ (w : List Bool). column_at w x) (sym e)))
+
+-- a change that names no plane is one that clears its columns
+clear_bit : (change other : Change) → change.plane ≡ None → other ≡ clearing change.cleared → (p x : ℕ)
+    (before : Bool) → bit_after other p x before ≡ bit_after change p x before
+clear_bit change other unnamed is p x before =
+    ap (λ (c : Change). bit_after c p x before) is
+    ∙ sym (ap (λ (n : Option ℕ). (before && not (column_at change.cleared x)) || (is_number n p && column_at change.set x))
+    unnamed)
+
+pub cleared_rows : (h row : ℕ) (change other : Change) (words written : List (List Bool)) (planes : List ℕ) →
+    change.plane ≡ None → other ≡ clearing change.cleared → AreRowsChanged h row other words written planes →
+    AreRowsChanged h row change words written planes
+cleared_rows h row change other words written planes unnamed is was = record {
+  long = was.long;
+  there = λ p x listed low.
+      was.there p x listed low ∙ clear_bit change other unnamed is p x (column_at (row_of words (p * h + row)) x);
+  elsewhere = was.elsewhere;
+}
+
+pub cleared_left : (h row : ℕ) (change other : Change) (words : List (List Bool)) (planes : List ℕ) →
+    change.plane ≡ None → other ≡ clearing change.cleared → AreRowsLeft h row change words planes →
+    AreRowsLeft h row other words planes
+cleared_left h row change other words planes unnamed is left = λ p listed x low.
+    clear_bit change other unnamed is p x (column_at (row_of words (p * h + row)) x) ∙ left p listed x low
 
 -- a layer -------------------------------------------------------------------------------------------------------------
 

@@ -17,3 +17,5 @@ pub mod LayerMotions
 pub mod PackedKeys
 pub mod TurnedPlaces
 pub mod Packings
+pub mod BlankPlanes
+pub mod UsedPlanes

@@ -3,10 +3,11 @@
 ghost use Rattle.std.specs.Prelude.{◌≡◌, ◌+◌, ◌*◌, ◌<◌, ◌≤◌, ◌^◌, ℕ, [], None, Some, false, nat_eq, true, vec_len};
 ghost use Rattle.std.specs.List.{list_any};
 ghost use Rattle.ps_board.specs.ColumnSets.{either_columns, no_columns, set_columns};
+ghost use Rattle.ps_model.specs.board.Movement.{is_number};
 ghost use Rattle.ps_rows.specs.Planes.{HavePlanes};
 ghost use Rattle.ps_rows.specs.RowChanges.{AreRowsChanged, AreRowsLeft, IsLayerWritten, IsRowLeft};
 ghost use Rattle.ps_rows.specs.RowChanges.{clearing, motions_change, moves_kept, objects_change};
-ghost use Rattle.ps_rows.specs.RowChanges.{row_after, set_in, word_after};
+ghost use Rattle.ps_rows.specs.RowChanges.{row_after};
 ghost use Rattle.ps_rows.specs.Sameness.{PlanesDifferOnlyOn};
 ghost use Rattle.ps_rows.specs.Showing.{motion_plane, motion_planes};
 
@@ -110,28 +111,67 @@ pub fn moves_kept(own: Option<LayerWrite>) -> bool
     }
 }
 
-/// The columns that a change sets in a plane.
-fn set_in<W: ColumnWords>(change: RowChange<Columns<W>>, plane: u32) -> Columns<W>
-    ensures { result ≡ set_in change plane }
-{
-    if is_chosen(change.plane, plane) {
-        return change.set;
-    }
-    Columns::none()
-}
-
-/// The columns of a plane's row behind a change.
-fn word_after<W: ColumnWords>(
+/// Changes the row of the plane in which columns are set, and answers whether it has other columns then, or something
+/// had `changed` before.
+#[inline(always)]
+fn fill_row<W: ColumnWords>(
+    planes: &mut Planes<W>,
+    row: u32,
     change: RowChange<Columns<W>>,
     plane: u32,
-    word: Columns<W>,
-) -> Columns<W>
-    ensures { result ≡ word_after change plane word }
+    changed: bool,
+) -> bool
+    requires row { row < planes.old.height }
+    requires plane { (plane + 1) * planes.old.height ≤ vec_len planes.old.words }
+    requires chosen { is_number change.plane plane ≡ true }
+    ensures words { let p = planes.old in planes.new.words.items ≡ row_after p.height row change p.words.items plane }
+    ensures height { planes.new.height ≡ planes.old.height }
+    ensures count { vec_len planes.new.words ≡ vec_len planes.old.words }
+    ensures before { result ≡ false → changed ≡ false }
+    ensures quiet { result ≡ false → planes.new.words.items ≡ planes.old.words.items }
+    ensures left { let p = planes.old in
+        changed ≡ false → IsRowLeft p.height row change p.words.items plane → result ≡ false }
 {
-    word.without(change.cleared).either(set_in(change, plane))
+    let word = planes.row(plane, row);
+    let after = word.without(change.cleared).either(change.set);
+    if after.unlike(word).is_empty() {
+        return changed;
+    }
+    planes.set_row(plane, row, after);
+    true
+}
+
+/// Changes the row of a plane in which no columns are set, and answers whether it has other columns then, or something
+/// had `changed` before.
+#[inline(always)]
+fn clear_row<W: ColumnWords>(
+    planes: &mut Planes<W>,
+    row: u32,
+    change: RowChange<Columns<W>>,
+    plane: u32,
+    changed: bool,
+) -> bool
+    requires row { row < planes.old.height }
+    requires plane { (plane + 1) * planes.old.height ≤ vec_len planes.old.words }
+    requires unset { is_number change.plane plane ≡ false }
+    ensures words { let p = planes.old in planes.new.words.items ≡ row_after p.height row change p.words.items plane }
+    ensures height { planes.new.height ≡ planes.old.height }
+    ensures count { vec_len planes.new.words ≡ vec_len planes.old.words }
+    ensures before { result ≡ false → changed ≡ false }
+    ensures quiet { result ≡ false → planes.new.words.items ≡ planes.old.words.items }
+    ensures left { let p = planes.old in
+        changed ≡ false → IsRowLeft p.height row change p.words.items plane → result ≡ false }
+{
+    let word = planes.row(plane, row);
+    if word.both(change.cleared).is_empty() {
+        return changed;
+    }
+    planes.leave_in_row(plane, row, word.without(change.cleared));
+    true
 }
 
 /// Changes the row of a plane, and answers whether it has other columns then, or something had `changed` before.
+#[inline(always)]
 fn change_row<W: ColumnWords>(
     planes: &mut Planes<W>,
     row: u32,
@@ -149,13 +189,10 @@ fn change_row<W: ColumnWords>(
     ensures left { let p = planes.old in
         changed ≡ false → IsRowLeft p.height row change p.words.items plane → result ≡ false }
 {
-    let word = planes.row(plane, row);
-    let after = word_after(change, plane, word);
-    if after.unlike(word).is_empty() {
-        return changed;
+    if is_chosen(change.plane, plane) {
+        return fill_row(planes, row, change, plane, changed);
     }
-    planes.set_row(plane, row, after);
-    true
+    clear_row(planes, row, change, plane, changed)
 }
 
 /// Whether a change clears and sets nothing.
@@ -166,8 +203,9 @@ fn changes_nothing<W: ColumnWords>(change: RowChange<Columns<W>>) -> bool
 }
 
 /// Changes the row of each of these planes, and answers whether one has other columns then, or something had `changed`
-/// before. No plane is read for a change that clears and sets nothing.
-pub fn change_rows<W: ColumnWords>(
+/// before.
+#[inline(always)]
+fn change_each<W: ColumnWords>(
     planes: &mut Planes<W>,
     row: u32,
     change: RowChange<Columns<W>>,
@@ -186,9 +224,6 @@ pub fn change_rows<W: ColumnWords>(
         changed ≡ false → AreRowsLeft p.height row change p.words.items places.now → result ≡ false }
 {
     let mut any = changed;
-    if changes_nothing(change) {
-        return any;
-    }
     for plane in places {
         any = change_row(planes, row, change, *plane, any);
     }
@@ -203,6 +238,37 @@ fn only_clears<W: ColumnWords>(change: RowChange<Columns<W>>) -> bool
         None => true,
         Some(_) => false,
     }
+}
+
+/// Changes the row of each of these planes, and answers whether one has other columns then, or something had `changed`
+/// before. No plane is read for a change that clears and sets nothing, and none asked whether columns are set in it for
+/// one that only clears.
+#[inline(always)]
+pub fn change_rows<W: ColumnWords>(
+    planes: &mut Planes<W>,
+    row: u32,
+    change: RowChange<Columns<W>>,
+    places: &[u32],
+    changed: bool,
+) -> bool
+    requires row { row < planes.old.height }
+    requires planes { HavePlanes planes.old.height planes.old.words.items places.now }
+    ensures words { let p = planes.old in
+        AreRowsChanged p.height row change p.words.items planes.new.words.items places.now }
+    ensures height { planes.new.height ≡ planes.old.height }
+    ensures count { vec_len planes.new.words ≡ vec_len planes.old.words }
+    ensures before { result ≡ false → changed ≡ false }
+    ensures quiet { result ≡ false → planes.new.words.items ≡ planes.old.words.items }
+    ensures left { let p = planes.old in
+        changed ≡ false → AreRowsLeft p.height row change p.words.items places.now → result ≡ false }
+{
+    if changes_nothing(change) {
+        return changed;
+    }
+    if only_clears(change) {
+        return change_each(planes, row, clearing(change.cleared), places, changed);
+    }
+    change_each(planes, row, change, places, changed)
 }
 
 /// Changes the row of five planes from the first on, and answers whether one has other columns then, or something had

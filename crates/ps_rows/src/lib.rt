@@ -6,6 +6,7 @@
 #![tactic(auto)]
 
 mod changes;
+mod marked_planes;
 mod members;
 mod motions;
 mod noted_cells;
@@ -22,6 +23,7 @@ mod scanning;
 mod scanning_rows;
 mod topics;
 mod turning;
+mod used_planes;
 
 pub use noted_cells::NotPacked;
 pub use packed_keys::PackedKey;

@@ -1,9 +1,9 @@
 //! The objects of each layer.
 
-ghost use Rattle.std.specs.Prelude.{◌≡◌, ◌++◌, ◌+◌, ◌<◌, ◌≤◌, ◌∷◌, [], IfOk, OnOk, cond, length, map, slice_get, true};
+ghost use Rattle.std.specs.Prelude.{◌≡◌, ◌++◌, ◌+◌, ◌<◌, ◌≤◌, ◌∷◌, [], IfOk, IfSome, OnOk, Some, cond, length, map, slice_get, true};
 ghost use Rattle.std.specs.Prelude.{slice_range, vec_len};
 ghost use Rattle.ps_model.specs.board.Movement.{is_number};
-ghost use Rattle.ps_rows.specs.Members.{AreRangesOf, on_layer};
+ghost use Rattle.ps_rows.specs.Members.{AreRangesOf, on_layer, short_range};
 ghost use Rattle.ps_rows.specs.declared.members.TheConstants.{TABLE_LIMIT};
 
 use ps_model::{LayerId, Memory};
@@ -11,6 +11,9 @@ use std::alloc::Global;
 
 /// The most objects that a table can have: their planes are numbered by 32 bits.
 pub const TABLE_LIMIT: usize = 2147483648;
+
+/// How many objects a layer has at least that aren't gone through one by one.
+pub const SEVERAL_MEMBERS: usize = 64;
 
 /// Where the objects of a layer stand in the list of those of all layers.
 #[derive(Clone, Copy)]
@@ -25,8 +28,11 @@ pub struct Members {
     pub table: Vec<u32>,
     pub numbers: Vec<u32>,
     pub ranges: Vec<MemberRange>,
+    /// The same, but for an empty one in place of each range of several objects.
+    short: Vec<MemberRange>,
     ghost few: { vec_len table ≤ TABLE_LIMIT },
     ghost each: { AreRangesOf table.items numbers.items ranges.items },
+    ghost shorter: { short.items ≡ map short_range ranges.items },
 }
 
 /// Adds an object, if it is wanted.
@@ -73,6 +79,27 @@ fn push_layer(
     Ok(())
 }
 
+/// A range, or an empty one in place of one of several objects.
+fn shortened(range: MemberRange) -> MemberRange
+    ensures { result ≡ short_range range }
+{
+    if range.end.saturating_sub(range.start) < SEVERAL_MEMBERS {
+        return range;
+    }
+    MemberRange {
+        start: range.start,
+        end: range.start,
+    }
+}
+
+/// Ranges, with an empty one in place of each of several objects.
+fn all_shortened(alloc: Global, ranges: &[MemberRange]) -> Result<Vec<MemberRange>, Memory>
+    ensures { IfOk result (λ short. short.items ≡ map short_range ranges.now) }
+{
+    let short: Vec<MemberRange> = ranges.iter().map(|range| shortened(*range)).collect(alloc)?;
+    Ok(short)
+}
+
 /// The numbers of a range of a list.
 fn numbers_in(numbers: &[u32], range: MemberRange) -> &[u32]
     requires order { range.start ≤ range.end }
@@ -98,10 +125,12 @@ impl Members {
         for layer in 0..layers {
             push_layer(&mut numbers, &mut ranges, &table, layer)?;
         }
+        let short = all_shortened(alloc, &ranges)?;
         Ok(Members {
             table,
             numbers,
             ranges,
+            short,
         })
     }
 
@@ -113,10 +142,12 @@ impl Members {
         let table = Vec::from_slice(alloc, &self.table)?;
         let numbers = Vec::from_slice(alloc, &self.numbers)?;
         let ranges = Vec::from_slice(alloc, &self.ranges)?;
+        let short = Vec::from_slice(alloc, &self.short)?;
         Ok(Members {
             table,
             numbers,
             ranges,
+            short,
         })
     }
 
@@ -133,6 +164,14 @@ impl Members {
         ensures { result ≡ true → other.now.table.items ≡ self.now.table.items }
     {
         self.table.as_slice() == other.table.as_slice()
+    }
+
+    /// The layer of an object.
+    pub fn layer_of(&self, object: u32) -> u32
+        requires { object < length self.now.table.items }
+        ensures { slice_get self.now.table.items object ≡ Some result }
+    {
+        self.table[object as usize]
     }
 
     /// Whether an object is one of a layer.
@@ -152,5 +191,50 @@ impl Members {
     {
         let range = self.ranges[layer as usize];
         numbers_in(self.numbers.as_slice(), range)
+    }
+
+    /// The range of a layer's objects.
+    pub fn range_of(&self, layer: u32) -> MemberRange
+        requires { layer < vec_len self.now.ranges }
+        ensures order { result.start ≤ result.end }
+        ensures within { result.end ≤ length self.now.numbers.items }
+        ensures objects { let m = self.now in
+            slice_range m.numbers.items result.start result.end ≡ on_layer m.table.items layer }
+    {
+        self.ranges[layer as usize]
+    }
+
+    /// The range of a layer's objects; an empty one, where they are several.
+    pub fn short_range_of(&self, layer: u32) -> MemberRange
+        requires { layer < vec_len self.now.ranges }
+        ensures order { result.start ≤ result.end }
+        ensures within { result.end ≤ length self.now.numbers.items }
+        ensures objects { let m = self.now in result.start < result.end →
+            slice_range m.numbers.items result.start result.end ≡ on_layer m.table.items layer }
+    {
+        self.short[layer as usize]
+    }
+
+    /// The objects of a range.
+    pub fn in_range(&self, range: MemberRange) -> &[u32]
+        requires order { range.start ≤ range.end }
+        requires within { range.end ≤ length self.now.numbers.items }
+        ensures { result.now ≡ slice_range self.now.numbers.items range.start range.end }
+    {
+        numbers_in(self.numbers.as_slice(), range)
+    }
+
+    /// Where an object stands in a range, if it does.
+    pub fn place_in(&self, range: MemberRange, object: u32) -> Option<usize>
+        requires { range.end ≤ length self.now.numbers.items }
+        ensures place { IfSome result (λ place. slice_get self.now.numbers.items place ≡ Some object) }
+        ensures within { IfSome result (λ place. place < range.end) }
+    {
+        for place in range.start..range.end {
+            if self.numbers[place] == object {
+                return Some(place);
+            }
+        }
+        None
     }
 }

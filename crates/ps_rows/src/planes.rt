@@ -12,8 +12,11 @@ ghost use Rattle.ps_rows.specs.PlaneCopies.{AreCopied, AreMarksTaken, ArePlanesO
 ghost use Rattle.ps_rows.specs.RowIndex.{AreRowsMarked};
 ghost use Rattle.ps_rows.specs.RowTests.{five_rows};
 ghost use Rattle.ps_rows.specs.Sameness.{DifferOnlyOnRows};
+ghost use Rattle.ps_rows.specs.UsedPlanes.{AreAmongUsed, AreUsesNoted, is_used, sets_for};
+ghost use Rattle.ps_rows.specs.declared.used_planes.TheConstants.{MANY_PLANES};
 ghost use Rattle.ps_rows.specs.Showing.{cleared_from, motion_planes};
 
+use crate::used_planes::{UsedPlanes, are_many};
 use ps_board::{ColumnWords, Columns, WORD_BITS};
 use ps_model::Memory;
 use std::alloc::Global;
@@ -33,12 +36,16 @@ pub struct Planes<W: ColumnWords> {
     pub height: u32,
     pub words: Vec<Columns<W>>,
     index: Vec<Columns<W>>,
+    /// Where there are many, each plane with a row that is marked; there may be more of them.
+    pub(crate) used: UsedPlanes,
     ghost some_row: { 0 < height },
     ghost rows: { height ≤ SIDE_LIMIT },
     ghost low: { height ≤ W.limit },
     ghost whole: { vec_len words ≡ vec_len index * height },
     ghost sets: { AreSets words.items },
     ghost marked: { AreRowsMarked (vec_len index) height words.items index.items },
+    ghost noted: { MANY_PLANES ≤ vec_len index → AreUsesNoted (vec_len index) index.items used.words.items },
+    ghost room: { vec_len used.words ≡ sets_for (vec_len index) },
 }
 
 /// The columns of a row that a plane has.
@@ -175,10 +182,12 @@ impl<W: ColumnWords> Planes<W> {
     {
         let words = Vec::from_elem(alloc, Columns::none(), count as usize * height as usize)?;
         let index = Vec::from_elem(alloc, Columns::none(), count as usize)?;
+        let used = UsedPlanes::try_new(alloc, count)?;
         Ok(Planes {
             height,
             words,
             index,
+            used,
         })
     }
 
@@ -189,10 +198,12 @@ impl<W: ColumnWords> Planes<W> {
     {
         let words = Vec::from_slice(alloc, &self.words)?;
         let index = Vec::from_slice(alloc, &self.index)?;
+        let used = self.used.try_copy(alloc)?;
         Ok(Planes {
             height: self.height,
             words,
             index,
+            used,
         })
     }
 
@@ -294,6 +305,23 @@ impl<W: ColumnWords> Planes<W> {
             .either(five[4])
     }
 
+    /// Gives a row of a plane these columns; one of a plane that isn't noted gets none.
+    #[inline(always)]
+    fn write_row(&mut self, plane: u32, row: u32, word: Columns<W>)
+        requires row { row < self.old.height }
+        requires plane { (plane + 1) * self.old.height ≤ vec_len self.old.words }
+        requires set { IsSet word }
+        requires noted { let p = self.old in
+            MANY_PLANES ≤ vec_len p.index → is_used p.used.words.items plane ≡ false → set_columns word ≡ [] }
+        ensures words { self.new.words.items ≡ slice_set self.old.words.items (plane * self.old.height + row) word }
+        ensures height { self.new.height ≡ self.old.height }
+        ensures count { vec_len self.new.words ≡ vec_len self.old.words }
+    {
+        let place = plane as usize;
+        self.words[place * self.height as usize + row as usize] = word;
+        self.index[place] = self.index[place].with(row, !word.is_empty());
+    }
+
     /// Gives a row of a plane these columns.
     pub fn set_row(&mut self, plane: u32, row: u32, word: Columns<W>)
         requires row { row < self.old.height }
@@ -303,9 +331,24 @@ impl<W: ColumnWords> Planes<W> {
         ensures height { self.new.height ≡ self.old.height }
         ensures count { vec_len self.new.words ≡ vec_len self.old.words }
     {
-        let place = plane as usize;
-        self.words[place * self.height as usize + row as usize] = word;
-        self.index[place] = self.index[place].with(row, !word.is_empty());
+        let before = self.index[plane as usize];
+        self.used.note_first(plane, before);
+        self.write_row(plane, row, word);
+    }
+
+    /// Leaves these columns in a row of a plane, and takes the others away. The plane needn't be noted for it.
+    #[inline(always)]
+    pub fn leave_in_row(&mut self, plane: u32, row: u32, word: Columns<W>)
+        requires row { row < self.old.height }
+        requires plane { (plane + 1) * self.old.height ≤ vec_len self.old.words }
+        requires set { IsSet word }
+        requires within { let p = self.old in let before = row_of p.words.items (plane * p.height + row) in
+            (x : ℕ) → x < SIDE_LIMIT → column_at before x ≡ false → column_at word x ≡ false }
+        ensures words { self.new.words.items ≡ slice_set self.old.words.items (plane * self.old.height + row) word }
+        ensures height { self.new.height ≡ self.old.height }
+        ensures count { vec_len self.new.words ≡ vec_len self.old.words }
+    {
+        self.write_row(plane, row, word);
     }
 
     /// Whether a plane has a cell.
@@ -328,6 +371,7 @@ impl<W: ColumnWords> Planes<W> {
     }
 
     /// Puts the cell of a row and a column into a plane, or takes it away. A row that isn't marked has nothing to take.
+    #[inline(always)]
     fn set_cell(&mut self, row: u32, column: u32, plane: u32, on: bool)
         requires row { row < self.old.height }
         requires column { column < W.limit }
@@ -337,11 +381,16 @@ impl<W: ColumnWords> Planes<W> {
         ensures height { self.new.height ≡ self.old.height }
         ensures count { vec_len self.new.words ≡ vec_len self.old.words }
     {
-        if !on && !self.rows_of(plane).has(row) {
+        if on {
+            let word = self.row(plane, row).with(column, true);
+            self.set_row(plane, row, word);
             return;
         }
-        let word = self.row(plane, row).with(column, on);
-        self.set_row(plane, row, word);
+        if !self.rows_of(plane).has(row) {
+            return;
+        }
+        let word = self.row(plane, row).with(column, false);
+        self.leave_in_row(plane, row, word);
     }
 
     /// Puts a cell into a plane.
@@ -464,16 +513,31 @@ impl<W: ColumnWords> Planes<W> {
         self.clear_from(first);
     }
 
-    /// Makes planes of others, from the first one up to the end, the same.
-    fn copy_planes(&self, other: &mut Planes<W>, first: usize, end: usize)
+    /// Notes all planes that others have noted, as many of the same height.
+    fn note_all(&mut self, other: &Planes<W>)
+        requires height { other.now.height ≡ self.old.height }
+        requires count { vec_len other.now.words ≡ vec_len self.old.words }
+        ensures uses { AreAmongUsed other.now.used.words.items self.new.used.words.items }
+        ensures words { self.new.words.items ≡ self.old.words.items }
+        ensures count { vec_len self.new.words ≡ vec_len self.old.words }
+        ensures height { self.new.height ≡ self.old.height }
+    {
+        self.used.join(&other.used);
+    }
+
+    /// Makes planes of others, from the first one up to the end, the same, where they have noted all that are noted here.
+    pub(crate) fn copy_planes(&self, other: &mut Planes<W>, first: usize, end: usize)
         requires order { first ≤ end }
         requires height { other.old.height ≡ self.now.height }
         requires here { end * self.now.height ≤ vec_len self.now.words }
         requires there { end * self.now.height ≤ vec_len other.old.words }
+        requires count { vec_len other.old.words ≡ vec_len self.now.words }
+        requires uses { AreAmongUsed self.now.used.words.items other.old.used.words.items }
         ensures words { let p = self.now in
             ArePlanesOf p.height first end p.words.items other.old.words.items other.new.words.items }
         ensures height { other.new.height ≡ self.now.height }
         ensures count { vec_len other.new.words ≡ vec_len other.old.words }
+        ensures uses { other.new.used.words.items ≡ other.old.used.words.items }
     {
         if first == end {
             return;
@@ -491,6 +555,7 @@ impl<W: ColumnWords> Planes<W> {
         requires height { other.old.height ≡ self.now.height }
         requires here { planes * self.now.height ≤ vec_len self.now.words }
         requires count { vec_len other.old.words ≡ vec_len self.now.words }
+        requires uses { AreAmongUsed self.now.used.words.items other.old.used.words.items }
         ensures words { let p = self.now in
             ArePlanesOf p.height 0 planes p.words.items other.old.words.items other.new.words.items }
         ensures height { other.new.height ≡ self.now.height }
@@ -510,17 +575,23 @@ impl<W: ColumnWords> Planes<W> {
     }
 
     /// Makes other planes, as many of the same height, the same, of which so many, the first ones, aren't known to be
-    /// so. Where they are few, all of them are copied in one go, up to the last with a column on either side.
-    pub fn copy_into(&self, other: &mut Planes<W>, planes: usize)
+    /// so, and which have noted all that are noted here. Where they are few, all of them are copied in one go, up to the
+    /// last with a column on either side. Of very many those are copied that have a column on either side.
+    fn copy_noted(&self, other: &mut Planes<W>, planes: u32)
         requires height { other.old.height ≡ self.now.height }
         requires count { vec_len other.old.words ≡ vec_len self.now.words }
         requires within { planes * self.now.height ≤ vec_len self.now.words }
         requires rest { AreSameFrom (planes * self.now.height) self.now.words.items other.old.words.items }
+        requires uses { AreAmongUsed self.now.used.words.items other.old.used.words.items }
         ensures words { other.new.words.items ≡ self.now.words.items }
         ensures height { other.new.height ≡ self.now.height }
         ensures count { vec_len other.new.words ≡ vec_len self.now.words }
     {
-        let marked = self.planes_marked(other, planes);
+        if are_many(planes) {
+            self.copy_marked(other, planes);
+            return;
+        }
+        let marked = self.planes_marked(other, planes) as usize;
         let most = (most_sets::<W>() / self.height) as usize;
         if marked <= most {
             self.copy_planes(other, 0, marked);
@@ -529,11 +600,27 @@ impl<W: ColumnWords> Planes<W> {
         self.copy_pieces(other, marked, most);
     }
 
+    /// Makes other planes, as many of the same height, the same, of which so many, the first ones, aren't known to be
+    /// so.
+    pub fn copy_into(&self, other: &mut Planes<W>, planes: u32)
+        requires height { other.old.height ≡ self.now.height }
+        requires count { vec_len other.old.words ≡ vec_len self.now.words }
+        requires within { planes * self.now.height ≤ vec_len self.now.words }
+        requires rest { AreSameFrom (planes * self.now.height) self.now.words.items other.old.words.items }
+        ensures words { other.new.words.items ≡ self.now.words.items }
+        ensures height { other.new.height ≡ self.now.height }
+        ensures count { vec_len other.new.words ≡ vec_len self.now.words }
+    {
+        other.note_all(self);
+        self.copy_noted(other, planes);
+    }
+
     /// Makes rows of so many planes of others the same, the first ones, those in a set.
     pub fn copy_rows(&self, other: &mut Planes<W>, planes: u32, rows: Columns<W>)
         requires height { other.old.height ≡ self.now.height }
         requires here { planes * self.now.height ≤ vec_len self.now.words }
         requires there { planes * self.now.height ≤ vec_len other.old.words }
+        requires count { vec_len other.old.words ≡ vec_len self.now.words }
         ensures words { let p = self.now in
             AreRowsOf p.height 0 planes rows p.words.items other.old.words.items other.new.words.items }
         ensures height { other.new.height ≡ self.now.height }
@@ -544,6 +631,7 @@ impl<W: ColumnWords> Planes<W> {
         copy_row_sets(self.words.as_slice(), words, self.height, planes, within);
         let index = other.index.as_mut_slice();
         take_marks(self.index.as_slice(), index, planes, within);
+        other.used.join(&self.used);
     }
 
     /// Whether a plane has the same rows on others, of the same height. All of them are looked at in one go, without a
@@ -605,7 +693,7 @@ impl<W: ColumnWords> Planes<W> {
 
     /// How many of so many planes, the first ones, there are up to the last that has a marked row, here or on others of
     /// the same height.
-    pub fn planes_marked(&self, other: &Planes<W>, planes: usize) -> usize
+    pub fn planes_marked(&self, other: &Planes<W>, planes: u32) -> u32
         requires height { other.now.height ≡ self.now.height }
         requires here { planes * self.now.height ≤ vec_len self.now.words }
         requires there { planes * self.now.height ≤ vec_len other.now.words }
@@ -614,7 +702,7 @@ impl<W: ColumnWords> Planes<W> {
             DifferOnlyOnRows self.now.height plane self.now.words.items other.now.words.items no_columns }
     {
         let mut count = planes;
-        while 0 < count && self.is_unmarked_plane(other, count - 1) {
+        while 0 < count && self.is_unmarked_plane(other, count as usize - 1) {
             count -= 1;
         }
         count

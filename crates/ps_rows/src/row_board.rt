@@ -2,17 +2,19 @@
 
 ghost use Rattle.std.specs.Prelude.{◌≡◌, ◌+◌, ◌*◌, ◌/◌, ◌^◌, ◌<◌, ◌≤◌, ◌&&◌, ℕ, IfOk, IfSome, Some, List, []};
 ghost use Rattle.std.specs.Prelude.{false, if◌then◌else◌, length, nat_eq, nat_lt, true};
-ghost use Rattle.std.specs.Prelude.{option_map, slice_get, slice_index_or, vec_len};
+ghost use Rattle.std.specs.Prelude.{find, option_map, slice_get, slice_index_or, slice_range, vec_len};
 ghost use Rattle.ps_model.specs.board.Movement.{is_number};
 ghost use Rattle.ps_model.specs.declared.limits.TheConstants.{LAYER_LIMIT, SIDE_LIMIT};
 ghost use Rattle.ps_board.specs.ColumnSets.{columns_below, no_columns, with_column};
 ghost use Rattle.ps_rows.specs.Members.{on_layer};
+ghost use Rattle.ps_rows.specs.declared.used_planes.TheConstants.{MANY_PLANES};
 ghost use Rattle.ps_rows.specs.MixedPlanes.{mixed_planes};
-ghost use Rattle.ps_rows.specs.Planes.{AreEmptyFrom, AreSameFrom, HavePlanes, row_of};
+ghost use Rattle.ps_rows.specs.Planes.{AreEmptyFrom, AreSameFrom, HavePlanes, has_cell, row_of};
 ghost use Rattle.ps_program.specs.ProgramShown.{write_shown};
 ghost use Rattle.ps_rows.specs.RowDifferences.{rows_changed};
 ghost use Rattle.ps_rows.specs.RowTests.{IsRowOf, IsWithin};
 ghost use Rattle.ps_rows.specs.Sameness.{AreSamePlanes, AreSamePlanesOn, DifferOnlyOnRows, IsSameLayer};
+ghost use Rattle.ps_rows.specs.Sameness.{IsSamePlane, IsSamePlaneOn};
 ghost use Rattle.ps_rows.specs.Sameness.{PlanesDifferOnlyOn};
 ghost use Rattle.ps_rows.specs.Showing.{AreMotionsShown, AreObjectsShown, cleared_from, grid_shown};
 ghost use Rattle.ps_rows.specs.Showing.{motions_from, numbered, object_shown, with_slot_in};
@@ -20,11 +22,12 @@ ghost use Rattle.ps_rows.specs.SlotsWritten.{AreSlotsLeft, AreSlotsWritten, in_c
 ghost use Rattle.ps_rows.specs.SlotsWritten.{slot_by, stands_on};
 
 use crate::changes::change_layer;
-use crate::members::Members;
+use crate::members::{MemberRange, Members};
 use crate::motions::{choose_motion, first_motion};
 use crate::planes::Planes;
 use crate::row_differences::{RowDifference, change_rows, differences, reach};
-use crate::sameness::{differing_row, same_planes, same_planes_on, unlike_row};
+use crate::sameness::{differing_row, same_plane_on, same_planes, same_planes_on, unlike_row};
+use crate::used_planes::are_many;
 use ps_board::{Board, ColumnWords, Columns};
 use ps_match::Scan;
 use ps_model::{Direction, LayerId, LayeredObject, Memory, Motion, MotionTest, ObjectId};
@@ -222,6 +225,62 @@ impl<W: ColumnWords> RowBoard<W> {
         word
     }
 
+    /// A range of a layer's objects in which the first that has a cell is the one that stands there: where the layer has
+    /// several objects, and the board many planes, that object alone, or nothing.
+    #[inline(never)]
+    fn sought_range(&self, cell: u32, layer: u32) -> MemberRange
+        requires cell { cell < self.now.width * self.now.planes.height }
+        requires layer { layer < self.now.layers }
+        ensures order { result.start ≤ result.end }
+        ensures within { result.end ≤ length self.now.members.numbers.items }
+        ensures planes { let b = self.now in let p = b.planes in
+            HavePlanes p.height p.words.items (slice_range b.members.numbers.items result.start result.end) }
+        ensures object { let b = self.now in let p = b.planes in
+            find (has_cell p.height p.words.items cell)
+            (slice_range b.members.numbers.items result.start result.end)
+            ≡ object_shown b.members.table.items p.height p.words.items cell layer }
+    {
+        let range = self.members.range_of(layer);
+        if !are_many(self.members.count()) {
+            return range;
+        }
+        let Some(object) = self.object_of_many(cell, layer) else {
+            return MemberRange {
+                start: range.end,
+                end: range.end,
+            };
+        };
+        let Some(place) = self.members.place_in(range, object) else {
+            return range;
+        };
+        MemberRange {
+            start: place,
+            end: place + 1,
+        }
+    }
+
+    /// A range of a layer's objects in which the first that has a cell is the one that stands there. Most layers have
+    /// few objects, and all of them are in it.
+    #[inline(always)]
+    fn range_for(&self, cell: u32, layer: u32) -> MemberRange
+        requires cell { cell < self.now.width * self.now.planes.height }
+        requires layer { layer < self.now.layers }
+        ensures order { result.start ≤ result.end }
+        ensures within { result.end ≤ length self.now.members.numbers.items }
+        ensures planes { let b = self.now in let p = b.planes in
+            HavePlanes p.height p.words.items (slice_range b.members.numbers.items result.start result.end) }
+        ensures object { let b = self.now in let p = b.planes in
+            find (has_cell p.height p.words.items cell)
+            (slice_range b.members.numbers.items result.start result.end)
+            ≡ object_shown b.members.table.items p.height p.words.items cell layer }
+    {
+        let short = self.members.short_range_of(layer);
+        if short.start != short.end {
+            return short;
+        }
+        self.sought_range(cell, layer)
+    }
+
     /// The number of the object that stands on a layer of a cell, if one does.
     fn object_number(&self, cell: u32, layer: u32) -> Option<u32>
         requires cell { cell < self.now.width * self.now.planes.height }
@@ -229,8 +288,42 @@ impl<W: ColumnWords> RowBoard<W> {
         ensures { let b = self.now in let words = b.planes.words.items in
             result ≡ object_shown b.members.table.items b.planes.height words cell layer }
     {
-        let planes = self.members.of(layer);
-        self.planes.first_plane(cell, planes)
+        let range = self.range_for(cell, layer);
+        self.planes.first_plane(cell, self.members.in_range(range))
+    }
+
+    /// Whether an object is one of a layer, and its plane has a cell.
+    fn holds(&self, object: u32, cell: u32, layer: u32) -> bool
+        requires { (object + 1) * self.now.planes.height ≤ vec_len self.now.planes.words }
+        ensures { let b = self.now in let own = is_number (slice_get b.members.table.items object) layer in
+            result ≡ (own && has_cell b.planes.height b.planes.words.items cell object) }
+    {
+        self.members.is_on(object, layer) && self.planes.has_cell(cell, object)
+    }
+
+    /// The number of the object that stands on a layer of a cell, if one does: of the planes that have a marked row, the
+    /// one of the layer that has the cell.
+    #[inline(never)]
+    fn object_of_many(&self, cell: u32, layer: u32) -> Option<u32>
+        requires many { MANY_PLANES ≤ length self.now.members.table.items }
+        requires cell { cell < self.now.width * self.now.planes.height }
+        requires layer { layer < self.now.layers }
+        ensures shown { let b = self.now in let words = b.planes.words.items in
+            result ≡ object_shown b.members.table.items b.planes.height words cell layer }
+        ensures plane { let b = self.now in let words = b.planes.words.items in
+            IfSome result (λ object. (object + 1) * b.planes.height ≤ length words) }
+        ensures cell { let b = self.now in let words = b.planes.words.items in
+            IfSome result (λ object. has_cell b.planes.height words cell object ≡ true) }
+    {
+        let objects = self.members.count();
+        let mut plane = self.planes.next_marked(&self.planes, 0, objects);
+        while plane < objects {
+            if self.holds(plane, cell, layer) {
+                return Some(plane);
+            }
+            plane = self.planes.next_marked(&self.planes, plane + 1, objects);
+        }
+        None
     }
 
     /// Writes a layer of a row in these columns, and answers whether one of its slots changed. The row is noted where
@@ -437,6 +530,55 @@ impl<W: ColumnWords> RowBoard<W> {
         let objects = self.members.of(layer);
         same_planes_on(&self.planes, &other.planes, self.width, objects, rows)
     }
+
+    /// Whether an object stands in the same cells of some rows on another board of the same size for the same game. One
+    /// whose layer the board doesn't have stands nowhere.
+    fn same_object_on(&self, other: &RowBoard<W>, object: u32, rows: Columns<W>) -> bool
+        requires object { object < length self.now.members.table.items }
+        requires height { other.now.planes.height ≡ self.now.planes.height }
+        requires layers { other.now.layers ≡ self.now.layers }
+        requires table { other.now.members.table.items ≡ self.now.members.table.items }
+        ensures same { let b = self.now in let p = b.planes in let there = other.now.planes.words.items in
+            result ≡ true → (layer : ℕ) → layer < b.layers → slice_get b.members.table.items object ≡ Some layer →
+            IsSamePlaneOn b.width p.height rows p.words.items there object }
+        ensures other { let b = self.now in let p = b.planes in let there = other.now.planes.words.items in
+            ((layer : ℕ) → layer < b.layers → slice_get b.members.table.items object ≡ Some layer →
+            IsSamePlane b.width p.height p.words.items there object) → result ≡ true }
+    {
+        let layer = self.members.layer_of(object);
+        if self.layers <= layer {
+            return true;
+        }
+        same_plane_on(&self.planes, &other.planes, self.width, object, rows)
+    }
+
+    /// Whether all objects stand in the same cells of some rows on another board of the same size for the same game.
+    /// Those that stand nowhere on both are passed over.
+    #[inline(never)]
+    fn same_marked_on(&self, other: &RowBoard<W>, rows: Columns<W>) -> bool
+        requires many { MANY_PLANES ≤ length self.now.members.table.items }
+        requires height { other.now.planes.height ≡ self.now.planes.height }
+        requires layers { other.now.layers ≡ self.now.layers }
+        requires table { other.now.members.table.items ≡ self.now.members.table.items }
+        ensures same { let b = self.now in let p = b.planes in let table = b.members.table.items in
+            let there = other.now.planes.words.items in
+            result ≡ true → (layer : ℕ) → layer < b.layers →
+            AreSamePlanesOn b.width p.height rows p.words.items there (on_layer table layer) }
+        ensures other { let b = self.now in let p = b.planes in let table = b.members.table.items in
+            let there = other.now.planes.words.items in
+            ((layer : ℕ) → layer < b.layers →
+            AreSamePlanes b.width p.height p.words.items there (on_layer table layer)) → result ≡ true }
+    {
+        let objects = self.members.count();
+        let mut object = self.planes.next_marked(&other.planes, 0, objects);
+        while object < objects {
+            if !self.same_object_on(other, object, rows) {
+                return false;
+            }
+            object = self.planes.next_marked(&other.planes, object + 1, objects);
+        }
+        true
+    }
 }
 
 impl<W: ColumnWords> Board for RowBoard<W> {
@@ -562,7 +704,7 @@ impl<W: ColumnWords> Board for RowBoard<W> {
 
     fn copy_into(&self, other: &mut RowBoard<W>) {
         let planes = self.planes_used(other);
-        self.planes.copy_into(&mut other.planes, planes as usize);
+        self.planes.copy_into(&mut other.planes, planes);
         other.may_move = self.may_move;
         start_anew(&other.planes, &mut other.origin, &mut other.touched);
     }
@@ -632,6 +774,9 @@ impl<W: ColumnWords> Board for RowBoard<W> {
     /// The row is compared in the planes of all objects.
     fn differing(&self, other: &RowBoard<W>, row: u32) -> Columns<W> {
         let objects = self.members.count();
+        if are_many(objects) {
+            return self.planes.differing_in(&other.planes, row, objects);
+        }
         let here = self.planes.words.as_slice();
         let there = other.planes.words.as_slice();
         differing_row(here, there, self.planes.height, row, objects)
@@ -654,6 +799,9 @@ impl<W: ColumnWords> Board for RowBoard<W> {
         if !self.stand_still(other) {
             return self.same(other);
         }
+        if are_many(self.members.count()) {
+            return self.same_marked_on(other, *rows);
+        }
         for step in 0..self.layers {
             if !self.same_layer_on(other, self.layers - 1 - step, *rows) {
                 return false;
@@ -669,6 +817,9 @@ impl<W: ColumnWords> Board for RowBoard<W> {
             return;
         }
         let objects = self.members.count();
+        if are_many(objects) {
+            return self.copy_into(other);
+        }
         self.planes.copy_rows(&mut other.planes, objects, *rows);
         start_anew(&other.planes, &mut other.origin, &mut other.touched);
     }

@@ -6,10 +6,12 @@ ghost use Rattle.std.specs.List.{list_any};
 ghost use Rattle.ps_model.specs.declared.limits.TheConstants.{SIDE_LIMIT};
 ghost use Rattle.ps_board.specs.ColumnSets.{column_at};
 ghost use Rattle.ps_rows.specs.MixedPlanes.{mixed_planes};
+ghost use Rattle.ps_rows.specs.declared.used_planes.TheConstants.{MANY_PLANES};
 ghost use Rattle.ps_rows.specs.Planes.{AreSameFrom, AreSets, row_of};
 ghost use Rattle.ps_rows.specs.RowDifferences.{LeadBothWays, row_changed, rows_changed};
 
 use crate::planes::{Planes, plane_row};
+use crate::used_planes::are_many;
 use ps_board::{ColumnWords, Columns};
 use ps_model::Memory;
 use std::alloc::Global;
@@ -99,6 +101,7 @@ fn add_rows<W: ColumnWords>(
 
 /// Adds the rows, of some, in which a plane differs, where the planes before it have been added. A plane with many
 /// marked rows is looked at as a whole before.
+#[inline(always)]
 fn add_differences<W: ColumnWords>(
     first: &Planes<W>,
     second: &Planes<W>,
@@ -190,6 +193,41 @@ fn add_many<W: ColumnWords>(
 }
 
 /// Adds the rows, of some, in which so many planes differ, the first ones. Answers whether they aren't more than half
+/// of all rows; some are left out, where they are. Planes that neither side has marked are passed over.
+#[inline(never)]
+fn add_marked<W: ColumnWords>(
+    first: &Planes<W>,
+    second: &Planes<W>,
+    planes: u32,
+    rows: Columns<W>,
+    found: &mut Vec<RowDifference<Columns<W>>>,
+) -> Result<bool, Memory>
+    requires many { MANY_PLANES ≤ planes }
+    requires height { second.now.height ≡ first.now.height }
+    requires count { vec_len second.now.words ≡ vec_len first.now.words }
+    requires planes { planes * first.now.height ≤ vec_len first.now.words }
+    requires rows { (row : ℕ) → row < SIDE_LIMIT → first.now.height ≤ row → column_at rows row ≡ false }
+    requires before { let p = first.now in
+        let mixed = mixed_planes p.height rows p.words.items second.now.words.items in
+        LeadBothWays p.height 0 p.words.items mixed found.old.items }
+    ensures { let p = first.now in
+        let mixed = mixed_planes p.height rows p.words.items second.now.words.items in
+        IfOk result (λ enough. enough ≡ true →
+        LeadBothWays p.height (planes * p.height) p.words.items mixed found.new.items) }
+{
+    let most = first.words.len() / 2;
+    let mut plane = first.next_marked(second, 0, planes);
+    while plane < planes {
+        add_differences(first, second, plane, rows, found)?;
+        if most < found.len() {
+            return Ok(false);
+        }
+        plane = first.next_marked(second, plane + 1, planes);
+    }
+    Ok(true)
+}
+
+/// Adds the rows, of some, in which so many planes differ, the first ones. Answers whether they aren't more than half
 /// of all rows; some are left out, where they are.
 fn add_all<W: ColumnWords>(
     first: &Planes<W>,
@@ -214,6 +252,41 @@ fn add_all<W: ColumnWords>(
         return add_few(first, second, planes, rows, found);
     }
     add_many(first, second, planes, rows, found)
+}
+
+/// What `differences` answers of many planes: those that neither side has marked are passed over.
+///
+/// # Errors
+///
+/// `Memory`.
+#[inline(never)]
+fn differences_of_many<W: ColumnWords>(
+    alloc: Global,
+    first: &Planes<W>,
+    second: &Planes<W>,
+    planes: u32,
+    rows: Columns<W>,
+) -> Result<Option<Vec<RowDifference<Columns<W>>>>, Memory>
+    requires many { MANY_PLANES ≤ planes }
+    requires height { second.now.height ≡ first.now.height }
+    requires count { vec_len second.now.words ≡ vec_len first.now.words }
+    requires planes { planes * first.now.height ≤ vec_len first.now.words }
+    requires rest { AreSameFrom (planes * first.now.height) first.now.words.items second.now.words.items }
+    ensures forth { let p = first.now in
+        let mixed = mixed_planes p.height rows p.words.items second.now.words.items in
+        IfOk result (λ found. IfSome found (λ rows. rows_changed p.height p.words.items rows.items ≡ mixed)) }
+    ensures back { let p = first.now in
+        let mixed = mixed_planes p.height rows p.words.items second.now.words.items in
+        IfOk result (λ found. IfSome found (λ rows. rows_changed p.height mixed rows.items ≡ p.words.items)) }
+{
+    let mut found = Vec::new(alloc);
+    let all = Columns::below(first.height);
+    let within = rows.both(all);
+    let enough = add_marked(first, second, planes, within, &mut found)?;
+    if !enough {
+        return Ok(None);
+    }
+    Ok(Some(found))
 }
 
 /// The rows, of some, in which planes differ from others, as many of the same height, of which so many, the first ones,
@@ -241,11 +314,14 @@ pub fn differences<W: ColumnWords>(
         let mixed = mixed_planes p.height rows p.words.items second.now.words.items in
         IfOk result (λ found. IfSome found (λ rows. rows_changed p.height mixed rows.items ≡ p.words.items)) }
 {
+    if are_many(planes) {
+        return differences_of_many(alloc, first, second, planes, rows);
+    }
     let mut found = Vec::new(alloc);
-    let marked = first.planes_marked(second, planes as usize);
+    let marked = first.planes_marked(second, planes);
     let all = Columns::below(first.height);
     let within = rows.both(all);
-    let enough = add_all(first, second, marked as u32, within, &mut found)?;
+    let enough = add_all(first, second, marked, within, &mut found)?;
     if !enough {
         return Ok(None);
     }

@@ -155,6 +155,7 @@ fn first_board<B: Drop, S: Drop>(step: BoardStep<B, S>) -> Option<B>
 }
 
 /// The board to which a step leads, and the step back.
+#[inline(always)]
 fn taken<W: ColumnWords>(
     board: Box<RowBoard<W>>,
     step: RowStep<W>,

@@ -121,7 +121,7 @@ pub fn same_planes<W: ColumnWords>(
 
 /// Whether a plane has the same cells in some rows on two boards of this width. Rows that neither has marked aren't
 /// read.
-fn same_plane_on<W: ColumnWords>(
+pub fn same_plane_on<W: ColumnWords>(
     first: &Planes<W>,
     second: &Planes<W>,
     width: u32,

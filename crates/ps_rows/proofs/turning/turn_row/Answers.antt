@@ -3,7 +3,7 @@ use Rattle.ps_board.specs.ColumnSets.{both_columns, column_at, columns_below, un
 use Rattle.ps_rows.specs.PackedKeys.{AreTurned}
 use Rattle.ps_rows.specs.Planes.{row_of}
 use Rattle.ps_rows.specs.TurnedPlaces.{in_row, row_differs}
-use Rattle.ps_rows.proofs.TurnedKeys.{so_far-all, so_far-init, so_far-more}
+use Rattle.ps_rows.proofs.TurnedKeys.{kept-more, so_far-all, so_far-init, so_far-more}
 use Rattle.ps_rows.proofs.TurnedPlaces.{differing_at, plane_enough, planes_first, planes_more, planes_none}
 use Rattle.ps_rows.proofs.TurnedPlaces.{row_differs_from, some_cell, within_all}
 use Rattle.ps_rows.proofs.turning.turn_row.Goals as goal
@@ -116,3 +116,14 @@ returns-clause-turned g c =
 
 pub returns-clause-kept : goal.returns-clause-kept
 returns-clause-kept g c = c.loop-plane.invariant.so_far.kept
+
+pub returns-in_err-turn_columns-clause-kept : goal.returns-in_err-turn_columns-clause-kept
+returns-in_err-turn_columns-clause-kept g c =
+    let n = c.args.noted.now in
+    let b = c.args.from.now in
+    let now = c.loop-plane.noted in
+    let then = c.turn_columns.new.noted in
+    kept-more (row_differs n.width n.height (length b.members.table.items) b.planes.words.items
+    c.args.to.now.planes.words.items c.args.row) n.numbers.items (length n.places.items) c.args.key.now.words
+    now.numbers.items (length now.places.items) then.numbers.items (length then.places.items)
+    c.loop-plane.invariant.so_far.kept c.turn_columns.ensures.kept

@@ -1,5 +1,5 @@
-use Rattle.std.proofs.Common.{◌∙◌, ℕ, List, sym, subst}
-use Rattle.ps_rows.specs.Members.{AreRangesOf}
+use Rattle.std.proofs.Common.{◌∙◌, ℕ, List, ap, map, sym, subst}
+use Rattle.ps_rows.specs.Members.{AreRangesOf, short_range}
 use Rattle.ps_rows.proofs.MemberRanges.{no_ranges}
 use Rattle.ps_rows.proofs.Passed.{same_order}
 use Rattle.ps_rows.proofs.members.Members.try_new.Goals as goal
@@ -35,3 +35,6 @@ pub returns-clause-layers : goal.returns-clause-layers
 returns-clause-layers c =
     c.loop-layer.invariant.long ∙ same_order c.loop-layer.layer c.args.layers c.loop-layer.auto.layer-end
     c.loop-layer-test.false
+
+pub invariant_of-result-clause-shorter : goal.invariant_of-result-clause-shorter
+invariant_of-result-clause-shorter c = c.in_ok-short.ensures ∙ ap (map short_range) c.deref-2.ensures.value

@@ -3,11 +3,12 @@ use Rattle.std.proofs.lemmas.List.{get_or_read}
 use Rattle.ps_rows.proofs.Marked.{plane_indexed}
 use Rattle.ps_rows.proofs.PlaneCopies.{marked_plane, plane_blank, sets_planes, unmarked_plane}
 use Rattle.ps_rows.specs.Planes.{row_of}
-use Rattle.ps_board.specs.ColumnSets.{no_columns, set_columns}
+use Rattle.ps_board.specs.ColumnSets.{column_at, no_columns, set_columns}
 use Rattle.std.specs.Vec.{with_items}
 use Rattle.std.proofs.lemmas.List.{with_items_is}
 use Rattle.ps_rows.specs.PlaneCopies.{ArePlanesOf}
-use Rattle.ps_rows.proofs.Sets.{set_where}
+use Rattle.ps_rows.proofs.Sets.{none_at, set_where}
+use Rattle.ps_rows.proofs.UsedPlanes.{uses_marked}
 use Rattle.ps_rows.proofs.planes.Planes.clear_marked.Goals as goal
 
 pub returns-then-is_empty-clause-words : goal.returns-then-is_empty-clause-words
@@ -88,3 +89,17 @@ returns-clause-count g c = refl
 
 pub returns-clause-marks : goal.returns-clause-marks
 returns-clause-marks g c = refl
+
+pub invariant_of-self-clause-noted : goal.invariant_of-self-clause-noted
+invariant_of-self-clause-noted g c = λ many.
+    let p = c.args.self.now in
+    let counted : c.args.plane < p.index.len =
+    plane_indexed p.index.len p.height c.args.plane p.words.len p.some_row p.whole c.requires in
+    let N : ℕ → Type 0 = λ n. c.args.plane < n in
+    let own : c.args.plane < length p.index.items = subst N p.index.ok.0 counted in
+    uses_marked p.index.len c.args.plane c.none.result p.index.items p.used.words.items p.used.words.items own
+    (λ off row low. ap (λ (w : List Bool). column_at w row) c.none.ensures ∙ none_at row) (λ each off. off)
+    (p.noted many)
+
+pub invariant_of-self-clause-room : goal.invariant_of-self-clause-room
+invariant_of-self-clause-room g c = c.args.self.now.room

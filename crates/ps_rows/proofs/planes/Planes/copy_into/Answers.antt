@@ -1,73 +1,23 @@
-use Rattle.std.proofs.Common.{◌≡◌, ◌*◌, ◌<◌, ◌≤◌, ◌∙◌, ℕ, Bool, List, length, refl, sym, arith}
-use Rattle.ps_board.specs.ColumnSets.{no_columns}
-use Rattle.ps_rows.specs.PlaneCopies.{ArePlanesOf}
+use Rattle.std.proofs.Common.{◌≡◌, ◌∙◌, ◌*◌, Bool, List, ap, subst, sym}
+use Rattle.std.specs.Vec.{vec_len}
 use Rattle.ps_rows.specs.Planes.{AreSameFrom}
-use Rattle.ps_rows.specs.Sameness.{DifferOnlyOnRows}
-use Rattle.ps_rows.proofs.PlaneCopies.{all_copied, planes_and_rest, same_from}
-use Rattle.ps_rows.proofs.Passed.{own_order, planes_counted, planes_enough, words_whole}
 use Rattle.ps_rows.proofs.planes.Planes.copy_into.Goals as goal
 
--- with the planes that are marked all are copied: those behind them are the same
-all_of_marked : (height planes marked count long : ℕ) (source others after : List (List Bool)) → 0 < height →
-    long ≡ length source → long ≡ count * height → planes * height ≤ long → marked ≤ planes →
-    length after ≡ length source → AreSameFrom (planes * height) source others →
-    ((plane : ℕ) → marked ≤ plane → plane < planes → DifferOnlyOnRows height plane source others no_columns) →
-    ArePlanesOf height 0 marked source others after → after ≡ source
-all_of_marked height planes marked count long source others after some all whole within few long' rest same copied =
-    all_copied height count source others after some (words_whole count height long source all whole) long'
-    (planes_and_rest height planes count source others after (planes_counted height planes count long some whole within)
-    (λ plane from below. same_from height planes source others rest plane from)
-    (planes_and_rest height marked planes source others after few same copied))
-
-pub returns-then-marked-most-clause-words : goal.returns-then-marked-most-clause-words
-returns-then-marked-most-clause-words g c =
-    let p = c.args.self.now in
-    let after = c.copy_planes.new.other.words in
-    all_of_marked p.height c.args.planes c.planes_marked-marked.result p.index.len p.words.len p.words.items
-    c.args.other.now.words.items after.items p.some_row p.words.ok.0 p.whole c.requires.within
-    c.planes_marked-marked.ensures.few
-    (sym after.ok.0 ∙ c.copy_planes.ensures.count ∙ c.requires.count ∙ p.words.ok.0) c.requires.rest
-    c.planes_marked-marked.ensures.same c.copy_planes.ensures.words
-
-pub returns-clause-words : goal.returns-clause-words
-returns-clause-words g c =
-    let p = c.args.self.now in
-    let after = c.copy_pieces.new.other.words in
-    all_of_marked p.height c.args.planes c.planes_marked-marked.result p.index.len p.words.len p.words.items
-    c.args.other.now.words.items after.items p.some_row p.words.ok.0 p.whole c.requires.within
-    c.planes_marked-marked.ensures.few
-    (sym after.ok.0 ∙ c.copy_pieces.ensures.count ∙ p.words.ok.0) c.requires.rest
-    c.planes_marked-marked.ensures.same c.copy_pieces.ensures.words
-
-pub planes_marked-marked-requires : goal.planes_marked-marked-requires
-planes_marked-marked-requires g c =
+pub note_all-requires : goal.note_all-requires
+note_all-requires g c =
     record {
-      height = c.requires.height;
-      here = c.requires.within;
-      there = planes_enough c.args.self.now.height c.args.planes c.args.planes c.args.self.now.words.len
-          c.args.other.now.words.len (own_order c.args.planes) c.requires.within c.requires.count;
+      height = sym c.requires.height;
+      count = sym c.requires.count;
     }
 
-pub copy_planes-requires : goal.copy_planes-requires
-copy_planes-requires g c =
+pub copy_noted-requires : goal.copy_noted-requires
+copy_noted-requires g c =
     let p = c.args.self.now in
-    let few = c.planes_marked-marked.ensures.few in
-    let marked : ℕ = c.planes_marked-marked.result in
+    let S : List (List Bool) → Type 0 = AreSameFrom (c.args.planes * p.height) p.words.items in
     record {
-      order = omega arith;
-      height = c.requires.height;
-      here = planes_enough p.height marked c.args.planes p.words.len p.words.len few c.requires.within refl;
-      there = planes_enough p.height marked c.args.planes p.words.len c.args.other.now.words.len few c.requires.within
-          c.requires.count;
-    }
-
-pub copy_pieces-requires : goal.copy_pieces-requires
-copy_pieces-requires g c =
-    let p = c.args.self.now in
-    let few = c.planes_marked-marked.ensures.few in
-    record {
-      height = c.requires.height;
-      here = planes_enough p.height c.planes_marked-marked.result c.args.planes p.words.len p.words.len few
-          c.requires.within refl;
-      count = c.requires.count;
+      height = c.note_all.ensures.height ∙ c.requires.height;
+      count = c.note_all.ensures.count ∙ c.requires.count;
+      within = c.requires.within;
+      rest = subst S (sym c.note_all.ensures.words) c.requires.rest;
+      uses = c.note_all.ensures.uses;
     }

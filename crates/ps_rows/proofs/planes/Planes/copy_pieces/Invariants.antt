@@ -10,4 +10,5 @@ invariant-loop-plane g l =
       copied : ArePlanesOf l.self.height 0 l.first l.self.words.items l.initial.other.words.items l.other.words.items;
       height : l.other.height ≡ l.self.height;
       count : l.other.words.len ≡ l.self.words.len;
+      uses : l.other.used.words.items ≡ l.initial.other.used.words.items;
     }

@@ -1,4 +1,7 @@
-use Rattle.std.proofs.Common.{◌≡◌, ◌≢◌, ◌∙◌, ◌+◌, ◌-◌, ◌*◌, ◌<◌, ◌≤◌, ℕ, Bool, List, length, refl, sym, subst, arith}
+use Rattle.std.proofs.Common.{◌≡◌, ◌≢◌, ◌∙◌, ◌+◌, ◌-◌, ◌*◌, ◌/◌, ◌<◌, ◌≤◌, ℕ, Bool, List, length, refl, sym, ap, subst, arith}
+use Rattle.ps_rows.specs.UsedPlanes.{AreUsesNoted}
+use Rattle.ps_rows.specs.declared.used_planes.TheConstants.{MANY_PLANES}
+use Rattle.ps_rows.proofs.UsedPlanes.{counts_same, uses_copied}
 use Rattle.std.specs.Vec.{with_items}
 use Rattle.std.proofs.lemmas.List.{with_items_is}
 use Rattle.ps_rows.specs.PlaneCopies.{AreCopied}
@@ -130,3 +133,30 @@ returns-clause-height g c = c.requires.height
 
 pub returns-clause-count : goal.returns-clause-count
 returns-clause-count g c = refl
+
+pub invariant_of-other-clause-noted : goal.invariant_of-other-clause-noted
+invariant_of-other-clause-noted g c = λ many.
+    let p = c.args.self.now in
+    let o = c.args.other.now in
+    let mine : List (List Bool) = c.copy_sets-2.new.others in
+    let high : length mine ≡ o.index.len = c.copy_sets-2.ensures.long ∙ c.as_mut_slice-index.ensures.len in
+    let I : List (List Bool) → Type 0 = λ ws. AreCopied c.args.first c.args.end ws c.as_mut_slice-index.result.now mine
+    in
+    let J : List (List Bool) → Type 0 = λ ws. AreCopied c.args.first c.args.end p.index.items ws mine in
+    let K : List (List Bool) → Type 0 = λ ws. AreCopied c.args.first c.args.end p.index.items o.index.items ws in
+    let copied : AreCopied c.args.first c.args.end p.index.items o.index.items (with_items o.index mine).items =
+    subst K (sym (with_items_is o.index mine high))
+    (subst J c.as_mut_slice-index.ensures.value (subst I c.as_slice-2.ensures.value c.copy_sets-2.ensures.copied)) in
+    let M : ℕ → Type 0 = λ n. AreUsesNoted n p.index.items p.used.words.items in
+    let L : ℕ → Type 0 = λ n. MANY_PLANES ≤ n in
+    let same : o.index.len ≡ p.index.len = counts_same o.index.len p.index.len o.height p.height o.words.len p.words.len
+    p.some_row o.whole p.whole c.requires.height c.requires.count in
+    uses_copied o.index.len c.args.first c.args.end p.index.items o.index.items (with_items o.index mine).items
+    p.used.words.items o.used.words.items copied c.requires.uses (subst M (sym same) (p.noted (subst L same many)))
+    (o.noted many)
+
+pub invariant_of-other-clause-room : goal.invariant_of-other-clause-room
+invariant_of-other-clause-room g c = c.args.other.now.room
+
+pub returns-clause-uses : goal.returns-clause-uses
+returns-clause-uses g c = refl

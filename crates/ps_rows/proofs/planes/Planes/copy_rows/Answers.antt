@@ -1,4 +1,7 @@
-use Rattle.std.proofs.Common.{◌≡◌, ◌∙◌, ◌*◌, ◌≤◌, ℕ, Bool, List, length, ap, sym, subst}
+use Rattle.std.proofs.Common.{◌≡◌, ◌∙◌, ◌+◌, ◌*◌, ◌/◌, ◌≤◌, ℕ, Bool, List, length, ap, sym, subst}
+use Rattle.ps_rows.specs.UsedPlanes.{AreUsesNoted, sets_for}
+use Rattle.ps_rows.specs.declared.used_planes.TheConstants.{MANY_PLANES}
+use Rattle.ps_rows.proofs.UsedPlanes.{counts_same, uses_taken}
 use Rattle.std.specs.Vec.{with_items}
 use Rattle.std.proofs.lemmas.List.{with_items_is}
 use Rattle.ps_board.specs.ColumnSets.{both_columns}
@@ -100,3 +103,36 @@ returns-clause-words g c =
 
 pub returns-clause-height : goal.returns-clause-height
 returns-clause-height g c = c.requires.height
+
+pub invariant_of-other-clause-noted : goal.invariant_of-other-clause-noted
+invariant_of-other-clause-noted g c = λ many.
+    let p = c.args.self.now in
+    let o = c.args.other.now in
+    let end : ℕ = c.args.planes in
+    let within : List Bool = c.both-within.result in
+    let mine : List (List Bool) = c.take_marks.new.others in
+    let high : length mine ≡ o.index.len = c.take_marks.ensures.long ∙ c.as_mut_slice-index.ensures.len in
+    let I : List (List Bool) → Type 0 = λ ws. AreMarksTaken end within ws c.as_mut_slice-index.result.now mine in
+    let J : List (List Bool) → Type 0 = λ ws. AreMarksTaken end within p.index.items ws mine in
+    let K : List (List Bool) → Type 0 = λ ws. AreMarksTaken end within p.index.items o.index.items ws in
+    let taken : AreMarksTaken end within p.index.items o.index.items (with_items o.index mine).items =
+    subst K (sym (with_items_is o.index mine high))
+    (subst J c.as_mut_slice-index.ensures.value (subst I c.as_slice-2.ensures.value c.take_marks.ensures.marks)) in
+    let M : ℕ → Type 0 = λ n. AreUsesNoted n p.index.items p.used.words.items in
+    let L : ℕ → Type 0 = λ n. MANY_PLANES ≤ n in
+    let same : o.index.len ≡ p.index.len = counts_same o.index.len p.index.len o.height p.height o.words.len p.words.len
+    p.some_row o.whole p.whole c.requires.height c.requires.count in
+    uses_taken o.index.len end within p.index.items o.index.items (with_items o.index mine).items p.used.words.items
+    o.used.words.items c.join.new.self.words.items taken c.join.ensures.joined c.join.ensures.kept
+    (subst M (sym same) (p.noted (subst L same many))) (o.noted many)
+
+pub invariant_of-other-clause-room : goal.invariant_of-other-clause-room
+invariant_of-other-clause-room g c = c.join.ensures.long ∙ c.args.other.now.room
+
+pub join-requires : goal.join-requires
+join-requires g c =
+    let p = c.args.self.now in
+    let o = c.args.other.now in
+    let same : o.index.len ≡ p.index.len = counts_same o.index.len p.index.len o.height p.height o.words.len p.words.len
+    p.some_row o.whole p.whole c.requires.height c.requires.count in
+    p.room ∙ ap sets_for (sym same) ∙ sym o.room

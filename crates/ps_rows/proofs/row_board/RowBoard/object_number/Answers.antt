@@ -1,14 +1,14 @@
-use Rattle.std.proofs.Common.{◌∙◌, sym, refl}
-use Rattle.ps_rows.specs.Showing.{object_shown}
-use Rattle.ps_rows.proofs.Puts.{planes_whole}
+use Rattle.std.proofs.Common.{◌∙◌, ap}
+use Rattle.std.specs.Prelude.{find}
+use Rattle.ps_rows.specs.Planes.{has_cell}
 use Rattle.ps_rows.proofs.row_board.RowBoard.object_number.Goals as goal
 
 pub first_plane-requires : goal.first_plane-requires
-first_plane-requires g c =
-    let b = c.args.self.now in
-    rw c.of-planes.ensures (planes_whole b.members.table.items b.layers b.planes.height b.planes.words.items
-    c.args.layer (sym b.planes.words.ok.0 ∙ b.whole))
+first_plane-requires g c = rw c.in_range.ensures c.range_for-range.ensures.planes
 
 pub returns : goal.returns
-unfolding object_shown
-returns g c = rw (c.first_plane.ensures, c.of-planes.ensures) refl
+returns g c =
+    let b = c.args.self.now in
+    c.first_plane.ensures
+    ∙ ap (find (has_cell b.planes.height b.planes.words.items c.args.cell)) c.in_range.ensures
+    ∙ c.range_for-range.ensures.object

@@ -1,5 +1,6 @@
 use Rattle.std.proofs.Common.{◌≡◌, ◌∙◌, ℕ, List, length, ap, sym}
 use Rattle.std.proofs.lemmas.Option.{same_Some}
+use Rattle.ps_rows.proofs.Alike.{other_whole}
 use Rattle.ps_rows.proofs.CopiedBoards.{copied_grid, copied_motions, copied_objects, copied_rest}
 use Rattle.ps_rows.proofs.Touched.{none_touched}
 use Rattle.ps_rows.proofs.row_board.RowBoardBoard.copy_rows.Goals as goal
@@ -83,3 +84,12 @@ returns-clause-origin g c =
     (sym o.planes.words.ok.0 ∙ o.whole) (sym new.words.ok.0 ∙ c.copy_rows.ensures.count ∙ o.planes.words.ok.0)
     c.count-objects.result c.count-objects.ensures.value
     (c.stand_still.ensures c.if-not-stand_still.false) c.copy_rows.ensures.words c.requires.only)
+
+pub copy_rows-requires-clause-count : goal.copy_rows-requires-clause-count
+copy_rows-requires-clause-count g c =
+    let b = c.args.self.now in
+    let o = c.args.other.now in
+    other_whole b.members.table.items o.members.table.items b.layers o.layers b.planes.height o.planes.height
+    o.planes.words.len (same_Some o.members.table.items b.members.table.items c.requires.table) c.requires.layers
+    c.requires.height o.whole
+    ∙ sym b.whole

@@ -1,6 +1,6 @@
 use Rattle.std.proofs.Common.{◌≡◌, false, take}
 use Rattle.ps_rows.specs.RowChanges.{AreRowsChanged, AreRowsLeft}
-use Rattle.ps_rows.proofs.changes.change_rows.Given as goal
+use Rattle.ps_rows.proofs.changes.change_each.Given as goal
 
 -- the planes passed by have their row changed, and the answer so far is theirs
 abbrev pub invariant-loop-plane : goal.invariant-loop-plane
