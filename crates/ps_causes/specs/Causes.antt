@@ -15,13 +15,15 @@ use Rattle.ps_model.specs.text.TextFaults.{line_of_place}
 use Rattle.ps_text.specs.declared.cutting.Word.{Word}
 use Rattle.ps_causes.specs.declared.causes.Blank.{Blank}
 use Rattle.ps_causes.specs.declared.causes.Blank.TheVariants.{Space, Tab, CarriageReturn, Comment}
+use Rattle.ps_causes.specs.declared.causes.ByteOrder.{ByteOrder}
+use Rattle.ps_causes.specs.declared.causes.ByteOrder.TheVariants.{LowFirst, HighFirst}
 use Rattle.ps_causes.specs.declared.causes.Clue.{Clue}
 use Rattle.ps_causes.specs.declared.causes.Hint.{Hint}
 use Rattle.ps_causes.specs.declared.causes.Hint.TheVariants.{Nothing, Near, Strange, KeyWord, Joins}
 use Rattle.ps_causes.specs.declared.causes.Cause.{Cause}
 use Rattle.ps_causes.specs.declared.causes.Cause.TheVariants.{Untold, Undeclared, Meaningless, Unlayered, UnknownGlyph}
 use Rattle.ps_causes.specs.declared.causes.Cause.TheVariants.{BrokenRow, LateHeader, MissingSection, Twice, Slip}
-use Rattle.ps_causes.specs.declared.causes.Cause.TheVariants.{Slashes, LikeHeader}
+use Rattle.ps_causes.specs.declared.causes.Cause.TheVariants.{Slashes, LikeHeader, OpenGlyph, BelowLike, Utf16}
 use Rattle.ps_causes.specs.declared.causes.Cause.TheVariants.{InRule, InLoop, InWhole, InObject, OnlyCommas, BrokenByte}
 use Rattle.ps_facts.specs.declared.names.Named.{Named}
 use Rattle.ps_facts.specs.declared.slips.Slip as slips
@@ -34,6 +36,7 @@ use Rattle.ps_facts.specs.LineWords.{IsWordOf, texts_of}
 use Rattle.ps_facts.specs.NamesShown.{is_own}
 use Rattle.ps_facts.specs.Near.{IsNear}
 use Rattle.ps_causes.specs.ObjectCauses.{IsToldOfObject}
+use Rattle.ps_causes.specs.OpenGlyphs.{IsOpenGlyph}
 use Rattle.ps_causes.specs.Loops.{IsToldOfLoop}
 use Rattle.ps_causes.specs.RuleCauses.{IsToldOfRule}
 use Rattle.ps_causes.specs.WholeCauses.{IsToldOfWhole}
@@ -175,6 +178,24 @@ pub record IsLikeHeader (text : List ℕ) (line : ℕ) (word : Word) (section : 
   pub like : IsLikeHeaderOf text (header_word section) line
   pub missing : has_section (header_lines (lines_of text)) section ≡ false
 
+-- a word of a line of OBJECTS below one that is written much like the header of a section. That is no header, and no
+-- other line is one of the section
+pub record IsBelowLike (text : List ℕ) (line : ℕ) (word : Word) (section : Section) (above : ℕ) : Type 0 where
+  pub stands : IsWordOf text line word
+  pub own : is_own Objects (line_at text line) ≡ true
+  pub below : above < line
+  pub like : IsLikeHeaderOf text (header_word section) above
+  pub missing : has_section (header_lines (lines_of text)) section ≡ false
+
+-- the two bytes with which a text in UTF-16 begins
+abbrev pub bytes_of_order : ByteOrder → List ℕ
+bytes_of_order LowFirst = 255 ∷ 254 ∷ []
+bytes_of_order HighFirst = 254 ∷ 255 ∷ []
+
+-- the text begins with them
+abbrev pub IsUtf16 : List ℕ → ByteOrder → Type 0
+IsUtf16 text order = starts_with nat_eq text (bytes_of_order order) ≡ true
+
 -- a word of a line of its section that stands where it can't
 pub record IsSlip (text : List ℕ) (line : ℕ) (word : Word) (slip : slips.Slip) : Type 0 where
   pub stands : IsWordOf text line word
@@ -212,3 +233,6 @@ IsToldAt text line (InWhole cause) = IsToldOfWhole text line cause
 IsToldAt text line (InObject cause) = IsToldOfObject text line cause
 IsToldAt text line (OnlyCommas place) = AreOnlyCommas text line place
 IsToldAt text line (BrokenByte place byte) = IsBrokenByte text place byte
+IsToldAt text line (OpenGlyph row character column open_name) = IsOpenGlyph text line row character column open_name
+IsToldAt text line (BelowLike word section above) = IsBelowLike text line word section above
+IsToldAt text line (Utf16 order) = IsUtf16 text order

@@ -1,5 +1,5 @@
 -- What a section that isn't there may come from: a line written much like its header, a comment that nothing closes,
--- line ends without a line feed.
+-- line ends without a line feed, zero bytes.
 use Rattle.std.specs.Prelude.{◌≡◌, ◌≤◌, ◌+◌, ◌-◌, ℕ, ⊤, nat_eq, Bool, false, true, ◌||◌, if◌then◌else◌, Some, List, []}
 use Rattle.std.specs.Prelude.{◌∷◌, drop, slice_get}
 use Rattle.std.specs.List.{list_any}
@@ -11,7 +11,7 @@ use Rattle.ps_model.specs.text.Lines.{Line, depth_behind, is_line_feed}
 use Rattle.ps_model.specs.text.Sections.{is_of}
 use Rattle.ps_model.specs.text.TextFaults.{line_of_place}
 use Rattle.ps_causes.specs.declared.causes.Clue.{Clue}
-use Rattle.ps_causes.specs.declared.causes.Clue.TheVariants.{Nothing, Like, Open, Returns}
+use Rattle.ps_causes.specs.declared.causes.Clue.TheVariants.{Nothing, Like, Open, Returns, Zero}
 use Rattle.ps_causes.specs.LikeHeaders.{header_word, IsLikeHeaderOf}
 
 -- comments that are open so often before bytes are closed by none of them
@@ -40,3 +40,4 @@ IsClue text section (Like line) = IsLikeHeaderOf text (header_word section) line
 IsClue text section (Open line) = IsOpenAt text line
 IsClue text section (Returns place) =
     (list_any is_line_feed text ≡ false) × ((1 ≤ place) × (slice_get text (place - 1) ≡ Some 13))
+IsClue text section (Zero place) = (1 ≤ place) × (slice_get text (place - 1) ≡ Some 0)

@@ -6,6 +6,7 @@ pub mod LikeHeaders
 pub mod Loops
 pub mod Meant
 pub mod ObjectCauses
+pub mod OpenGlyphs
 pub mod Pairs
 pub mod RuleCauses
 pub mod Unbound

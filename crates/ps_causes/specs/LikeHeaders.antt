@@ -10,7 +10,7 @@ use Rattle.ps_model.specs.declared.texts.Section.TheVariants.{Levels}
 use Rattle.ps_model.specs.text.LineNumbers.{line_at, HasLine}
 use Rattle.ps_model.specs.text.Lines.{folded}
 use Rattle.ps_text.specs.WordViews.{texts_under}
-use Rattle.ps_facts.specs.Near.{AreWithinOne}
+use Rattle.ps_facts.specs.Near.{AreWithinOne, AreWithinTwo}
 
 -- the word of a section's header
 abbrev pub header_word : Section → List ℕ
@@ -35,11 +35,15 @@ letters word = flat_map letter word
 abbrev pub letters_of : List (List ℕ) → List ℕ
 letters_of words = flat_map letters words
 
--- words are written much like a header: its word stands first, or one edit at most makes it of their letters
+-- one edit at most makes one of the other, or two do
+abbrev pub AreNearly : List ℕ → List ℕ → Type 0
+AreNearly word other = AreWithinOne word other ⊎ AreWithinTwo word other
+
+-- words are written much like a header: its word stands first, or one or two edits make it of their letters
 abbrev pub AreLike : List (List ℕ) → List ℕ → Type 0
 AreLike words header =
     (bytes_eq (folded (slice_index_or words 0 [])) (folded header) ≡ true)
-    ⊎ AreWithinOne (folded (letters_of words)) (folded header)
+    ⊎ AreNearly (folded (letters_of words)) (folded header)
 
 -- a line of the text is no header, but written much like one of that word
 pub record IsLikeHeaderOf (text : List ℕ) (header : List ℕ) (line : ℕ) : Type 0 where

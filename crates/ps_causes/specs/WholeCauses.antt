@@ -1,4 +1,4 @@
--- Why a name that the whole game has can't be that, and when that is true of the text.
+-- Why a name for several objects can't be that, and when that is true of the text.
 use Rattle.std.specs.Prelude.{◌≡◌, ℕ, nat_eq, true, false, List}
 use Rattle.ps_text.specs.declared.cutting.Word.{Word}
 use Rattle.ps_facts.specs.declared.names.Named.{Named}
@@ -9,7 +9,7 @@ use Rattle.ps_facts.specs.LayerWords.{IsInLayer}
 use Rattle.ps_facts.specs.LineWords.{IsWordOf}
 use Rattle.ps_facts.specs.Signs.{is_same}
 use Rattle.ps_causes.specs.declared.causes.WholeCause.{WholeCause}
-use Rattle.ps_causes.specs.declared.causes.WholeCause.TheVariants.{AllAtOnce, OnTwoLayers}
+use Rattle.ps_causes.specs.declared.causes.WholeCause.TheVariants.{AllAtOnce, OnTwoLayers, OnOneLayer}
 
 -- a word of a line that a line of LEGEND with `and` declares
 pub record IsAllAtOnce (text : List ℕ) (line : ℕ) (word : Word) (first : Named) : Type 0 where
@@ -27,8 +27,17 @@ pub record IsOnTwoLayers (text : List ℕ) (line : ℕ) (word : Word) (layer : �
   pub has_other : IsInLayer text other.text.now other_layer
   pub two : nat_eq layer other_layer ≡ false
 
+-- two words of a line that stand in one line of COLLISIONLAYERS
+pub record IsOnOneLayer (text : List ℕ) (line : ℕ) (word other : Word) (layer : ℕ) : Type 0 where
+  pub stands : IsWordOf text line word
+  pub other_stands : IsWordOf text line other
+  pub has_word : IsInLayer text word.text.now layer
+  pub has_other : IsInLayer text other.text.now layer
+  pub two : is_same word.text.now other.text.now ≡ false
+
 -- what is said about such a name is true
 abbrev pub IsToldOfWhole : List ℕ → ℕ → WholeCause → Type 0
 IsToldOfWhole text line (AllAtOnce word first) = IsAllAtOnce text line word first
 IsToldOfWhole text line (OnTwoLayers word layer other other_layer) =
     IsOnTwoLayers text line word layer other other_layer
+IsToldOfWhole text line (OnOneLayer word other layer) = IsOnOneLayer text line word other layer

@@ -45,6 +45,14 @@ pub enum Cause<'a> {
         character: char,
         column: usize,
     },
+    /// A character of a row, the first word of the line, may be any of several objects. Its column counts from 1, at
+    /// the row's first character.
+    OpenGlyph {
+        row: Word<'a>,
+        character: char,
+        column: usize,
+        meant: OpenName<'a>,
+    },
     /// A row has characters on both sides of a blank, which stands right after its first word.
     BrokenRow {
         row: Word<'a>,
@@ -76,6 +84,13 @@ pub enum Cause<'a> {
         word: Word<'a>,
         section: Section,
     },
+    /// A line above the word's, which is one of OBJECTS, is written much like the header of a section that the text
+    /// hasn't.
+    BelowLike {
+        word: Word<'a>,
+        section: Section,
+        above: u32,
+    },
     /// The word stands where it can't.
     Slip {
         word: Word<'a>,
@@ -85,7 +100,7 @@ pub enum Cause<'a> {
     InRule(RuleCause<'a>),
     /// A loop begins or ends where it can't, or doesn't end.
     InLoop(LoopCause<'a>),
-    /// `Background` or `Player` can't be what it is.
+    /// A name for several objects can't be what it is, as `Background` or `Player`.
     InWhole(WholeCause<'a>),
     /// An object isn't written as one.
     InObject(ObjectCause<'a>),
@@ -98,6 +113,8 @@ pub enum Cause<'a> {
         place: usize,
         byte: u8,
     },
+    /// The text begins as one in UTF-16, with the bytes in that order.
+    Utf16(ByteOrder),
 }
 
 impl<'a> Cause<'a> {
@@ -108,6 +125,28 @@ impl<'a> Cause<'a> {
             _ => true,
         }
     }
+}
+
+/// What a name may be that stands for any of several objects.
+#[derive(Clone, Copy)]
+pub struct OpenName<'a> {
+    /// The line of LEGEND that says so.
+    pub declared: u32,
+    /// How many objects it may be.
+    pub count: usize,
+    /// The name of one of them.
+    pub first: Named<'a>,
+    /// The name of another one, if there is one.
+    pub second: Option<Named<'a>>,
+}
+
+/// In which order a text in UTF-16 has the two bytes with which it begins.
+#[derive(Clone, Copy)]
+pub enum ByteOrder {
+    /// FF FE
+    LowFirst,
+    /// FE FF
+    HighFirst,
 }
 
 /// Why a rule has a fault, where more words than one say so.
@@ -191,7 +230,7 @@ pub enum LoopCause<'a> {
     Unended { word: Word<'a> },
 }
 
-/// Why `Background` or `Player` has a fault.
+/// Why a name for several objects has a fault, `Background` and `Player` among them.
 #[derive(Clone, Copy)]
 pub enum WholeCause<'a> {
     /// A line of LEGEND makes the word several objects at once.
@@ -205,6 +244,12 @@ pub enum WholeCause<'a> {
         layer: u32,
         other: Word<'a>,
         other_layer: u32,
+    },
+    /// Two words, the one before the other, stand in one line of COLLISIONLAYERS.
+    OnOneLayer {
+        word: Word<'a>,
+        other: Word<'a>,
+        layer: u32,
     },
 }
 
@@ -275,6 +320,8 @@ pub enum Clue {
     Open(u32),
     /// The text has no line feed; the byte at that place, from 1, is a carriage return.
     Returns(usize),
+    /// The byte at that place, from 1, is zero.
+    Zero(usize),
 }
 
 /// What parts the words of a line.

@@ -10,10 +10,12 @@ use crate::counts::counts_cause;
 use crate::glyphs::glyph_cause;
 use crate::going_on::going_on_cause;
 use crate::headers::{late_cause, like_header_cause, missing_cause};
-use crate::looked_for::{LIKE_COMMENTS, MISPLACED, slips_of};
+use crate::hidden_headers::legend_cause;
+use crate::looked_for::{LIKE_COMMENTS, LONG_ARROW, MISPLACED, slips_of};
 use crate::loops::loop_cause;
 use crate::object_causes::{object_cause, row_name_cause};
 use crate::only_commas::commas_cause;
+use crate::open_glyphs::open_glyph_cause;
 use crate::pairs::pair_cause;
 use crate::rule_words::meaningless_cause;
 use crate::shares::Sought;
@@ -23,7 +25,7 @@ use crate::twice::twice_cause;
 use crate::unbound::unbound_cause;
 use crate::undeclared::undeclared_cause;
 use crate::unlayered::unlayered_cause;
-use crate::wholes::whole_cause;
+use crate::wholes::{one_layer_cause, whole_cause};
 use ps_facts::{declared_names, is_among};
 use ps_model::{Fault, FaultKind, Memory};
 use ps_text::Source;
@@ -65,11 +67,16 @@ fn name_again_cause<'a>(alloc: Global, source: &'a Source, line: u32) -> Result<
     slip_cause(alloc, source, line, slips_of(FaultKind::Twice))
 }
 
-/// A word of a rule that means nothing, or else one that can't stand where it stands.
+/// The front of an arrow that is too long, or else a word of a rule that means nothing. If there is none, one that can't
+/// stand where it stands.
 fn unknown_word_cause<'a>(alloc: Global, source: &'a Source, line: u32) -> Result<Cause<'a>, Memory>
     requires { HasLine source.now line }
     ensures { IfOk result (IsToldAt source.now line) }
 {
+    let cause = slip_cause(alloc, source, line, &LONG_ARROW)?;
+    if cause.is_told() {
+        return Ok(cause);
+    }
     let cause = meaningless_cause(alloc, source, line)?;
     if cause.is_told() {
         return Ok(cause);
@@ -77,7 +84,7 @@ fn unknown_word_cause<'a>(alloc: Global, source: &'a Source, line: u32) -> Resul
     slip_cause(alloc, source, line, &MISPLACED)
 }
 
-/// An object that no layer has, or else one that is read from a row of a sprite.
+/// An object that is read from a row of a sprite, or else from a header; or else one that no layer has.
 fn no_layer_cause<'a>(alloc: Global, source: &'a Source, line: u32) -> Result<Cause<'a>, Memory>
     requires { HasLine source.now line }
     ensures { IfOk result (IsToldAt source.now line) }
@@ -86,10 +93,15 @@ fn no_layer_cause<'a>(alloc: Global, source: &'a Source, line: u32) -> Result<Ca
     if cause.is_told() {
         return Ok(cause);
     }
+    let cause = legend_cause(alloc, source, line)?;
+    if cause.is_told() {
+        return Ok(cause);
+    }
     unlayered_cause(alloc, source, line)
 }
 
-/// A comment of a row that begins as elsewhere, where `/` is no name; or else a character of the row that is none.
+/// A comment of a row that begins as elsewhere, where `/` is no name; or else a word that is meant as `message`. If there
+/// is none, a character of the row that is no name.
 fn row_cause<'a>(
     alloc: Global,
     text: &[u8],
@@ -102,6 +114,10 @@ fn row_cause<'a>(
 {
     let cause = slashes_cause(alloc, source, line)?;
     if cause.is_told() && !is_among(&declared_names(alloc, source)?, "/") {
+        return Ok(cause);
+    }
+    let cause = slip_cause(alloc, source, line, slips_of(FaultKind::UnknownGlyph))?;
+    if cause.is_told() {
         return Ok(cause);
     }
     glyph_cause(alloc, text, source, line)
@@ -167,8 +183,11 @@ fn other_line_cause<'a>(
         return Ok(Cause::Untold);
     }
     let cause = slashes_cause(alloc, source, fault.line)?;
-    if cause.is_told() || fault.kind == FaultKind::BadObject {
+    if cause.is_told() {
         return Ok(cause);
+    }
+    if fault.kind == FaultKind::BadObject {
+        return legend_cause(alloc, source, fault.line);
     }
     let cause = slip_cause(alloc, source, fault.line, &LIKE_COMMENTS)?;
     if cause.is_told() {
@@ -198,6 +217,8 @@ fn own_cause<'a>(
         FaultKind::NoSection => missing_cause(alloc, text, source),
         FaultKind::Twice => name_again_cause(alloc, source, fault.line),
         FaultKind::UnknownGlyph => row_cause(alloc, text, source, fault.line),
+        FaultKind::PropertyGlyph => open_glyph_cause(alloc, source, fault.line),
+        FaultKind::SameLayerAggregate => one_layer_cause(alloc, source, fault.line),
         FaultKind::NameTwice => name_twice_cause(alloc, source, fault.line),
         FaultKind::Impossible => impossible_cause(alloc, source, fault.line),
         FaultKind::BadLine => bad_line_cause(alloc, text, source, fault.line),

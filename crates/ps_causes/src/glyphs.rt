@@ -15,7 +15,7 @@ use ps_text::{Source, Word};
 use std::alloc::Global;
 
 /// How many characters of a row are looked at most, so that no row takes long.
-const MOST_CHARACTERS: usize = 4096;
+pub const MOST_CHARACTERS: usize = 4096;
 
 /// Whether a character alone is among the names.
 fn is_name(names: &[Named<'_>], character: char) -> bool

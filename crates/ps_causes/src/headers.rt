@@ -6,13 +6,16 @@ ghost use Rattle.ps_model.specs.text.Lines.{lines_of};
 ghost use Rattle.ps_model.specs.text.Sections.{rank, header_lines, has_section};
 ghost use Rattle.ps_causes.specs.Causes.{AreThereBefore, IsToldAt, IsLaterHeader, begins, is_needed};
 ghost use Rattle.ps_causes.specs.Clues.{IsClue};
-ghost use Rattle.ps_causes.specs.LikeHeaders.{AreLike, IsLikeHeaderOf, header_word, letter, letters, letters_of};
+ghost use Rattle.ps_causes.specs.LikeHeaders.{AreLike, AreNearly, IsLikeHeaderOf, header_word, letter, letters};
+ghost use Rattle.ps_causes.specs.LikeHeaders.{letters_of};
+ghost use Rattle.ps_model.specs.text.Lines.{folded};
 ghost use Rattle.ps_text.specs.WordViews.{text_of};
 
 use crate::causes::{Cause, Clue};
 use crate::comments::open_comment;
 use crate::returns::lone_return;
-use ps_facts::{are_within_one, rank, words_of};
+use crate::zeros::first_zero;
+use ps_facts::{are_within_one, are_within_two, rank, words_of};
 use ps_model::{Cut, Memory, Section};
 use ps_text::{Source, Word, same_name, words};
 use std::alloc::Global;
@@ -69,7 +72,7 @@ fn begins(source: &Source, line: u32, section: Section) -> bool
 }
 
 /// Whether the text has the section.
-fn has_section(source: &Source, section: Section) -> bool
+pub fn has_section(source: &Source, section: Section) -> bool
     ensures { result ≡ has_section (header_lines (lines_of source.now)) section }
 {
     for line in 1..source.lines() + 1 {
@@ -102,7 +105,7 @@ fn missing_section(source: &Source) -> Option<Section>
 const MOST_WORDS: usize = 4;
 
 /// The word of a section's header.
-fn header_of(section: Section) -> &'static str
+pub fn header_of(section: Section) -> &'static str
     ensures { result.now ≡ header_word section }
 {
     match section {
@@ -148,8 +151,40 @@ fn letters_of(alloc: Global, words: &[Word<'_>]) -> Result<String, Memory>
     Ok(made)
 }
 
+/// Whether a word is a header but for two neighbours, which stand the other way round.
+fn are_swapped(word: &[u8], header: &[u8]) -> bool {
+    if word.len() != header.len() {
+        return false;
+    }
+    for at in 0..word.len() {
+        if word[at] != header[at] {
+            return at + 1 < word.len()
+                && word[at] == header[at + 1]
+                && word[at + 1] == header[at]
+                && word[at + 2..].eq_ignore_ascii_case(&header[at + 2..]);
+        }
+    }
+    false
+}
+
+/// How many letters a header has at least that is compared with words which two edits make of it.
+const LONG_HEADER: usize = 12;
+
+/// Whether one edit makes a word a header. Two edits may do where they swap neighbours, and in a long header.
+fn are_nearly(word: &[u8], header: &[u8]) -> bool
+    ensures { result ≡ true → AreNearly (folded word.now) (folded header.now) }
+{
+    if are_within_one(word, header) {
+        return true;
+    }
+    if header.len() < LONG_HEADER && !are_swapped(word, header) {
+        return false;
+    }
+    are_within_two(word, header)
+}
+
 /// Whether words are written much like a header: its word with others after it, or words whose letters one edit makes
-/// the header's.
+/// the header's, or two.
 fn are_like(alloc: Global, words: &[Word<'_>], header: &str) -> Result<bool, Memory>
     ensures { IfOk result (λ are. are ≡ true → AreLike (map text_of words.now) header.now) }
 {
@@ -160,11 +195,11 @@ fn are_like(alloc: Global, words: &[Word<'_>], header: &str) -> Result<bool, Mem
         return Ok(true);
     }
     let letters = letters_of(alloc, words)?;
-    Ok(are_within_one(letters.as_bytes(), header.as_bytes()))
+    Ok(are_nearly(letters.as_bytes(), header.as_bytes()))
 }
 
 /// Whether a line is no header, but written much like one of that word.
-fn is_like(alloc: Global, source: &Source, line: u32, header: &str) -> Result<bool, Memory>
+pub fn is_like(alloc: Global, source: &Source, line: u32, header: &str) -> Result<bool, Memory>
     requires { HasLine source.now line }
     ensures { IfOk result (λ is. is ≡ true → IsLikeHeaderOf source.now header.now line) }
 {
@@ -192,6 +227,9 @@ fn clue_of(alloc: Global, text: &[u8], source: &Source, section: Section) -> Res
     requires { source.now ≡ text.now }
     ensures { IfOk result (λ clue. IsClue source.now section clue) }
 {
+    if let Some(place) = first_zero(text) {
+        return Ok(Clue::Zero(place));
+    }
     if let Some(line) = open_comment(text, source) {
         return Ok(Clue::Open(line));
     }
@@ -229,7 +267,7 @@ const OPTIONAL: [Section; 4] = [
 ];
 
 /// That a line is written much like the header of a section, if the text hasn't that.
-fn like_cause<'a>(
+pub fn like_cause<'a>(
     alloc: Global,
     source: &'a Source,
     line: u32,

@@ -13,12 +13,14 @@ mod finding;
 mod glyphs;
 mod going_on;
 mod headers;
+mod hidden_headers;
 mod hints;
 mod looked_for;
 mod loops;
 mod meanings;
 mod object_causes;
 mod only_commas;
+mod open_glyphs;
 mod pairs;
 mod returns;
 mod rule_words;
@@ -30,10 +32,11 @@ mod unbound;
 mod undeclared;
 mod unlayered;
 mod wholes;
+mod zeros;
 
-pub use broken_bytes::broken_byte;
+pub use broken_bytes::no_utf8_cause;
 pub use causes::{
-    Blank, Cause, Clue, Could, Further, Hint, LoopCause, NoRow, ObjectCause, Part, RuleCause,
-    Shared, Spot, WholeCause, WhyNoRow,
+    Blank, ByteOrder, Cause, Clue, Could, Further, Hint, LoopCause, NoRow, ObjectCause, OpenName,
+    Part, RuleCause, Shared, Spot, WholeCause, WhyNoRow,
 };
 pub use finding::cause_of;

@@ -50,6 +50,9 @@ pub const MISPLACED: [Slip; 7] = [
     Slip::Place(PlaceSlip::NoCommand),
 ];
 
+/// That of a rule whose arrow is too long, so that its front is a word without a meaning.
+pub const LONG_ARROW: [Slip; 1] = [Slip::Shape(ShapeSlip::LongArrow)];
+
 /// Those of a line that is meant as a comment.
 pub const LIKE_COMMENTS: [Slip; 2] = [
     Slip::Rule(RuleSlip::RuleComment),
@@ -68,6 +71,11 @@ pub fn slips_of(kind: FaultKind) -> &'static [Slip] {
         FaultKind::Twice => &[Slip::Form(FormSlip::NameAgain)],
         FaultKind::LateMove => &[Slip::Rule(RuleSlip::LateMove)],
         FaultKind::Realtime => &[Slip::Form(FormSlip::RealTime)],
+        FaultKind::BadFlickscreen => &[
+            Slip::Form(FormSlip::RoomSize),
+            Slip::Form(FormSlip::NoRoomSize),
+        ],
+        FaultKind::UnknownGlyph => &[Slip::Form(FormSlip::LikeMessage)],
         _ => &[],
     }
 }

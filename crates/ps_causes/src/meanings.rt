@@ -113,6 +113,13 @@ fn is_among(objects: &[ObjectId], object: ObjectId) -> bool
     objects.iter().any(|other| object.0 == other.0)
 }
 
+/// Whether an object is one of those of a meaning.
+pub fn has_member(object: ObjectId, meaning: Option<&Meaning>) -> bool
+    ensures { result ≡ is_among (members_if (option_map (λ m. meaning_shown m.now) meaning.entry)) object }
+{
+    is_among(members_of(meaning), object)
+}
+
 /// Whether a meaning is that object, or several at once with it.
 pub fn has_object(object: ObjectId, meaning: Option<&Meaning>) -> bool
     ensures { result ≡ has_object object (option_map (λ m. meaning_shown m.now) meaning.entry) }

@@ -233,11 +233,15 @@ fn has_long_second(alloc: Global, source: &Source, line: u32) -> Result<bool, Me
     Ok(characters.len() > 1)
 }
 
-/// That the name line of an object has a third word, or a second one of more than one character.
+/// That the name line of an object is one of LEGEND, or has a third word, or a second one of more than one character.
 fn names_cause<'a>(alloc: Global, source: &'a Source, line: u32) -> Result<Cause<'a>, Memory>
     requires { HasLine source.now line }
     ensures { IfOk result (IsToldAt source.now line) }
 {
+    let cause = slip_cause(alloc, source, line, &[Slip::Form(FormSlip::LegendLine)])?;
+    if cause.is_told() {
+        return Ok(cause);
+    }
     if has_long_second(alloc, source, line)? {
         return slip_cause(alloc, source, line, &[Slip::Form(FormSlip::SecondName)]);
     }

@@ -40,7 +40,7 @@ fn is_object(names: &Names, name: &str, object: ObjectId) -> bool
 }
 
 /// The first of the names that is that of an object.
-fn name_of<'a>(names: &Names, known: &[Named<'a>], object: ObjectId) -> Option<Named<'a>>
+pub fn name_of<'a>(names: &Names, known: &[Named<'a>], object: ObjectId) -> Option<Named<'a>>
     ensures among { IfSome result (IsAmong known.now) }
     ensures named { IfSome result (λ named. meaning_of names.now named.name.now ≡ Some (One object)) }
 {

@@ -1,4 +1,4 @@
-//! Why `Background` and `Player` can't be what they are.
+//! Why names for several objects can't be what they are, `Background` and `Player` among them.
 
 ghost use Rattle.std.specs.Prelude.{◌≡◌, ◌<◌, ℕ, List, All, IfOk, IfSome, length, map};
 ghost use Rattle.ps_model.specs.text.LineNumbers.{HasLine};
@@ -11,7 +11,7 @@ ghost use Rattle.ps_causes.specs.Causes.{IsToldAt};
 use crate::causes::{Cause, WholeCause};
 use ps_facts::{MOST_WORDS, Named, Sign, declared_names, joined_by, layer_line_with, words_of};
 use ps_model::Memory;
-use ps_text::{Source, Word};
+use ps_text::{Source, Word, same_name};
 use std::alloc::Global;
 
 /// That a word at a place stands for several objects at once, if a line of LEGEND makes it so.
@@ -130,4 +130,126 @@ pub fn whole_cause<'a>(alloc: Global, source: &'a Source, line: u32) -> Result<C
         return Ok(cause);
     }
     layers_cause(alloc, source, line, &words)
+}
+
+/// How many names of a line are looked at most whether they share a layer, so that no text takes long.
+const MOST_JOINED: usize = 128;
+
+/// The line of COLLISIONLAYERS of the word at a place of a line of LEGEND, if that is a name after the `=`.
+fn layer_line_at(
+    alloc: Global,
+    source: &Source,
+    words: &[Word<'_>],
+    at: usize,
+) -> Result<Option<u32>, Memory>
+    requires { at < length words.now }
+{
+    if !is_mention(at) {
+        return Ok(None);
+    }
+    layer_line_with(alloc, source, words[at].text())
+}
+
+/// Those of all words of the line, up to a limit.
+fn layer_lines(
+    alloc: Global,
+    source: &Source,
+    words: &[Word<'_>],
+) -> Result<Vec<Option<u32>>, Memory> {
+    let mut lines = Vec::new(alloc);
+    for at in 0..words.len().min(MOST_JOINED) {
+        let line = layer_line_at(alloc, source, words, at)?;
+        lines.push(line)?;
+    }
+    Ok(lines)
+}
+
+/// The place of the first line among these that is that one.
+fn first_place(lines: &[Option<u32>], line: Option<u32>) -> Option<usize> {
+    let sought = line?;
+    for at in 0..lines.len() {
+        if let Some(other) = lines[at] {
+            if other == sought {
+                return Some(at);
+            }
+        }
+    }
+    None
+}
+
+/// Two places of a line.
+#[derive(Clone, Copy)]
+struct Places {
+    before: usize,
+    at: usize,
+}
+
+/// The places of the first line among these that there is twice.
+fn places_of_two(lines: &[Option<u32>]) -> Option<Places> {
+    for at in 0..lines.len() {
+        if let Some(before) = first_place(&lines[..at], lines[at]) {
+            return Some(Places { before, at });
+        }
+    }
+    None
+}
+
+/// That two words of a line lie on one layer.
+fn together_cause<'a>(
+    alloc: Global,
+    source: &Source,
+    line: u32,
+    word: Word<'a>,
+    other: Word<'a>,
+) -> Result<Cause<'a>, Memory>
+    requires word { IsWordOf source.now line word }
+    requires other { IsWordOf source.now line other }
+    ensures { IfOk result (IsToldAt source.now line) }
+{
+    if same_name(word.text(), other.text()) {
+        return Ok(Cause::Untold);
+    }
+    let Some(layer) = layer_line_with(alloc, source, word.text())? else {
+        return Ok(Cause::Untold);
+    };
+    let Some(other_layer) = layer_line_with(alloc, source, other.text())? else {
+        return Ok(Cause::Untold);
+    };
+    if layer != other_layer {
+        return Ok(Cause::Untold);
+    }
+    Ok(Cause::InWhole(WholeCause::OnOneLayer { word, other, layer }))
+}
+
+/// The first two names after the `=` of a line of LEGEND that lie on one layer, where its words are these.
+fn two_on_layer<'a>(
+    alloc: Global,
+    source: &Source,
+    line: u32,
+    words: &[Word<'a>],
+) -> Result<Cause<'a>, Memory>
+    requires { All (IsWordOf source.now line) words.now }
+    ensures { IfOk result (IsToldAt source.now line) }
+{
+    let lines = layer_lines(alloc, source, words)?;
+    let Some(places) = places_of_two(&lines) else {
+        return Ok(Cause::Untold);
+    };
+    if places.at >= words.len() || places.before >= words.len() {
+        return Ok(Cause::Untold);
+    }
+    together_cause(alloc, source, line, words[places.at], words[places.before])
+}
+
+/// The first two names after the `=` of a line of LEGEND that lie on one layer.
+pub fn one_layer_cause<'a>(
+    alloc: Global,
+    source: &'a Source,
+    line: u32,
+) -> Result<Cause<'a>, Memory>
+    requires { HasLine source.now line }
+    ensures { IfOk result (IsToldAt source.now line) }
+{
+    let words = words_of(alloc, source, line)?;
+    two_on_layer(alloc, source, line, &words)
 }

@@ -6,7 +6,7 @@ use Rattle.ps_model.specs.text.Lines.{folded}
 use Rattle.ps_facts.specs.declared.signs.Sign.{Sign}
 use Rattle.ps_facts.specs.declared.signs.Sign.TheVariants.{Opening, Closing, Bar, Arrow, Late, Without, LoopStart}
 use Rattle.ps_facts.specs.declared.signs.Sign.TheVariants.{LoopEnd, Message, Rigid, Equals, And, Or, On, RealTime}
-use Rattle.ps_facts.specs.declared.signs.Sign.TheVariants.{Ellipsis}
+use Rattle.ps_facts.specs.declared.signs.Sign.TheVariants.{Ellipsis, Rooms}
 
 -- words that are one
 abbrev pub is_same : List ℕ → List ℕ → Bool
@@ -30,6 +30,7 @@ sign_text Or = codes "or"
 sign_text On = codes "on"
 sign_text RealTime = codes "realtime_interval"
 sign_text Ellipsis = codes "..."
+sign_text Rooms = codes "flickscreen"
 
 -- the word is that sign
 abbrev pub is_sign : Sign → List ℕ → Bool

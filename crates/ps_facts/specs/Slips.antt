@@ -1,14 +1,14 @@
 -- What may be wrong with a word of a line, by the words before it and after it.
-use Rattle.std.specs.Prelude.{ℕ, ◌%◌, nat_eq, Bool, true, ◌&&◌, ◌||◌, not, List, [], ◌∷◌, length}
+use Rattle.std.specs.Prelude.{ℕ, ◌%◌, nat_eq, Bool, true, false, ◌&&◌, ◌||◌, not, List, [], ◌∷◌, length}
 use Rattle.ps_model.specs.declared.texts.Section.{Section}
-use Rattle.ps_model.specs.declared.texts.Section.TheVariants.{Prelude, Objects, Legend, Rules, Wins}
+use Rattle.ps_model.specs.declared.texts.Section.TheVariants.{Prelude, Objects, Legend, Rules, Wins, Levels}
 use Rattle.ps_facts.specs.declared.signs.Sign.{Sign}
 use Rattle.ps_facts.specs.declared.signs.Sign.TheVariants as sign
 use Rattle.ps_facts.specs.declared.slips.ShapeSlip.{ShapeSlip}
 use Rattle.ps_facts.specs.declared.slips.ShapeSlip.TheVariants.{LikeArrow, LikeBracket, NoArrow, SecondArrow}
 use Rattle.ps_facts.specs.declared.slips.ShapeSlip.TheVariants.{Nested, Unclosed}
 use Rattle.ps_facts.specs.declared.slips.ShapeSlip.TheVariants.{LoneClosing, NothingLeft, NothingRight, BarOutside}
-use Rattle.ps_facts.specs.declared.slips.ShapeSlip.TheVariants.{DirectionOutside, WordOutside}
+use Rattle.ps_facts.specs.declared.slips.ShapeSlip.TheVariants.{DirectionOutside, WordOutside, LongArrow}
 use Rattle.ps_facts.specs.declared.slips.RuleSlip.{RuleSlip}
 use Rattle.ps_facts.specs.declared.slips.RuleSlip.TheVariants.{LoopWords, MessageAlone, LateMove, Chance}
 use Rattle.ps_facts.specs.declared.slips.RuleSlip.TheVariants.{Rigid}
@@ -21,6 +21,7 @@ use Rattle.ps_facts.specs.declared.slips.FormSlip.TheVariants.{NoEquals, NoJoine
 use Rattle.ps_facts.specs.declared.slips.FormSlip.TheVariants.{NoQuantifier}
 use Rattle.ps_facts.specs.declared.slips.FormSlip.TheVariants.{NoOn, FurtherWord, WinEnds, SecondName, ThirdName}
 use Rattle.ps_facts.specs.declared.slips.FormSlip.TheVariants.{NameAgain, RealTime, WinComment}
+use Rattle.ps_facts.specs.declared.slips.FormSlip.TheVariants.{RoomSize, NoRoomSize, LikeMessage, LegendLine}
 use Rattle.ps_facts.specs.declared.slips.Slip.{Slip}
 use Rattle.ps_facts.specs.declared.slips.Slip.TheVariants.{Shape, Rule, Place, Form}
 use Rattle.ps_facts.specs.Places.{is_inside, comes_first, is_in_cell, parts_cells}
@@ -44,7 +45,11 @@ section_of (Form WinComment) = Wins
 section_of (Form SecondName) = Objects
 section_of (Form ThirdName) = Objects
 section_of (Form NameAgain) = Objects
+section_of (Form LegendLine) = Objects
 section_of (Form RealTime) = Prelude
+section_of (Form RoomSize) = Prelude
+section_of (Form NoRoomSize) = Prelude
+section_of (Form LikeMessage) = Levels
 
 -- there are `count` words
 abbrev pub are_so_many : ℕ → List (List ℕ) → Bool
@@ -58,9 +63,15 @@ are_odd words = nat_eq (length words % 2) 1
 abbrev pub lacks : Sign → List (List ℕ) → List ℕ → List (List ℕ) → Bool
 lacks sign before word behind = not (has_sign sign before) && (not (is_sign sign word) && not (has_sign sign behind))
 
+-- the first of the words is the arrow
+abbrev pub begins_with_arrow : List (List ℕ) → Bool
+begins_with_arrow [] = false
+begins_with_arrow (word ∷ words) = is_sign sign.Arrow word
+
 -- what is wrong with brackets, bars and arrow
 abbrev pub has_shape_slip : ShapeSlip → List (List ℕ) → List ℕ → List (List ℕ) → Bool
 has_shape_slip LikeArrow before word behind = lacks sign.Arrow before word behind
+has_shape_slip LongArrow before word behind = not (is_edge word) && begins_with_arrow behind
 has_shape_slip LikeBracket before word behind = not (is_edge word)
 has_shape_slip NoArrow before word behind = lacks sign.Arrow before word behind && are_so_many 0 behind
 has_shape_slip SecondArrow before word behind = is_sign sign.Arrow word && has_sign sign.Arrow before
@@ -137,8 +148,12 @@ has_form_slip WinEnds before word behind = are_so_many 0 behind && (are_so_many 
 has_form_slip SecondName before word behind = are_so_many 1 before
 has_form_slip ThirdName before word behind = are_so_many 2 before
 has_form_slip NameAgain before word behind = is_any before word
+has_form_slip LegendLine before word behind = are_so_many 1 before && is_sign sign.Equals word
 has_form_slip RealTime before word behind = are_so_many 0 before && is_sign sign.RealTime word
 has_form_slip WinComment before word behind = are_so_many 0 before && begins_comment word
+has_form_slip RoomSize before word behind = are_so_many 1 before && has_sign sign.Rooms before
+has_form_slip NoRoomSize before word behind = are_so_many 0 behind && is_sign sign.Rooms word
+has_form_slip LikeMessage before word behind = are_so_many 0 before && not (is_sign sign.Message word)
 
 -- what is wrong with a word, with these words before it and after it in its line
 abbrev pub has_slip : Slip → List (List ℕ) → List ℕ → List (List ℕ) → Bool

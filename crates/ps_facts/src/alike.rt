@@ -1,12 +1,16 @@
 //! Words that authors write in place of others.
 
+use crate::near::is_near;
 use crate::signs::is_one_of;
 
 /// What is written for the arrow of a rule.
-const LIKE_ARROWS: [&str; 9] = [
+const LIKE_ARROWS: [&str; 12] = [
     "=>",
     "=",
     "-",
+    "==>",
+    "--",
+    "~>",
     "\u{2192}",
     "\u{21d2}",
     "\u{2013}",
@@ -14,6 +18,9 @@ const LIKE_ARROWS: [&str; 9] = [
     "\u{2013}>",
     "\u{2014}>",
 ];
+
+/// What is written before `->` where an arrow is too long.
+const BEFORE_ARROWS: [&str; 6] = ["-", "--", "---", "=", "<", "<-"];
 
 /// What is written for the brackets of a rule.
 const LIKE_BRACKETS: [&str; 8] = [
@@ -36,9 +43,31 @@ const NOT_IN_CELLS: [&str; 12] = [
     "rigid",
 ];
 
+/// The word that a message of LEVELS begins with.
+const MESSAGE: &str = "message";
+
+/// Whether a word begins with `message` and goes on with something other than a letter.
+fn begins_message(word: &[u8]) -> bool {
+    if word.len() <= MESSAGE.len() {
+        return false;
+    }
+    word[..MESSAGE.len()].eq_ignore_ascii_case(MESSAGE.as_bytes())
+        && !word[MESSAGE.len()].is_ascii_alphabetic()
+}
+
+/// Whether a word is written much like `message`, or goes on after that.
+pub fn is_like_message(word: &str) -> bool {
+    is_near(word, MESSAGE) || begins_message(word.as_bytes())
+}
+
 /// Whether a word is written in place of `->`.
 pub fn is_like_arrow(word: &str) -> bool {
     is_one_of(&LIKE_ARROWS, word)
+}
+
+/// Whether a word is the front of an arrow that is too long, of which `->` is the end.
+pub fn is_before_arrow(word: &str) -> bool {
+    is_one_of(&BEFORE_ARROWS, word)
 }
 
 /// Whether a word begins or ends with what is written in place of `[` and `]`.

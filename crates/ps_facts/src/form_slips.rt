@@ -4,7 +4,8 @@ ghost use Rattle.std.specs.Prelude.{◌≡◌, true, map};
 ghost use Rattle.ps_text.specs.WordViews.{text_of};
 ghost use Rattle.ps_facts.specs.Slips.{are_odd, has_form_slip};
 
-use crate::signs::{Sign, begins_comment, is_any, is_quantifier, is_sign};
+use crate::alike::is_like_message;
+use crate::signs::{Sign, begins_comment, has_sign, is_any, is_quantifier, is_sign};
 use crate::slips::FormSlip;
 use ps_text::Word;
 
@@ -31,6 +32,21 @@ fn has_legend_slip(slip: FormSlip, before: &[Word<'_>], word: &str, behind: &[Wo
     }
 }
 
+/// Whether a word of a line of the prelude or of LEVELS has that slip, with these words before it and after it.
+fn has_end_slip(slip: FormSlip, before: &[Word<'_>], word: &str, behind: &[Word<'_>]) -> bool
+    ensures { result ≡ true → has_form_slip slip (map text_of before.now) word.now (map text_of behind.now) ≡ true }
+{
+    match slip {
+        FormSlip::RealTime => before.is_empty() && is_sign(Sign::RealTime, word),
+        FormSlip::RoomSize => before.len() == 1 && has_sign(Sign::Rooms, before),
+        FormSlip::NoRoomSize => behind.is_empty() && is_sign(Sign::Rooms, word),
+        FormSlip::LikeMessage => before.is_empty()
+            && !is_sign(Sign::Message, word)
+            && is_like_message(word),
+        _ => has_legend_slip(slip, before, word, behind),
+    }
+}
+
 /// Whether a word has that slip, with these words before it and after it in its line.
 pub fn has_form_slip(slip: FormSlip, before: &[Word<'_>], word: &str, behind: &[Word<'_>]) -> bool
     ensures { result ≡ true → has_form_slip slip (map text_of before.now) word.now (map text_of behind.now) ≡ true }
@@ -42,9 +58,9 @@ pub fn has_form_slip(slip: FormSlip, before: &[Word<'_>], word: &str, behind: &[
         FormSlip::WinEnds => behind.is_empty() && (before.is_empty() || before.len() == 2),
         FormSlip::SecondName => before.len() == 1,
         FormSlip::ThirdName => before.len() == 2,
+        FormSlip::LegendLine => before.len() == 1 && is_sign(Sign::Equals, word),
         FormSlip::NameAgain => is_any(before, word),
-        FormSlip::RealTime => before.is_empty() && is_sign(Sign::RealTime, word),
         FormSlip::WinComment => before.is_empty() && begins_comment(word),
-        _ => has_legend_slip(slip, before, word, behind),
+        _ => has_end_slip(slip, before, word, behind),
     }
 }

@@ -33,7 +33,7 @@ pub use key_words::is_key_word;
 pub use layers::{is_in_layers, layer_line_with, line_of_layer};
 pub use line_words::{MOST_WORDS, words_of};
 pub use names::{Named, declared_names, is_among, is_own, rank};
-pub use near::{are_within_one, nearest, nearest_key_word};
+pub use near::{are_within_one, are_within_two, nearest, nearest_key_word};
 pub use object_lines::{SpriteRows, object_line_below, rows_below};
 pub use objects::SPRITE_ROWS;
 pub use places::{are_parted, inside_behind, is_barred, is_in_cell, is_inside};

@@ -66,7 +66,7 @@ pub fn are_within_one(word: &[u8], other: &[u8]) -> bool
 }
 
 /// Whether two edits at most make one of the other.
-fn are_within_two(word: &[u8], other: &[u8]) -> bool
+pub fn are_within_two(word: &[u8], other: &[u8]) -> bool
     ensures { result ≡ true → AreWithinTwo (folded word.now) (folded other.now) }
 {
     let front = same_front(word, other);
@@ -104,6 +104,13 @@ fn is_two_away(word: &str, name: &str) -> bool
         return false;
     }
     are_within_two(word.as_bytes(), name.as_bytes())
+}
+
+/// Whether one edit at most makes a name of a word of three bytes at least, or two edits of a word of five.
+pub fn is_near(word: &str, name: &str) -> bool
+    ensures { result ≡ true → IsNear word.now name.now }
+{
+    is_one_away(word, name) || is_two_away(word, name)
 }
 
 /// Whether a name is so near to a word.

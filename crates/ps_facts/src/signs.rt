@@ -44,6 +44,8 @@ pub enum Sign {
     RealTime,
     /// `...`
     Ellipsis,
+    /// `flickscreen`
+    Rooms,
 }
 
 impl Sign {
@@ -68,6 +70,7 @@ impl Sign {
             Sign::On => "on",
             Sign::RealTime => "realtime_interval",
             Sign::Ellipsis => "...",
+            Sign::Rooms => "flickscreen",
         }
     }
 }

@@ -10,6 +10,8 @@ use ps_model::Section;
 pub enum ShapeSlip {
     /// The line has no `->`; the word is written much like one.
     LikeArrow,
+    /// The word makes an arrow of the `->` right after it that is too long.
+    LongArrow,
     /// The word is written in place of a bracket.
     LikeBracket,
     /// The line has no `->`; the word is its last.
@@ -95,12 +97,20 @@ pub enum FormSlip {
     SecondName,
     /// The third word of an object's name line.
     ThirdName,
+    /// `=` as the second word of an object's name line, as in a line of LEGEND.
+    LegendLine,
     /// A name that the same name line has before.
     NameAgain,
     /// `realtime_interval` begins a line of the prelude.
     RealTime,
     /// The first word of a win condition begins with `;` or `#`, as comments do elsewhere.
     WinComment,
+    /// The second word of a line of the prelude that begins with `flickscreen`.
+    RoomSize,
+    /// `flickscreen` alone in a line of the prelude.
+    NoRoomSize,
+    /// The first word of a line of LEVELS is written much like `message`.
+    LikeMessage,
 }
 
 /// What may be wrong with a word by its place in its line.
@@ -128,8 +138,12 @@ pub fn section_of(slip: Slip) -> Section
             | FormSlip::FurtherWord
             | FormSlip::WinEnds
             | FormSlip::WinComment => Section::Wins,
-            FormSlip::SecondName | FormSlip::ThirdName | FormSlip::NameAgain => Section::Objects,
-            FormSlip::RealTime => Section::Prelude,
+            FormSlip::SecondName
+            | FormSlip::ThirdName
+            | FormSlip::LegendLine
+            | FormSlip::NameAgain => Section::Objects,
+            FormSlip::RealTime | FormSlip::RoomSize | FormSlip::NoRoomSize => Section::Prelude,
+            FormSlip::LikeMessage => Section::Levels,
         },
     }
 }

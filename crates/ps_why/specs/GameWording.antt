@@ -1,10 +1,10 @@
--- What is said about loops, and of names that the whole game has, in words.
+-- What is said about loops, and of names for several objects, in words.
 use Rattle.std.specs.Prelude.{ℕ, Option, Some, None, List, ◌++◌, codes}
 use Rattle.std.specs.Fmt.{decimal}
 use Rattle.ps_causes.specs.declared.causes.LoopCause.{LoopCause}
 use Rattle.ps_causes.specs.declared.causes.LoopCause.TheVariants.{Nested, Unbegun, Unended}
 use Rattle.ps_causes.specs.declared.causes.WholeCause.{WholeCause}
-use Rattle.ps_causes.specs.declared.causes.WholeCause.TheVariants.{AllAtOnce, OnTwoLayers}
+use Rattle.ps_causes.specs.declared.causes.WholeCause.TheVariants.{AllAtOnce, OnTwoLayers, OnOneLayer}
 
 -- that a loop is open
 abbrev pub nested_words : ℕ → List ℕ
@@ -33,8 +33,15 @@ apart_words word layer other other_layer =
     codes "Line " ++ (decimal layer ++ (codes " of COLLISIONLAYERS has `" ++ (word ++ (codes "` and line "
     ++ (decimal other_layer ++ (codes " has `" ++ (other ++ codes "`: a background lies on one layer.")))))))
 
--- what is said about a name that the whole game has
+-- that two words stand in one line of COLLISIONLAYERS
+abbrev pub one_layer_words : List ℕ → List ℕ → ℕ → List ℕ
+one_layer_words word other layer =
+    codes "`and` joins objects of different lines of COLLISIONLAYERS: line " ++ (decimal layer ++ (codes " has both `"
+    ++ (other ++ (codes "` and `" ++ (word ++ codes "`.")))))
+
+-- what is said about a name for several objects
 abbrev pub whole_sentence : WholeCause → List ℕ
 whole_sentence (AllAtOnce word first) = at_once_words word.text.now first.line
 whole_sentence (OnTwoLayers word layer other other_layer) =
     apart_words word.text.now layer other.text.now other_layer
+whole_sentence (OnOneLayer word other layer) = one_layer_words word.text.now other.text.now layer

@@ -1,9 +1,11 @@
+pub mod CharacterCodes
 pub mod Columns
 pub mod GameWording
 pub mod Lines
 pub mod Marked
 pub mod Marks
 pub mod ObjectWording
+pub mod OpenWording
 pub mod Page
 pub mod RuleWording
 pub mod SectionNames

@@ -4,7 +4,7 @@ use Rattle.ps_text.specs.declared.cutting.Word.{Word}
 use Rattle.ps_causes.specs.declared.causes.Cause.{Cause}
 use Rattle.ps_causes.specs.declared.causes.Cause.TheVariants.{Untold, Undeclared, Meaningless, Unlayered, UnknownGlyph}
 use Rattle.ps_causes.specs.declared.causes.Cause.TheVariants.{BrokenRow, LateHeader, MissingSection, Twice, Slip}
-use Rattle.ps_causes.specs.declared.causes.Cause.TheVariants.{Slashes, LikeHeader}
+use Rattle.ps_causes.specs.declared.causes.Cause.TheVariants.{Slashes, LikeHeader, OpenGlyph, BelowLike, Utf16}
 use Rattle.ps_causes.specs.declared.causes.Cause.TheVariants.{InRule, InLoop, InWhole, InObject, OnlyCommas}
 use Rattle.ps_causes.specs.declared.causes.Cause.TheVariants.{BrokenByte}
 use Rattle.ps_causes.specs.declared.causes.LoopCause.{LoopCause}
@@ -14,7 +14,7 @@ use Rattle.ps_causes.specs.declared.causes.ObjectCause.TheVariants.{RowName, Col
 use Rattle.ps_causes.specs.declared.causes.RuleCause.{RuleCause}
 use Rattle.ps_causes.specs.declared.causes.RuleCause.TheVariants.{Pair, Several, Unbound, Rows, Cells, GoesOn}
 use Rattle.ps_causes.specs.declared.causes.WholeCause.{WholeCause}
-use Rattle.ps_causes.specs.declared.causes.WholeCause.TheVariants.{AllAtOnce, OnTwoLayers}
+use Rattle.ps_causes.specs.declared.causes.WholeCause.TheVariants.{AllAtOnce, OnTwoLayers, OnOneLayer}
 use Rattle.ps_why.specs.declared.marks.Mark.{Mark}
 use Rattle.ps_why.specs.declared.marks.Marks.{Marks}
 use Rattle.ps_why.specs.Lines.{goes_on}
@@ -32,6 +32,10 @@ alone mark = Some (record { mark = mark; other = None })
 -- below a word
 abbrev pub mark_of_word : Word → Option Marks
 mark_of_word word = alone (below word)
+
+-- below a word and another one before it
+abbrev pub marks_of_two : Word → Word → Option Marks
+marks_of_two word other = Some (record { mark = below word; other = Some (below other) })
 
 -- below the blank after a word
 abbrev pub mark_behind : Word → Option Marks
@@ -66,7 +70,7 @@ marked_in_rule (GoesOn word further) = word
 
 -- of two names both
 abbrev pub marks_in_rule : RuleCause → Option Marks
-marks_in_rule (Pair word other shared) = Some (record { mark = below word; other = Some (below other) })
+marks_in_rule (Pair word other shared) = marks_of_two word other
 marks_in_rule (Several word declared) = mark_of_word word
 marks_in_rule (Unbound word times could) = mark_of_word word
 marks_in_rule (Rows arrow left right) = mark_of_word arrow
@@ -83,6 +87,13 @@ marked_in_loop (Unended word) = word
 abbrev pub marked_in_whole : WholeCause → Word
 marked_in_whole (AllAtOnce word first) = word
 marked_in_whole (OnTwoLayers word layer other other_layer) = other
+marked_in_whole (OnOneLayer word other layer) = word
+
+-- of two words on one layer both
+abbrev pub marks_in_whole : WholeCause → Option Marks
+marks_in_whole (AllAtOnce word first) = mark_of_word word
+marks_in_whole (OnTwoLayers word layer other other_layer) = mark_of_word other
+marks_in_whole (OnOneLayer word other layer) = marks_of_two word other
 
 -- the word of an object's line
 abbrev pub marked_in_object : ObjectCause → Word
@@ -106,7 +117,10 @@ marks_of (LikeHeader word section) = mark_of_word word
 marks_of (Slip word slip) = mark_of_word word
 marks_of (InRule cause) = marks_in_rule cause
 marks_of (InLoop cause) = mark_of_word (marked_in_loop cause)
-marks_of (InWhole cause) = mark_of_word (marked_in_whole cause)
+marks_of (InWhole cause) = marks_in_whole cause
 marks_of (InObject cause) = mark_of_word (marked_in_object cause)
 marks_of (OnlyCommas place) = alone (record { from = place - 1; to = place })
+marks_of (OpenGlyph row character column open_name) = mark_of_character row column
+marks_of (BelowLike word section above) = mark_of_word word
+marks_of (Utf16 order) = None
 marks_of (BrokenByte place byte) = alone (record { from = place - 1; to = place })

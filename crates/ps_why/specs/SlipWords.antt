@@ -4,7 +4,7 @@ use Rattle.ps_facts.specs.declared.slips.ShapeSlip.{ShapeSlip}
 use Rattle.ps_facts.specs.declared.slips.ShapeSlip.TheVariants.{LikeArrow, LikeBracket, NoArrow, SecondArrow}
 use Rattle.ps_facts.specs.declared.slips.ShapeSlip.TheVariants.{Nested, Unclosed}
 use Rattle.ps_facts.specs.declared.slips.ShapeSlip.TheVariants.{LoneClosing, NothingLeft, NothingRight, BarOutside}
-use Rattle.ps_facts.specs.declared.slips.ShapeSlip.TheVariants.{DirectionOutside, WordOutside}
+use Rattle.ps_facts.specs.declared.slips.ShapeSlip.TheVariants.{DirectionOutside, WordOutside, LongArrow}
 use Rattle.ps_facts.specs.declared.slips.RuleSlip.{RuleSlip}
 use Rattle.ps_facts.specs.declared.slips.RuleSlip.TheVariants.{LoopWords, MessageAlone, LateMove, Chance}
 use Rattle.ps_facts.specs.declared.slips.RuleSlip.TheVariants.{Rigid}
@@ -17,12 +17,14 @@ use Rattle.ps_facts.specs.declared.slips.FormSlip.TheVariants.{NoEquals, NoJoine
 use Rattle.ps_facts.specs.declared.slips.FormSlip.TheVariants.{NoQuantifier}
 use Rattle.ps_facts.specs.declared.slips.FormSlip.TheVariants.{NoOn, FurtherWord, WinEnds, SecondName, ThirdName}
 use Rattle.ps_facts.specs.declared.slips.FormSlip.TheVariants.{NameAgain, RealTime, WinComment}
+use Rattle.ps_facts.specs.declared.slips.FormSlip.TheVariants.{RoomSize, NoRoomSize, LikeMessage, LegendLine}
 use Rattle.ps_facts.specs.declared.slips.Slip.{Slip}
 use Rattle.ps_facts.specs.declared.slips.Slip.TheVariants.{Shape, Rule, Place, Form}
 
 -- what stands before a word with a wrong bracket, bar or arrow
 abbrev pub shape_front : ShapeSlip → List ℕ
 shape_front LikeArrow = codes "No `->` stands in the line: `"
+shape_front LongArrow = codes "An arrow is `->` alone: take out `"
 shape_front LikeBracket = codes "The brackets of a rule are `[` and `]`: `"
 shape_front NoArrow = codes "No `->` stands in the line, which ends behind `"
 shape_front SecondArrow = codes "`"
@@ -38,6 +40,7 @@ shape_front WordOutside = codes "`"
 -- what stands after it
 abbrev pub shape_back : ShapeSlip → List ℕ
 shape_back LikeArrow = codes "` isn't one."
+shape_back LongArrow = codes "` before it."
 shape_back LikeBracket = codes "` is neither."
 shape_back NoArrow = codes "`: a rule has one, and is written in one line."
 shape_back SecondArrow = codes "` stands a second time."
@@ -108,6 +111,10 @@ form_front ThirdName = codes "An object's line has its name, and perhaps a secon
 form_front NameAgain = codes "`"
 form_front RealTime = codes "`"
 form_front WinComment = codes "A comment stands between `(` and `)`, and doesn't begin as `"
+form_front LegendLine = codes "A line as `X = Y` stands below the header LEGEND, and this one in OBJECTS: `"
+form_front RoomSize = codes "Behind `flickscreen` stands the size of a room in one word, as `5x5`: here stands `"
+form_front NoRoomSize = codes "No size of a room, as `5x5`, stands behind `"
+form_front LikeMessage = codes "A message begins with the word `message` and a blank: this line begins with `"
 
 -- what stands after it
 abbrev pub form_back : FormSlip → List ℕ
@@ -125,6 +132,10 @@ form_back NameAgain = codes "` is a name of this line already: upper and lower c
 form_back RealTime =
     codes "` is left out here, where all that happens follows a key: a rule with `again` goes on by itself."
 form_back WinComment = codes "`."
+form_back LegendLine = codes "` is its second word."
+form_back RoomSize = codes "`."
+form_back NoRoomSize = codes "`."
+form_back LikeMessage = codes "`."
 
 -- what stands before the word that has a slip
 abbrev pub slip_front : Slip → List ℕ

@@ -1,9 +1,11 @@
 -- What is said about a fault, in words.
-use Rattle.std.specs.Prelude.{ℕ, nat_eq, nat_lt, true, if◌then◌else◌, List, [], ◌++◌, codes}
+use Rattle.std.specs.Prelude.{ℕ, nat_eq, true, if◌then◌else◌, List, [], ◌++◌, codes}
 use Rattle.std.specs.Prelude.{encode_utf8}
 use Rattle.std.specs.Fmt.{decimal, digits}
 use Rattle.ps_causes.specs.declared.causes.Blank.{Blank}
 use Rattle.ps_causes.specs.declared.causes.Blank.TheVariants.{Space, Tab, CarriageReturn, Comment}
+use Rattle.ps_causes.specs.declared.causes.ByteOrder.{ByteOrder}
+use Rattle.ps_causes.specs.declared.causes.ByteOrder.TheVariants.{LowFirst, HighFirst}
 use Rattle.ps_causes.specs.declared.causes.Clue.{Clue}
 use Rattle.ps_causes.specs.declared.causes.Clue.TheVariants as clues
 use Rattle.ps_causes.specs.declared.causes.Hint.{Hint}
@@ -11,26 +13,19 @@ use Rattle.ps_causes.specs.declared.causes.Hint.TheVariants.{Nothing, Near, Stra
 use Rattle.ps_causes.specs.declared.causes.Cause.{Cause}
 use Rattle.ps_causes.specs.declared.causes.Cause.TheVariants.{Untold, Undeclared, Meaningless, Unlayered, UnknownGlyph}
 use Rattle.ps_causes.specs.declared.causes.Cause.TheVariants.{BrokenRow, LateHeader, MissingSection, Twice, Slip}
-use Rattle.ps_causes.specs.declared.causes.Cause.TheVariants.{Slashes, LikeHeader}
+use Rattle.ps_causes.specs.declared.causes.Cause.TheVariants.{Slashes, LikeHeader, OpenGlyph, BelowLike, Utf16}
 use Rattle.ps_causes.specs.declared.causes.Cause.TheVariants.{InRule, InLoop, InWhole, InObject, OnlyCommas}
 use Rattle.ps_causes.specs.declared.causes.Cause.TheVariants.{BrokenByte}
+use Rattle.ps_why.specs.CharacterCodes.{code_words}
 use Rattle.ps_why.specs.GameWording.{loop_sentence, whole_sentence}
 use Rattle.ps_why.specs.ObjectWording.{object_sentence}
+use Rattle.ps_why.specs.OpenWording.{open_glyph_words}
 use Rattle.ps_why.specs.RuleWording.{rule_sentence}
 use Rattle.ps_why.specs.SectionNames.{section_name}
 use Rattle.ps_why.specs.SlipWords.{slip_words}
 use Rattle.std.specs.Str.{bytes_eq}
 use Rattle.ps_model.specs.text.Sections.{rank}
 use Rattle.ps_model.specs.declared.texts.Section.{Section}
-
--- the zeros before the digits of a character's code, of which there are four at least
-abbrev pub zeros : ℕ → List ℕ
-zeros code = if nat_lt code 16 then codes "000" else (if nat_lt code 256 then codes "00" else (if nat_lt code
-    4096 then codes "0" else []))
-
--- a character's code, as U+0041
-abbrev pub code_words : ℕ → List ℕ
-code_words code = codes "U+" ++ (zeros code ++ digits 16 true code)
 
 abbrev pub blank_words : Blank → List ℕ
 blank_words Space = codes "A space"
@@ -105,12 +100,18 @@ abbrev pub returns_words : ℕ → List ℕ
 returns_words place =
     codes " No line feed ends a line here: byte " ++ (decimal place ++ codes " is a carriage return, which is a blank.")
 
+-- that a byte is zero, after a blank
+abbrev pub zero_words : ℕ → List ℕ
+zero_words place =
+    codes " Byte " ++ (decimal place ++ codes " of the text is zero, as in one in UTF-16: save it as UTF-8.")
+
 -- what a section that isn't there may come from, after a blank
 abbrev pub clue_words : Clue → List ℕ
 clue_words clues.Nothing = []
 clue_words (clues.Like line) = like_words line
 clue_words (clues.Open line) = open_words line
 clue_words (clues.Returns place) = returns_words place
+clue_words (clues.Zero place) = zero_words place
 
 -- that a section isn't there
 abbrev pub missing_words : Section → Clue → List ℕ
@@ -141,6 +142,17 @@ abbrev pub like_header_words : Section → List ℕ
 like_header_words section =
     codes "This line isn't the header " ++ (section_name section ++ codes ", which is that word alone.")
 
+-- that a line stands below one that is no header
+abbrev pub below_like_words : Section → ℕ → List ℕ
+below_like_words section above =
+    codes "Line " ++ (decimal above ++ (codes " isn't the header " ++ (section_name section ++
+    codes ", which is that word alone: so this line is read in OBJECTS.")))
+
+-- that a text is in UTF-16
+abbrev pub utf16_words : ByteOrder → List ℕ
+utf16_words LowFirst = codes "The text begins with the bytes FF FE, as one in UTF-16 does: save it as UTF-8."
+utf16_words HighFirst = codes "The text begins with the bytes FE FF, as one in UTF-16 does: save it as UTF-8."
+
 -- that a line has no name
 abbrev pub commas_words : List ℕ
 commas_words = codes "A line of COLLISIONLAYERS is names, parted by commas or blanks: this one has only commas."
@@ -165,3 +177,6 @@ sentence (InWhole cause) = whole_sentence cause
 sentence (InObject cause) = object_sentence cause
 sentence (OnlyCommas place) = commas_words
 sentence (BrokenByte place byte) = broken_byte_words place byte
+sentence (OpenGlyph row character column open_name) = open_glyph_words character column open_name
+sentence (BelowLike word section above) = below_like_words section above
+sentence (Utf16 order) = utf16_words order

@@ -1,8 +1,8 @@
-//! What is said about loops, and of names that the whole game has, in words.
+//! What is said about loops, and of names for several objects, in words.
 
 ghost use Rattle.std.specs.Prelude.{◌≡◌, IfOk, string_bytes};
 ghost use Rattle.ps_why.specs.GameWording.{nested_words, unbegun_words, loop_sentence, at_once_words, apart_words};
-ghost use Rattle.ps_why.specs.GameWording.{whole_sentence};
+ghost use Rattle.ps_why.specs.GameWording.{one_layer_words, whole_sentence};
 
 use ps_causes::{LoopCause, WholeCause};
 use ps_model::Memory;
@@ -69,7 +69,17 @@ fn apart_words(
     Ok(words)
 }
 
-/// What is said about a name that the whole game has.
+/// That two words stand in one line of COLLISIONLAYERS.
+fn one_layer_words(alloc: Global, word: &str, other: &str, layer: u32) -> Result<String, Memory>
+    ensures { IfOk result (λ words. string_bytes words ≡ one_layer_words word.now other.now layer) }
+{
+    let words = format!(in alloc;
+        "`and` joins objects of different lines of COLLISIONLAYERS: line {layer} has both `{other}` and `{word}`."
+    )?;
+    Ok(words)
+}
+
+/// What is said about a name for several objects.
 pub fn whole_sentence(alloc: Global, cause: WholeCause<'_>) -> Result<String, Memory>
     ensures { IfOk result (λ words. string_bytes words ≡ whole_sentence cause.entry) }
 {
@@ -81,5 +91,11 @@ pub fn whole_sentence(alloc: Global, cause: WholeCause<'_>) -> Result<String, Me
             other,
             other_layer,
         } => apart_words(alloc, word.text(), layer, other.text(), other_layer),
+        WholeCause::OnOneLayer { word, other, layer } => one_layer_words(
+            alloc,
+            word.text(),
+            other.text(),
+            layer,
+        ),
     }
 }

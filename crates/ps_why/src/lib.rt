@@ -3,6 +3,7 @@
 //! [`why`] shows the line of the fault, marks the words that its cause speaks of, and says what the cause is.
 #![tactic(auto)]
 
+mod character_codes;
 mod characters;
 mod columns;
 mod game_wording;
@@ -10,6 +11,7 @@ mod lines;
 mod marked;
 mod marks;
 mod object_wording;
+mod open_wording;
 mod page;
 mod rule_wording;
 mod section_names;

@@ -3,7 +3,7 @@
 ghost use Rattle.std.specs.Prelude.{◌≡◌, ◌<◌, length, IfSome};
 ghost use Rattle.ps_why.specs.Marked.{alone, below, character_place, mark_behind, mark_of_character, mark_of_word};
 ghost use Rattle.ps_why.specs.Marked.{marked_in_loop, marked_in_object, marked_in_rule, marked_in_whole, marks_in_rule};
-ghost use Rattle.ps_why.specs.Marked.{marks_of};
+ghost use Rattle.ps_why.specs.Marked.{marks_in_whole, marks_of, marks_of_two};
 
 use crate::lines::goes_on;
 use crate::marks::{Mark, Marks};
@@ -33,6 +33,16 @@ fn mark_of_word(word: Word<'_>) -> Option<Marks>
     ensures { result ≡ mark_of_word word.entry }
 {
     alone(below(word))
+}
+
+/// What stands below a word and another one before it.
+fn marks_of_two(word: Word<'_>, other: Word<'_>) -> Option<Marks>
+    ensures { result ≡ marks_of_two word.entry other.entry }
+{
+    Some(Marks {
+        mark: below(word),
+        other: Some(below(other)),
+    })
 }
 
 /// What stands below the blank after a word.
@@ -79,10 +89,7 @@ fn marks_in_rule(cause: RuleCause<'_>) -> Option<Marks>
     ensures { result ≡ marks_in_rule cause.entry }
 {
     match cause {
-        RuleCause::Pair { word, other, .. } => Some(Marks {
-            mark: below(word),
-            other: Some(below(other)),
-        }),
+        RuleCause::Pair { word, other, .. } => marks_of_two(word, other),
         _ => mark_of_word(marked_in_rule(cause)),
     }
 }
@@ -118,6 +125,17 @@ fn marked_in_whole<'a>(cause: WholeCause<'a>) -> Word<'a>
     match cause {
         WholeCause::AllAtOnce { word, .. } => word,
         WholeCause::OnTwoLayers { other, .. } => other,
+        WholeCause::OnOneLayer { word, .. } => word,
+    }
+}
+
+/// What stands below words of a line of LEGEND: of two on one layer both.
+fn marks_in_whole(cause: WholeCause<'_>) -> Option<Marks>
+    ensures { result ≡ marks_in_whole cause.entry }
+{
+    match cause {
+        WholeCause::OnOneLayer { word, other, .. } => marks_of_two(word, other),
+        _ => mark_of_word(marked_in_whole(cause)),
     }
 }
 
@@ -136,24 +154,26 @@ pub fn marks_of(cause: Cause<'_>) -> Option<Marks>
     ensures { result ≡ marks_of cause.entry }
 {
     match cause {
-        Cause::Untold | Cause::MissingSection { .. } => None,
+        Cause::Untold | Cause::MissingSection { .. } | Cause::Utf16(_) => None,
         Cause::Undeclared { word, .. }
         | Cause::Meaningless { word, .. }
         | Cause::Unlayered { word }
         | Cause::Twice { word, .. }
         | Cause::Slashes { word }
         | Cause::LikeHeader { word, .. }
+        | Cause::BelowLike { word, .. }
         | Cause::Slip { word, .. } => mark_of_word(word),
         Cause::InRule(cause) => marks_in_rule(cause),
         Cause::InLoop(cause) => mark_of_word(marked_in_loop(cause)),
-        Cause::InWhole(cause) => mark_of_word(marked_in_whole(cause)),
+        Cause::InWhole(cause) => marks_in_whole(cause),
         Cause::InObject(cause) => mark_of_word(marked_in_object(cause)),
         Cause::OnlyCommas { place } | Cause::BrokenByte { place, .. } => alone(Mark {
             from: place.saturating_sub(1),
             to: place,
         }),
         Cause::LateHeader { header, .. } => mark_of_word(header),
-        Cause::UnknownGlyph { row, column, .. } => mark_of_character(row, column),
+        Cause::UnknownGlyph { row, column, .. } | Cause::OpenGlyph { row, column, .. } =>
+            mark_of_character(row, column),
         Cause::BrokenRow { row, .. } => mark_behind(row),
     }
 }

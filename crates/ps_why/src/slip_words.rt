@@ -15,6 +15,7 @@ fn shape_front(slip: ShapeSlip) -> &'static str
 {
     match slip {
         ShapeSlip::LikeArrow => "No `->` stands in the line: `",
+        ShapeSlip::LongArrow => "An arrow is `->` alone: take out `",
         ShapeSlip::LikeBracket => "The brackets of a rule are `[` and `]`: `",
         ShapeSlip::NoArrow => "No `->` stands in the line, which ends behind `",
         ShapeSlip::Nested => "Another `[` stands behind this `",
@@ -35,6 +36,7 @@ fn shape_back(slip: ShapeSlip) -> &'static str
 {
     match slip {
         ShapeSlip::LikeArrow => "` isn't one.",
+        ShapeSlip::LongArrow => "` before it.",
         ShapeSlip::LikeBracket => "` is neither.",
         ShapeSlip::NoArrow => "`: a rule has one, and is written in one line.",
         ShapeSlip::SecondArrow => "` stands a second time.",
@@ -135,7 +137,14 @@ fn form_front(slip: FormSlip) -> &'static str
             "A win condition is `No X`, `Some X`, `Any X` or `All X`, or that with `on Y`, and doesn't end behind `",
         FormSlip::SecondName | FormSlip::ThirdName =>
             "An object's line has its name, and perhaps a second one of one character: `",
+        FormSlip::LegendLine =>
+            "A line as `X = Y` stands below the header LEGEND, and this one in OBJECTS: `",
         FormSlip::WinComment => "A comment stands between `(` and `)`, and doesn't begin as `",
+        FormSlip::RoomSize =>
+            "Behind `flickscreen` stands the size of a room in one word, as `5x5`: here stands `",
+        FormSlip::NoRoomSize => "No size of a room, as `5x5`, stands behind `",
+        FormSlip::LikeMessage =>
+            "A message begins with the word `message` and a blank: this line begins with `",
         FormSlip::NameAgain | FormSlip::RealTime => "`",
     }
 }
@@ -151,9 +160,14 @@ fn form_back(slip: FormSlip) -> &'static str
         FormSlip::NoQuantifier => "` stands where one of these four has to.",
         FormSlip::NoOn => "` stands where `on` has to.",
         FormSlip::FurtherWord => "` is one word too many.",
-        FormSlip::SecondName => "` is its second word.",
+        FormSlip::SecondName | FormSlip::LegendLine => "` is its second word.",
         FormSlip::ThirdName => "` is its third word.",
-        FormSlip::LegendEnds | FormSlip::WinEnds | FormSlip::WinComment => "`.",
+        FormSlip::LegendEnds
+        | FormSlip::WinEnds
+        | FormSlip::WinComment
+        | FormSlip::RoomSize
+        | FormSlip::NoRoomSize
+        | FormSlip::LikeMessage => "`.",
         FormSlip::NameAgain => "` is a name of this line already: upper and lower case are one.",
         FormSlip::RealTime =>
             "` is left out here, where all that happens follows a key: a rule with `again` goes on by itself.",

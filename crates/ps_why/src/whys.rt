@@ -10,7 +10,7 @@ use crate::columns::column_of;
 use crate::marked::marks_of;
 use crate::page::line_shown;
 use crate::wording::sentence;
-use ps_causes::{Cause, broken_byte, cause_of};
+use ps_causes::{Cause, cause_of, no_utf8_cause};
 use ps_model::{Fault, Memory, Refusal, TEXT_LIMIT};
 use ps_text::Source;
 use std::alloc::Global;
@@ -78,6 +78,6 @@ pub fn why(alloc: Global, text: &[u8], fault: Fault) -> Result<Details, Memory>
     match Source::read(alloc, text) {
         Ok(source) => told_of(alloc, text, &source, fault),
         Err(Refusal::Memory) => Err(Memory),
-        Err(Refusal::Refused(_)) => told_by(alloc, text, fault, broken_byte(text)),
+        Err(Refusal::Refused(_)) => told_by(alloc, text, fault, no_utf8_cause(text)),
     }
 }

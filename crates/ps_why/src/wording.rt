@@ -1,47 +1,23 @@
 //! Causes in words.
 
 ghost use Rattle.std.specs.Prelude.{◌≡◌, IfOk, string_bytes};
-ghost use Rattle.ps_why.specs.Wording.{zeros, code_words, sentence, hint_words, blank_words, near_words, strange_words};
+ghost use Rattle.ps_why.specs.Wording.{sentence, hint_words, blank_words, near_words, strange_words};
 ghost use Rattle.ps_why.specs.Wording.{undeclared_words, meaningless_words, unlayered_words, glyph_words, broken_words};
 ghost use Rattle.ps_why.specs.Wording.{late_words, like_words, open_words, returns_words, clue_words, missing_words};
 ghost use Rattle.ps_why.specs.Wording.{case_words, twice_words, broken_byte_words, commas_words, slashes_words};
-ghost use Rattle.ps_why.specs.Wording.{key_word_words, like_header_words};
+ghost use Rattle.ps_why.specs.Wording.{key_word_words, like_header_words, below_like_words, utf16_words, zero_words};
 
+use crate::character_codes::code_words;
 use crate::game_wording::{loop_sentence, whole_sentence};
 use crate::object_wording::object_sentence;
+use crate::open_wording::open_glyph_words;
 use crate::rule_wording::rule_sentence;
 use crate::section_names::section_name;
 use crate::slip_words::slip_words;
-use ps_causes::{Blank, Cause, Clue, Hint};
+use ps_causes::{Blank, ByteOrder, Cause, Clue, Hint};
 use ps_facts::rank;
 use ps_model::{Memory, Section};
 use std::alloc::Global;
-
-/// The zeros before the digits of a character's code, of which there are four at least.
-fn zeros(code: u32) -> &'static str
-    ensures { result.now ≡ zeros code }
-{
-    if code < 16 {
-        return "000";
-    }
-    if code < 256 {
-        return "00";
-    }
-    if code < 4096 {
-        return "0";
-    }
-    ""
-}
-
-/// A character's code, as U+0041.
-fn code_words(alloc: Global, character: char) -> Result<String, Memory>
-    ensures { IfOk result (λ words. string_bytes words ≡ code_words character) }
-{
-    let code = character as u32;
-    let zeros = zeros(code);
-    let words = format!(in alloc; "U+{zeros}{code:X}")?;
-    Ok(words)
-}
 
 /// What a blank is.
 fn blank_words(blank: Blank) -> &'static str
@@ -186,6 +162,16 @@ fn returns_words(alloc: Global, place: usize) -> Result<String, Memory>
     Ok(words)
 }
 
+/// That a byte is zero, after a blank.
+fn zero_words(alloc: Global, place: usize) -> Result<String, Memory>
+    ensures { IfOk result (λ words. string_bytes words ≡ zero_words place) }
+{
+    let words = format!(in alloc;
+        " Byte {place} of the text is zero, as in one in UTF-16: save it as UTF-8."
+    )?;
+    Ok(words)
+}
+
 /// What a section that isn't there may come from, after a blank.
 fn clue_words(alloc: Global, clue: Clue) -> Result<String, Memory>
     ensures { IfOk result (λ words. string_bytes words ≡ clue_words clue) }
@@ -195,6 +181,7 @@ fn clue_words(alloc: Global, clue: Clue) -> Result<String, Memory>
         Clue::Like(line) => like_words(alloc, line),
         Clue::Open(line) => open_words(alloc, line),
         Clue::Returns(place) => returns_words(alloc, place),
+        Clue::Zero(place) => zero_words(alloc, place),
     }
 }
 
@@ -256,6 +243,29 @@ fn like_header_words(alloc: Global, section: Section) -> Result<String, Memory>
     Ok(words)
 }
 
+/// That a line stands below one that is no header.
+fn below_like_words(alloc: Global, section: Section, above: u32) -> Result<String, Memory>
+    ensures { IfOk result (λ words. string_bytes words ≡ below_like_words section above) }
+{
+    let name = section_name(section);
+    let words = format!(in alloc;
+        "Line {above} isn't the header {name}, which is that word alone: so this line is read in OBJECTS."
+    )?;
+    Ok(words)
+}
+
+/// That a text is in UTF-16.
+fn utf16_words(order: ByteOrder) -> &'static str
+    ensures { result.now ≡ utf16_words order }
+{
+    match order {
+        ByteOrder::LowFirst =>
+            "The text begins with the bytes FF FE, as one in UTF-16 does: save it as UTF-8.",
+        ByteOrder::HighFirst =>
+            "The text begins with the bytes FE FF, as one in UTF-16 does: save it as UTF-8.",
+    }
+}
+
 /// That a line has no name.
 fn commas_words(alloc: Global) -> Result<String, Memory>
     ensures { IfOk result (λ words. string_bytes words ≡ commas_words) }
@@ -299,5 +309,16 @@ pub fn sentence(alloc: Global, cause: Cause<'_>) -> Result<String, Memory>
         Cause::InObject(cause) => object_sentence(alloc, cause),
         Cause::OnlyCommas { .. } => commas_words(alloc),
         Cause::BrokenByte { place, byte } => broken_byte_words(alloc, place, byte),
+        Cause::OpenGlyph {
+            character,
+            column,
+            meant,
+            ..
+        } => open_glyph_words(alloc, character, column, meant),
+        Cause::BelowLike { section, above, .. } => below_like_words(alloc, section, above),
+        Cause::Utf16(order) => {
+            let words = String::from_str(alloc, utf16_words(order))?;
+            Ok(words)
+        }
     }
 }

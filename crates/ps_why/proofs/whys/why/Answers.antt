@@ -19,4 +19,4 @@ returns-then-text-gt-TEXT_LIMIT c =
     }
 
 pub told_by-requires-clause-cause : goal.told_by-requires-clause-cause
-told_by-requires-clause-cause c = c.broken_byte.ensures c.args.fault.line
+told_by-requires-clause-cause c = c.no_utf8_cause.ensures c.args.fault.line
