@@ -122,7 +122,7 @@ const EXPLANATIONS: [(FaultKind, &str); 45] = [
     ),
     (
         FaultKind::LateMove,
-        "A movement word stands in the brackets of a `late` rule; `stationary` is one too.",
+        "A movement word stands in the brackets of a `late` rule, which moves nothing; `stationary` is one too.",
     ),
     (
         FaultKind::PlusAlone,

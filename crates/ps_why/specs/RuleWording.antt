@@ -60,14 +60,14 @@ unbound_words word times could =
 -- how many rows stand on the two sides
 abbrev pub rows_words : ℕ → ℕ → List ℕ
 rows_words left right =
-    codes "Of rows " ++ (decimal left ++ (codes " stand on the left of `->` and " ++ (decimal right ++
-    codes " on the right.")))
+    codes "Both sides of `->` have the same number of rows in brackets: here the left has " ++ (decimal left ++
+    (codes ", the right " ++ (decimal right ++ codes ".")))
 
 -- how many cells a row has on the two sides
 abbrev pub cells_words : ℕ → ℕ → ℕ → List ℕ
 cells_words row left right =
-    codes "Of cells row " ++ (decimal row ++ (codes " has " ++ (decimal left ++ (codes " on the left of `->` and "
-    ++ (decimal right ++ codes " on the right.")))))
+    codes "A row has the same number of cells on both sides of `->`: here row " ++ (decimal row ++ (codes " has "
+    ++ (decimal left ++ (codes " on the left, " ++ (decimal right ++ codes " on the right.")))))
 
 -- what part of a rule a line is
 abbrev pub part_words : Part → List ℕ

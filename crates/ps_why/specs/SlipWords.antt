@@ -23,7 +23,7 @@ use Rattle.ps_facts.specs.declared.slips.Slip.TheVariants.{Shape, Rule, Place, F
 
 -- what stands before a word with a wrong bracket, bar or arrow
 abbrev pub shape_front : ShapeSlip → List ℕ
-shape_front LikeArrow = codes "No `->` stands in the line: `"
+shape_front LikeArrow = codes "No `->` stands in the line: write it in place of `"
 shape_front LongArrow = codes "An arrow is `->` alone: take out `"
 shape_front LikeBracket = codes "The brackets of a rule are `[` and `]`: `"
 shape_front NoArrow = codes "No `->` stands in the line, which ends behind `"
@@ -39,7 +39,7 @@ shape_front WordOutside = codes "`"
 
 -- what stands after it
 abbrev pub shape_back : ShapeSlip → List ℕ
-shape_back LikeArrow = codes "` isn't one."
+shape_back LikeArrow = codes "`."
 shape_back LongArrow = codes "` before it."
 shape_back LikeBracket = codes "` is neither."
 shape_back NoArrow = codes "`: a rule has one, and is written in one line."
@@ -57,7 +57,8 @@ shape_back WordOutside = codes "` stands outside brackets."
 abbrev pub rule_front : RuleSlip → List ℕ
 rule_front LoopWords = codes "`"
 rule_front MessageAlone = codes "`"
-rule_front LateMove = codes "`"
+rule_front LateMove =
+    codes "A `late` rule comes when all has moved, so its brackets have no movement words: take out `"
 rule_front Chance = codes "`"
 rule_front Rigid = codes "`"
 rule_front TwiceInCell = codes "`"
@@ -67,7 +68,7 @@ rule_front RuleComment = codes "A comment stands between `(` and `)`, and doesn'
 abbrev pub rule_back : RuleSlip → List ℕ
 rule_back LoopWords = codes "` has to stand alone in its line."
 rule_back MessageAlone = codes "` stands in a line without `->`: a rule has its message behind that."
-rule_back LateMove = codes "` stands in the brackets of a late rule: behind the movement nothing moves."
+rule_back LateMove = codes "`, or `late`."
 rule_back Chance =
     codes "` is left out here, where nothing goes by chance: a rule says which place and direction are meant."
 rule_back Rigid =

@@ -131,7 +131,7 @@ twice_words word line name =
 abbrev pub broken_byte_words : ℕ → ℕ → List ℕ
 broken_byte_words place byte =
     codes "Byte " ++ (decimal place ++ (codes " of the text, " ++ (digits 16 true byte ++
-    codes " in hexadecimal, is in no whole character of UTF-8.")))
+    codes " in hexadecimal, is in no whole character of UTF-8: save it as UTF-8.")))
 
 -- that a comment begins otherwise
 abbrev pub slashes_words : List ℕ → List ℕ

@@ -125,7 +125,8 @@ fn rows_words(alloc: Global, left: usize, right: usize) -> Result<String, Memory
     ensures { IfOk result (λ words. string_bytes words ≡ rows_words left right) }
 {
     let words = format!(in alloc;
-        "Of rows {left} stand on the left of `->` and {right} on the right."
+        "Both sides of `->` have the same number of rows in brackets: here the left has {left}, \
+        the right {right}."
     )?;
     Ok(words)
 }
@@ -135,7 +136,8 @@ fn cells_words(alloc: Global, row: usize, left: usize, right: usize) -> Result<S
     ensures { IfOk result (λ words. string_bytes words ≡ cells_words row left right) }
 {
     let words = format!(in alloc;
-        "Of cells row {row} has {left} on the left of `->` and {right} on the right."
+        "A row has the same number of cells on both sides of `->`: here row {row} has {left} on the left, \
+        {right} on the right."
     )?;
     Ok(words)
 }

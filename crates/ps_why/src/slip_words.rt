@@ -14,7 +14,7 @@ fn shape_front(slip: ShapeSlip) -> &'static str
     ensures { result.now ≡ shape_front slip }
 {
     match slip {
-        ShapeSlip::LikeArrow => "No `->` stands in the line: `",
+        ShapeSlip::LikeArrow => "No `->` stands in the line: write it in place of `",
         ShapeSlip::LongArrow => "An arrow is `->` alone: take out `",
         ShapeSlip::LikeBracket => "The brackets of a rule are `[` and `]`: `",
         ShapeSlip::NoArrow => "No `->` stands in the line, which ends behind `",
@@ -35,7 +35,7 @@ fn shape_back(slip: ShapeSlip) -> &'static str
     ensures { result.now ≡ shape_back slip }
 {
     match slip {
-        ShapeSlip::LikeArrow => "` isn't one.",
+        ShapeSlip::LikeArrow => "`.",
         ShapeSlip::LongArrow => "` before it.",
         ShapeSlip::LikeBracket => "` is neither.",
         ShapeSlip::NoArrow => "`: a rule has one, and is written in one line.",
@@ -57,9 +57,10 @@ fn rule_front(slip: RuleSlip) -> &'static str
     ensures { result.now ≡ rule_front slip }
 {
     match slip {
+        RuleSlip::LateMove =>
+            "A `late` rule comes when all has moved, so its brackets have no movement words: take out `",
         RuleSlip::LoopWords
         | RuleSlip::MessageAlone
-        | RuleSlip::LateMove
         | RuleSlip::Chance
         | RuleSlip::Rigid
         | RuleSlip::TwiceInCell => "`",
@@ -75,8 +76,7 @@ fn rule_back(slip: RuleSlip) -> &'static str
         RuleSlip::LoopWords => "` has to stand alone in its line.",
         RuleSlip::MessageAlone =>
             "` stands in a line without `->`: a rule has its message behind that.",
-        RuleSlip::LateMove =>
-            "` stands in the brackets of a late rule: behind the movement nothing moves.",
+        RuleSlip::LateMove => "`, or `late`.",
         RuleSlip::Chance =>
             "` is left out here, where nothing goes by chance: a rule says which place and direction are meant.",
         RuleSlip::Rigid =>

@@ -219,7 +219,7 @@ fn broken_byte_words(alloc: Global, place: usize, byte: u8) -> Result<String, Me
     ensures { IfOk result (λ words. string_bytes words ≡ broken_byte_words place byte) }
 {
     let words = format!(in alloc;
-        "Byte {place} of the text, {byte:X} in hexadecimal, is in no whole character of UTF-8."
+        "Byte {place} of the text, {byte:X} in hexadecimal, is in no whole character of UTF-8: save it as UTF-8."
     )?;
     Ok(words)
 }
