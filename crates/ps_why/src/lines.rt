@@ -7,11 +7,12 @@ ghost use Rattle.ps_why.specs.Lines.{shown_from};
 
 use crate::marks::Marks;
 
-/// How many bytes of a line are shown at most.
-pub const MOST_SHOWN: usize = 200;
+/// How many bytes of a line are shown at most. After a line's number and two points they fit in 80 columns, so that no
+/// terminal of that width breaks them from their marks.
+pub const MOST_SHOWN: usize = 70;
 
 /// How many bytes of a line stand before the end of a mark at most, where the line's front isn't shown.
-const MOST_BEFORE: usize = 100;
+const MOST_BEFORE: usize = 40;
 
 /// A line of a text: its bytes, from one to before another, without the line feed.
 #[derive(Clone, Copy)]
