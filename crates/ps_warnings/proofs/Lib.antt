@@ -12,3 +12,4 @@ pub mod UnusedTold
 mod WarningRows
 pub mod WarningsMade
 pub mod WholeLines
+pub mod WordsTold

@@ -19,11 +19,10 @@ use Rattle.ps_warnings.specs.InOrder.{in_order}
 use Rattle.ps_warnings.specs.LevelStarts.{number_of}
 use Rattle.ps_warnings.specs.LevelWarnings.{level_warnings, warnings_at}
 use Rattle.ps_warnings.specs.OptionWarnings.{option_warnings}
-use Rattle.ps_warnings.specs.RepeatedRules.{repeated_rules}
-use Rattle.ps_warnings.specs.RowWarnings.{row_warnings}
 use Rattle.ps_warnings.specs.RuleWarnings.{rule_warnings}
 use Rattle.ps_warnings.specs.Sounds.{sounding_lines}
 use Rattle.ps_warnings.specs.WinWarnings.{win_warnings}
+use Rattle.ps_warnings.specs.WordWarnings.{level_line_warnings, written_warnings}
 use Rattle.ps_warnings.specs.Warnings.{rules_in, unused_in, warnings, warnings_in, warnings_of_lines, wins_in}
 use Rattle.ps_warnings.proofs.EntriesWarned.{warned_alike}
 
@@ -108,7 +107,7 @@ pub sections_warned : (lines prelude levels : List Line) (read : Game) (names : 
     words ≡ option_warnings prelude → first ≡ words ++ unused_in read lines →
     second ≡ first ++ rules_in read lines →
     third ≡ second ++ wins_in read lines → none ≡ [] → ones ≡ none ++ warnings_at names numbers entries → owned ≡ ones →
-    nothing ≡ [] → others ≡ nothing ++ row_warnings levels → lent ≡ others → whole ≡ third ++ in_order owned lent →
+    nothing ≡ [] → others ≡ nothing ++ level_line_warnings levels → lent ≡ others → whole ≡ third ++ in_order owned lent →
     whole ≡ warnings_in read lines
 sections_warned lines prelude levels read names entries numbers words first second third none ones owned nothing
     others lent whole is p l n e m a h b c u d x v f y g =
@@ -117,7 +116,7 @@ sections_warned lines prelude levels read names entries numbers words first seco
     let R : List Warning = rules_in read lines in
     let W : List Warning = wins_in read lines in
     let L : List Warning = level_warnings read.names (section_lines lines Levels) in
-    let Rows : List Warning = row_warnings (section_lines lines Levels) in
+    let Rows : List Warning = level_line_warnings (section_lines lines Levels) in
     let join : List Warning → List Warning → List Warning = λ xs ys. xs ++ ys in
     let options : first ≡ O ++ U =
     h ∙ ap (λ (told : List Warning). told ++ U) (a ∙ ap option_warnings (sym p)) in
@@ -130,7 +129,7 @@ sections_warned lines prelude levels read names entries numbers words first seco
     let two : second ≡ (O ++ U) ++ R = b ∙ ap (λ (told : List Warning). told ++ R) options in
     let three : third ≡ ((O ++ U) ++ R) ++ W = c ∙ ap (λ (told : List Warning). told ++ W) two in
     let rows : lent ≡ Rows =
-    y ∙ f ∙ ap (λ (told : List Warning). told ++ row_warnings levels) v ∙ ap row_warnings (sym l) in
+    y ∙ f ∙ ap (λ (told : List Warning). told ++ level_line_warnings levels) v ∙ ap level_line_warnings (sym l) in
     g ∙ ap₂ join three (ap₂ in_order levelled rows)
     ∙ append_assoc ((O ++ U) ++ R) W (in_order L Rows)
     ∙ append_assoc (O ++ U) R (W ++ in_order L Rows)
@@ -144,7 +143,7 @@ pub rules_told : (lines rules : List Line) (read : Game) (names : Names) (own : 
     sounding ≡ sounding_lines rules → sounds ≡ sounding →
     there ≡ objects_there read.names read.rules read.entries → marks ≡ there → none ≡ [] →
     wrong ≡ none ++ rule_warnings names sounds marks own → ones ≡ wrong → nothing ≡ [] →
-    others ≡ nothing ++ repeated_rules rules → twice ≡ others → in_order ones twice ≡ rules_in read lines
+    others ≡ nothing ++ written_warnings rules → twice ≡ others → in_order ones twice ≡ rules_in read lines
 rules_told lines rules read names own sounding sounds there marks wrong others ones twice none nothing r n o s q t m e i
     a z h b =
     let heard : sounds ≡ sounding_lines (section_lines lines Rules) = q ∙ s ∙ ap sounding_lines (sym r) in
@@ -154,7 +153,7 @@ rules_told lines rules read names own sounding sounds there marks wrong others o
     (objects_there read.names read.rules read.entries) read.rules = rw (n, o, heard, seen) refl in
     ap₂ in_order
     (a ∙ i ∙ ap (λ (told : List Warning). told ++ rule_warnings names sounds marks own) e ∙ ruled)
-    (b ∙ h ∙ ap (λ (told : List Warning). told ++ repeated_rules rules) z ∙ ap repeated_rules (sym r))
+    (b ∙ h ∙ ap (λ (told : List Warning). told ++ written_warnings rules) z ∙ ap written_warnings (sym r))
 
 -- win conditions ------------------------------------------------------------------------------------------------------
 

@@ -21,4 +21,5 @@ pub mod Sounds
 pub mod Spoken
 pub mod Warnings
 pub mod WinWarnings
+pub mod WordWarnings
 pub mod Wording

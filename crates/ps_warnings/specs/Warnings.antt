@@ -10,8 +10,6 @@ use Rattle.ps_warnings.specs.declared.kinds.Warning.{Warning}
 use Rattle.ps_warnings.specs.Brought.{objects_there}
 use Rattle.ps_warnings.specs.InOrder.{in_order}
 use Rattle.ps_warnings.specs.OptionWarnings.{option_warnings}
-use Rattle.ps_warnings.specs.RepeatedRules.{repeated_rules}
-use Rattle.ps_warnings.specs.RowWarnings.{row_warnings}
 use Rattle.ps_warnings.specs.RuleWarnings.{rule_warnings}
 use Rattle.ps_warnings.specs.LevelWarnings.{level_warnings}
 use Rattle.ps_warnings.specs.NameWarnings.{name_warnings}
@@ -19,6 +17,7 @@ use Rattle.ps_warnings.specs.ObjectWarnings.{object_warnings}
 use Rattle.ps_warnings.specs.Sounds.{sounding_lines}
 use Rattle.ps_warnings.specs.Spoken.{spoken_in}
 use Rattle.ps_warnings.specs.WinWarnings.{win_warnings}
+use Rattle.ps_warnings.specs.WordWarnings.{level_line_warnings, written_warnings}
 
 -- those of the names that lines declare that are this game
 abbrev pub unused_in : Game → List Line → List Warning
@@ -32,7 +31,7 @@ rules_in read lines =
     in_order
     (rule_warnings read.names (sounding_lines (section_lines lines Rules))
     (objects_there read.names read.rules read.entries) read.rules)
-    (repeated_rules (section_lines lines Rules))
+    (written_warnings (section_lines lines Rules))
 
 -- those of the win conditions of lines that are this game
 abbrev pub wins_in : Game → List Line → List Warning
@@ -46,7 +45,8 @@ warnings_in read lines =
     ++ (unused_in read lines
     ++ (rules_in read lines
     ++ (wins_in read lines
-    ++ in_order (level_warnings read.names (section_lines lines Levels)) (row_warnings (section_lines lines Levels)))))
+    ++ in_order (level_warnings read.names (section_lines lines Levels))
+    (level_line_warnings (section_lines lines Levels)))))
 
 -- those of lines
 abbrev pub warnings_of_lines : List Line → List Warning

@@ -6,6 +6,7 @@ use Rattle.ps_warnings.specs.declared.kinds.WarningKind.{WarningKind}
 use Rattle.ps_warnings.specs.declared.kinds.WarningKind.TheVariants.{NearWord, IdleRule, IdleWin, NoPlayer}
 use Rattle.ps_warnings.specs.declared.kinds.WarningKind.TheVariants.{LongRow, RuleTwice, ShortRow, UnusedObject}
 use Rattle.ps_warnings.specs.declared.kinds.WarningKind.TheVariants.{ApartWin, LackingRule, LackingWin, UnusedName}
+use Rattle.ps_warnings.specs.declared.kinds.WarningKind.TheVariants.{LateTwice, NoText}
 use Rattle.ps_warnings.specs.PreludeWords.{word_text}
 
 -- a line of the prelude is surely meant to begin with the word
@@ -24,6 +25,8 @@ sentence UnusedName = codes "no rule, win condition, layer or other name uses th
 sentence IdleRule = codes "this rule can do nothing"
 sentence LackingRule = codes "this rule can never apply, as it needs an object that no level has and no rule makes"
 sentence (RuleTwice line) = twice_sentence line
+sentence LateTwice = codes "this rule says `late` twice"
+sentence NoText = codes "this message has no text"
 sentence IdleWin = codes "this win condition always holds"
 sentence ApartWin = codes "no cell can have both things that this win condition names, as they share a layer"
 sentence LackingWin = codes "this win condition names an object that no level has and no rule makes"

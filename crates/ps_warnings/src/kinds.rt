@@ -30,6 +30,10 @@ pub enum WarningKind {
     LackingRule,
     /// The rule stands at this line too, in its own group or in the one right above.
     RuleTwice(u32),
+    /// The rule says `late` twice.
+    LateTwice,
+    /// The message has no text.
+    NoText,
     /// The win condition always holds: it asks for nothing.
     IdleWin,
     /// What the two names of the win condition stand for can't be in one cell, as a layer has room for one of them.

@@ -33,6 +33,7 @@ mod used_names;
 mod used_objects;
 mod win_lines;
 mod wins;
+mod word_lines;
 mod wording;
 mod written_rules;
 

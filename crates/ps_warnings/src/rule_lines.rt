@@ -1,4 +1,4 @@
-//! Rules that can do nothing or never apply, and rules that stand twice.
+//! Rules that can do nothing or never apply, rules that stand twice, and words of rules that say nothing.
 
 ghost use Rattle.std.specs.Prelude.{◌≡◌, ◌++◌, OnOk};
 ghost use Rattle.ps_model.specs.text.Lines.{lines_of};
@@ -8,9 +8,9 @@ ghost use Rattle.ps_warnings.specs.Warnings.{rules_in};
 use crate::brought::objects_there;
 use crate::in_order::push_in_order;
 use crate::kinds::Warning;
-use crate::repeated_rules::warn_of_repeated;
 use crate::rules::{RuleFacts, warn_of_rules};
 use crate::sounds::sounding_lines;
+use crate::word_lines::warn_of_written;
 use ps_game::Game;
 use ps_model::Memory;
 use ps_sections::Sections;
@@ -37,7 +37,7 @@ pub fn warn_of_rule_lines(
     };
     let mut wrong = Vec::new(alloc);
     warn_of_rules(alloc, &facts, &game.rules, &mut wrong)?;
-    let mut repeated = Vec::new(alloc);
-    warn_of_repeated(alloc, source, &sections.rules, &mut repeated)?;
-    push_in_order(told, &wrong, &repeated)
+    let mut written = Vec::new(alloc);
+    warn_of_written(alloc, source, &sections.rules, &mut written)?;
+    push_in_order(told, &wrong, &written)
 }

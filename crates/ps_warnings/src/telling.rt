@@ -8,13 +8,13 @@ ghost use Rattle.ps_warnings.specs.Warnings.{warnings_in, warnings_of_lines, war
 
 use crate::in_order::push_in_order;
 use crate::kinds::Warning;
-use crate::level_rows::warn_of_rows;
 use crate::level_starts::entry_numbers;
 use crate::levels::warn_of_levels;
 use crate::options::warn_of_options;
 use crate::rule_lines::warn_of_rule_lines;
 use crate::unused::warn_of_unused;
 use crate::win_lines::warn_of_win_lines;
+use crate::word_lines::warn_of_level_lines;
 use ps_game::{Game, read_game};
 use ps_model::{Memory, Refusal};
 use ps_sections::{Sections, read_sections};
@@ -41,7 +41,7 @@ fn warnings_in(
     let mut levels = Vec::new(alloc);
     warn_of_levels(&game.names, &numbers, &game.entries, &mut levels)?;
     let mut rows = Vec::new(alloc);
-    warn_of_rows(alloc, source, &sections.levels, &mut rows)?;
+    warn_of_level_lines(alloc, source, &sections.levels, &mut rows)?;
     push_in_order(&mut told, &levels, &rows)?;
     Ok(told)
 }

@@ -62,6 +62,14 @@ pub fn sentence_of(alloc: Global, kind: WarningKind) -> Result<String, Memory>
             Ok(words)
         }
         WarningKind::RuleTwice(line) => twice_sentence(alloc, line),
+        WarningKind::LateTwice => {
+            let words = String::from_str(alloc, "this rule says `late` twice")?;
+            Ok(words)
+        }
+        WarningKind::NoText => {
+            let words = String::from_str(alloc, "this message has no text")?;
+            Ok(words)
+        }
         WarningKind::IdleWin => {
             let words = String::from_str(alloc, "this win condition always holds")?;
             Ok(words)

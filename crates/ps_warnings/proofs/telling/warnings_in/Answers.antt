@@ -14,7 +14,7 @@ returns c =
     let prelude = lines_between text c.args.sections.now.prelude.start c.args.sections.now.prelude.end in
     sections_warned (lines_of text) _ _ c.args.game.now _ _ _
     c.warn_of_options.new.told.items c.warn_of_unused.new.told.items c.warn_of_rule_lines.new.told.items
-    c.warn_of_win_lines.new.told.items _ c.warn_of_levels.new.told.items c.deref-3.result.now _ c.warn_of_rows.new.told.items c.deref-4.result.now
+    c.warn_of_win_lines.new.told.items _ c.warn_of_levels.new.told.items c.deref-3.result.now _ c.warn_of_level_lines.new.told.items c.deref-4.result.now
     c.push_in_order.new.told.items
     c.requires.game c.requires.sections.prelude.same c.requires.sections.levels.same
     (ap (λ (g : Game). g.names) c.game.view_is)
@@ -24,5 +24,5 @@ returns c =
     ∙ ap (λ (told : List Warning). told ++ option_warnings prelude) c.new-told.ensures.items)
     c.in_ok-warn_of_unused.ensures c.in_ok-warn_of_rule_lines.ensures c.in_ok-warn_of_win_lines.ensures
     c.new-levels.ensures.items c.in_ok-warn_of_levels.ensures c.deref-3.ensures.value
-    c.new-rows.ensures.items c.in_ok-warn_of_rows.ensures c.deref-4.ensures.value
+    c.new-rows.ensures.items c.in_ok-warn_of_level_lines.ensures c.deref-4.ensures.value
     c.in_ok-push_in_order.ensures
