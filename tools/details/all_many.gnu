@@ -1,7 +1,7 @@
 all_many.game:46:14: error: `Krate` is no key word, and is declared neither in OBJECTS nor in LEGEND. Line 17 declares `Crate`. [RU2]
 all_many.game:47:25: error: No `]` closes this `[` on its side of `->`. [RU1]
 all_many.game:48:17: error: `Thing` of the right is that of the same cell on the left, or else the only one there: the left has 0. [RU7]
-all_many.game:50:8: error: `>` stands in the brackets of a late rule: behind the movement nothing moves. [RU8]
+all_many.game:50:8: error: A `late` rule comes when all has moved, so its brackets have no movement words: take out `>`, or `late`. [RU8]
 all_many.game:51:1: error: The loop of line 49 is still open: loops don't nest. [RU11]
 all_many.game:52:1: error: A rule begins with `+`, but no rule stands above it, or none since the last loop line. [RU9]
 all_many.game:68:2: error: `q` (U+0071) in column 2 is declared neither in OBJECTS nor in LEGEND. [LV1]
