@@ -121,6 +121,8 @@ fn asked_by<'w>(alloc: Global, matches: &ArgMatches<'w>) -> Result<Asked<'w>, St
     let Some(path) = value_given(matches, "GAME") else {
         return Err(Stop::Game);
     };
+    // A size that is none is told, whatever the task.
+    let size = size_asked(matches)?;
     if is_given(matches, "solve") {
         return asked_solve(alloc, matches, path);
     }
@@ -137,8 +139,8 @@ fn asked_by<'w>(alloc: Global, matches: &ArgMatches<'w>) -> Result<Asked<'w>, St
         return Ok(Asked::Description(path));
     }
     match value_given(matches, "show") {
-        Some(output) => asked_show(matches, path, output),
-        None => asked_play(matches, path),
+        Some(output) => asked_show(matches, path, output, size),
+        None => asked_play(matches, path, size),
     }
 }
 
@@ -154,13 +156,15 @@ fn asked_show<'w>(
     matches: &ArgMatches<'w>,
     path: &'w str,
     output: &'w str,
+    size: Option<Size>,
 ) -> Result<Asked<'w>, Stop>
     requires game { IsGameIn (rows_in matches.now) path.now }
     requires task { Plays (rows_in matches.now) }
     requires output { first_of (codes "show") (rows_in matches.now) ≡ Some output.now }
+    requires size { IsSizeOf (first_of (codes "view") (rows_in matches.now)) size }
     ensures asked { IfOk result (IsAsked (rows_in matches.now)) }
 {
-    let Some(size) = size_asked(matches)? else {
+    let Some(size) = size else {
         return Err(Stop::NoSize);
     };
     Ok(Asked::Show(Show {
@@ -172,14 +176,18 @@ fn asked_show<'w>(
 }
 
 /// What the matches of a command line ask for that plays a game.
-fn asked_play<'w>(matches: &ArgMatches<'w>, path: &'w str) -> Result<Asked<'w>, Stop>
+fn asked_play<'w>(
+    matches: &ArgMatches<'w>,
+    path: &'w str,
+    size: Option<Size>,
+) -> Result<Asked<'w>, Stop>
     requires game { IsGameIn (rows_in matches.now) path.now }
     requires task { Plays (rows_in matches.now) }
     requires shown { first_of (codes "show") (rows_in matches.now) ≡ None }
+    requires size { IsSizeOf (first_of (codes "view") (rows_in matches.now)) size }
     ensures asked { IfOk result (IsAsked (rows_in matches.now)) }
 {
     let level = level_asked(matches)?;
-    let size = size_asked(matches)?;
     let keys = keys_named(value_given(matches, "keys"));
     let sizes = value_given(matches, "sizes");
     Ok(Asked::Play(Play {

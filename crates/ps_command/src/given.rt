@@ -34,8 +34,5 @@ pub fn is_given(matches: &ArgMatches<'_>, name: &str) -> bool
 pub fn further_given<'m, 'w>(matches: &'m ArgMatches<'w>) -> &'m [&'w str]
     ensures { texts_of result.now ≡ further_in (rows_in matches.now) }
 {
-    let Some(words) = values_given(matches, "FURTHER") else {
-        return &[];
-    };
-    words
+    values_given(matches, "FURTHER").unwrap_or(&[])
 }

@@ -187,6 +187,7 @@ struct WordsToSolve<'w, 'm> {
 
 /// What is meant by the words after the first text. They are further texts; but a number alone is that of the level,
 /// unless an option has given it.
+#[tactic(auto, using(crate::proofs::WordsToSolve::words_kept, crate::proofs::WordsToSolve::lone_level, crate::proofs::WordsToSolve::lone_file, crate::proofs::NumbersRead::number_read))]
 fn words_to_solve<'w, 'm>(
     level: Option<usize>,
     further: &'m [&'w str],
