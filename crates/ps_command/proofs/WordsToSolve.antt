@@ -6,6 +6,11 @@ use Rattle.std.specs.Str.Parse.{IsNumeral, ParsesUnsigned, digits_value, without
 use Rattle.clap.specs.Words.{Text}
 use Rattle.ps_command.specs.Given.{AreWordsToSolve, IsNumber, texts_of}
 
+-- where no word stands there is none
+pub no_words : (level : Option ℕ) → AreWordsToSolve level [] level []
+no_words (Some n) = (refl, refl)
+no_words None = (refl, refl)
+
 -- words that are several, or stand beside a level that is given, are files
 pub words_kept : (level : Option ℕ) (words : List (Bor Text)) → (is_some level ≡ true) ⊎ (length words ≢ 1) →
     AreWordsToSolve level (texts_of words) level (texts_of words)

@@ -31,6 +31,10 @@ is_given name rows = option_map_or (λ word. bytes_eq word (codes "true")) (firs
 abbrev pub further_in : List Row → List Text
 further_in rows = unwrap_or (all_of (codes "FURTHER") rows) []
 
+-- the files that words name which may be there
+abbrev pub files_of : Option (Bor (List (Bor Text))) → List Text
+files_of words = unwrap_or (option_map (λ names. texts_of names.now) words) []
+
 -- GAME is this file, and nothing is to be explained
 abbrev pub IsGameIn : List Row → Text → Type 0
 IsGameIn rows game = (first_of (codes "explain") rows ≡ None) × (first_of (codes "GAME") rows ≡ Some game)

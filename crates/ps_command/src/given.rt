@@ -2,7 +2,7 @@
 
 ghost use Rattle.std.specs.Prelude.{◌≡◌, option_map};
 ghost use Rattle.clap.specs.Words.{all_of, first_of};
-ghost use Rattle.ps_command.specs.Given.{further_in, is_given, rows_in, text_of, texts_of};
+ghost use Rattle.ps_command.specs.Given.{is_given, rows_in, text_of, texts_of};
 
 use clap::ArgMatches;
 
@@ -28,11 +28,4 @@ pub fn is_given(matches: &ArgMatches<'_>, name: &str) -> bool
         Some(word) => word == "true",
         None => false,
     }
-}
-
-/// The further files behind `GAME`.
-pub fn further_given<'m, 'w>(matches: &'m ArgMatches<'w>) -> &'m [&'w str]
-    ensures { texts_of result.now ≡ further_in (rows_in matches.now) }
-{
-    values_given(matches, "FURTHER").unwrap_or(&[])
 }

@@ -4,11 +4,11 @@ ghost use Rattle.std.specs.List.{list_any};
 ghost use Rattle.std.specs.Prelude.{◌≡◌, IfOk, codes};
 ghost use Rattle.ps_command.specs.AskedFor.{IsAsked, Replays};
 ghost use Rattle.ps_command.specs.CommandLines.{IsArgument, bound, flag};
-ghost use Rattle.ps_command.specs.Given.{IsGameIn, is_input, rows_in};
+ghost use Rattle.ps_command.specs.Given.{IsGameIn, further_in, is_input, rows_in, texts_of};
 
 use crate::command::Asked;
 use crate::files::STANDARD_INPUT;
-use crate::given::further_given;
+use crate::given::values_given;
 use crate::searches::wants_data;
 use crate::stops::Stop;
 use clap::{Arg, ArgAction, ArgMatches};
@@ -63,6 +63,19 @@ fn has_input(words: &[&str]) -> bool
     words.iter().any(|word| *word == STANDARD_INPUT)
 }
 
+/// The files with keys that stand after `GAME`.
+fn streams_given<'w>(
+    alloc: Global,
+    matches: &ArgMatches<'w>,
+) -> Result<Vec<&'w str>, AllocError>
+    ensures { IfOk result (λ streams. texts_of streams.items ≡ further_in (rows_in matches.now)) }
+{
+    match values_given(matches, "FURTHER") {
+        Some(words) => Vec::from_slice(alloc, words),
+        None => Ok(Vec::new(alloc)),
+    }
+}
+
 /// What the matches of a command line ask for that replays streams of keys in the game of this file, if the words fit
 /// together: standard input is one file.
 pub fn asked_replay<'w>(
@@ -75,11 +88,10 @@ pub fn asked_replay<'w>(
     ensures asked { IfOk result (IsAsked (rows_in matches.now)) }
 {
     let is_data = wants_data(matches)?;
-    let further = further_given(matches);
-    if game == STANDARD_INPUT && has_input(further) {
+    let streams = streams_given(alloc, matches)?;
+    if game == STANDARD_INPUT && has_input(&streams) {
         return Err(Stop::OneInput);
     }
-    let streams = Vec::from_slice(alloc, further)?;
     Ok(Asked::Replay(ReplayStreams {
         game,
         streams,

@@ -5,12 +5,12 @@ ghost use Rattle.clap.specs.Words.{first_of};
 ghost use Rattle.ps_command.specs.AskedFor.{IsAsked, IsSearch, Solves};
 ghost use Rattle.ps_command.specs.CommandLines.{IsArgument, bound, flag, option};
 ghost use Rattle.ps_command.specs.Given.{AreWordsToSolve, IsCount, IsCountOr, IsFormOf, IsGameIn, form_for, rows_in};
-ghost use Rattle.ps_command.specs.Given.{text_of, texts_of};
+ghost use Rattle.ps_command.specs.Given.{files_of, text_of, texts_of};
 
 use crate::after_keys::SolveAfter;
 use crate::command::{Asked, Solve, all_paths, level_asked};
 use crate::files::STANDARD_INPUT;
-use crate::given::{further_given, value_given};
+use crate::given::{value_given, values_given};
 use crate::report_options::format_asked;
 use crate::stops::Stop;
 use clap::{Arg, ArgAction, ArgMatches};
@@ -167,7 +167,7 @@ fn search_asked<'w, 'm>(matches: &'m ArgMatches<'w>) -> Result<SearchWords<'w, '
     let given = level_asked(matches)?;
     let limit = states_asked(matches)?;
     let is_data = wants_data(matches)?;
-    let words = words_to_solve(given, further_given(matches))?;
+    let words = words_to_solve(given, values_given(matches, "FURTHER"))?;
     let stop_file = value_given(matches, "stop-file");
     Ok(SearchWords {
         level: words.level,
@@ -187,14 +187,20 @@ struct WordsToSolve<'w, 'm> {
 
 /// What is meant by the words after the first text. They are further texts; but a number alone is that of the level,
 /// unless an option has given it.
-#[tactic(auto, using(crate::proofs::WordsToSolve::words_kept, crate::proofs::WordsToSolve::lone_level, crate::proofs::WordsToSolve::lone_file, crate::proofs::NumbersRead::number_read))]
+#[tactic(auto, using(crate::proofs::WordsToSolve::no_words, crate::proofs::WordsToSolve::words_kept, crate::proofs::WordsToSolve::lone_level, crate::proofs::WordsToSolve::lone_file, crate::proofs::NumbersRead::number_read))]
 fn words_to_solve<'w, 'm>(
     level: Option<usize>,
-    further: &'m [&'w str],
+    further: Option<&'m [&'w str]>,
 ) -> Result<WordsToSolve<'w, 'm>, Stop>
     ensures { IfOk result (λ words.
-        AreWordsToSolve level (texts_of further.entry.now) words.level (texts_of words.further.now)) }
+        AreWordsToSolve level (files_of further.entry) words.level (texts_of words.further.now)) }
 {
+    let Some(further) = further else {
+        return Ok(WordsToSolve {
+            further: &[],
+            level,
+        });
+    };
     if level.is_some() || further.len() != 1 {
         return Ok(WordsToSolve { further, level });
     }
