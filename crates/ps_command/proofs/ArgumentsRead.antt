@@ -1,5 +1,7 @@
 -- By which rules the arguments of the command line are read, as they are built.
-use Rattle.std.proofs.Common.{◌≡◌, ◌∙◌, ◌++◌, ◌∷◌, ◌&&◌, Bool, true, false, not, List, [], refl, ap, ap₂}
+use Rattle.std.proofs.Common.{◌≡◌, ◌∙◌, ◌++◌, ◌∷◌, ◌&&◌, ◌==◌, ◌<◌, ℕ, suc, Bool, true, false, not, List, [], length}
+use Rattle.std.proofs.Common.{refl, ap, ap₂, arith}
+use Rattle.std.proofs.lemmas.Bool.Decides.{nat_tests}
 use Rattle.std.specs.Borrow.{Bor}
 use Rattle.clap.specs.Walk.{is_empty, is_free_arg}
 use Rattle.clap.specs.Words.{AddsArg, AddsConflicts, AddsRequiredUnless, AddsRequirements, App, HasMatchesOf, Rule, Text}
@@ -11,10 +13,15 @@ use Rattle.clap.specs.declared.parser.matches.ArgMatches.{ArgMatches}
 use Rattle.ps_command.specs.CommandLines.{IsArgument, bound, matched, player}
 use Rattle.ps_command.specs.Given.{rows_in}
 
+-- a number from 1 isn't 0
+not_none : (n : ℕ) (b : Bool) → (n == 0) ≡ b → 0 < n → b ≡ false
+not_none n false test from = refl
+not_none n true test from = let none : n ≡ 0 = grind (arith, nat_tests) in absurd (omega arith)
+
 -- a list with one more isn't empty
 filled : {X : Type 0} (xs : List X) (x : X) (more : List X) → is_empty (xs ++ x ∷ more) ≡ false
-filled [] x more = refl
-filled (y ∷ xs) x more = refl
+filled [] x more = not_none (suc (length more)) _ refl (omega arith)
+filled (y ∷ xs) x more = not_none (suc (length (xs ++ x ∷ more))) _ refl (omega arith)
 
 false_and : (p q : Bool) → p ≡ false → p && q ≡ false
 false_and p q e = rw e refl
