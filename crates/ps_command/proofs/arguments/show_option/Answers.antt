@@ -6,6 +6,6 @@ use Rattle.ps_command.proofs.arguments.show_option.Goals as goal
 
 pub returns : goal.returns
 returns c = IfOk-weaker c.conflicts_with_all.result _ _
-    (λ r adds. conflicts_with (bound (option (codes "show"))) _ r _ _ adds
+    (λ r adds. conflicts_with (bound (option (codes "show"))) c.in_ok-requires_arg.field-0 r _ _ adds
     (requires_other (option (codes "show")) c.action.result _ _ c.in_ok-requires_arg.ensures (search rules, search rules)))
     c.conflicts_with_all.ensures
