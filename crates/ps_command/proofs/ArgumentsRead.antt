@@ -1,6 +1,6 @@
 -- By which rules the arguments of the command line are read, as they are built.
 use Rattle.std.proofs.Common.{◌≡◌, ◌∙◌, ◌++◌, ◌∷◌, ◌&&◌, ◌==◌, ◌<◌, ℕ, suc, Bool, true, false, not, List, [], length}
-use Rattle.std.proofs.Common.{refl, ap, ap₂, arith}
+use Rattle.std.proofs.Common.{refl, ap, arith}
 use Rattle.std.proofs.lemmas.Bool.Decides.{nat_tests}
 use Rattle.std.specs.Borrow.{Bor}
 use Rattle.clap.specs.Walk.{is_empty, is_free_arg}
@@ -10,7 +10,7 @@ use Rattle.clap.specs.declared.builder.arg.Arg.{Arg}
 use Rattle.clap.specs.declared.builder.arg.ArgPredicate.{ArgPredicate}
 use Rattle.clap.specs.declared.builder.command.Command.{Command}
 use Rattle.clap.specs.declared.parser.matches.ArgMatches.{ArgMatches}
-use Rattle.ps_command.specs.CommandLines.{IsArgument, bound, matched, player}
+use Rattle.ps_command.specs.CommandLines.{IsArgument, bound, matched, player, with_rules}
 use Rattle.ps_command.specs.Given.{rows_in}
 
 -- a number from 1 isn't 0
@@ -70,14 +70,20 @@ required_unless rule a b x adds is =
     ap (λ (r : Arg). record (rule_of r) { is_free = is_free_arg b }) adds.0 in
     (bound_rule rule a b same free is.0, ap (λ (r : Arg). r.global) adds.0 ∙ is.1)
 
--- a command with one more argument
-pub one_more : (app : App) (rule : Rule) (old new : Command) (a : Arg) → app_of old ≡ app → IsArgument rule a →
-    AddsArg old a new → app_of new ≡ with_rule app rule
-one_more app rule old new a is argument adds = adds.shape argument.1 ∙ ap₂ with_rule is argument.0
+-- a command that gets no more arguments, and one that gets one more and then others
+pub no_more : (last : Command) → app_of last ≡ with_rules (app_of last) []
+unfolding with_rules
+no_more last = refl
+
+pub one_more : (old new last : Command) (rule : Rule) (more : List Rule) (a : Arg) → AddsArg old a new →
+    IsArgument rule a → app_of last ≡ with_rules (app_of new) more → app_of last ≡ with_rules (app_of old) (rule ∷ more)
+unfolding with_rules
+one_more old new last rule more a adds argument rest =
+    rest ∙ ap (λ (app : App). with_rules app more) (adds.shape argument.1 ∙ ap (with_rule (app_of old)) argument.0)
 
 -- clap says what it matches for the player's command line
 pub player_is_simple : is_simple player ≡ true
-unfolding player
+unfolding player with_rules
 player_is_simple = refl
 
 pub matched_by : (app : App) (words : List Text) (m : ArgMatches) → app ≡ player → HasMatchesOf app words m →

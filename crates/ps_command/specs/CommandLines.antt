@@ -1,6 +1,6 @@
 -- The player's command line as clap reads it: the program's name, its arguments in their order, and what clap matches for
 -- them in words. Texts of help stand elsewhere, and so do the rules on which arguments go together.
-use Rattle.std.specs.Prelude.{◌≡◌, Bool, true, false, List, [], ◌∷◌, Some, codes, fold}
+use Rattle.std.specs.Prelude.{◌≡◌, Bool, true, false, List, [], ◌∷◌, Some, codes}
 use Rattle.clap.specs.Lexer.{usize_max}
 use Rattle.clap.specs.Simple.{on_top}
 use Rattle.clap.specs.Words.{App, Row, Rule, Text, matches_of, new_app, new_rule, rule_of, with_rule}
@@ -34,9 +34,9 @@ further_files = record (new_rule (codes "FURTHER")) {
 abbrev pub IsArgument : Rule → Arg → Type 0
 IsArgument rule arg = (rule_of arg ≡ rule) × (arg.global ≡ false)
 
--- all arguments, in their order
-abbrev pub arguments : List Rule
-arguments =
+-- GAME, further files, and what is said of a check
+abbrev pub files_and_checks : List Rule
+files_and_checks =
     game_file
     ∷ further_files
     ∷ flag (codes "check")
@@ -46,12 +46,22 @@ arguments =
     ∷ option (codes "format")
     ∷ bound (flag (codes "warn"))
     ∷ bound (flag (codes "strict"))
-    ∷ bound (flag (codes "solve"))
+    ∷ []
+
+-- what is said of searches and replays
+abbrev pub searches : List Rule
+searches =
+    bound (flag (codes "solve"))
     ∷ bound (option (codes "states"))
     ∷ bound (option (codes "after"))
     ∷ bound (option (codes "stop-file"))
     ∷ bound (flag (codes "replay"))
-    ∷ bound (option (codes "level"))
+    ∷ []
+
+-- what is said of runs, and all else
+abbrev pub plays : List Rule
+plays =
+    bound (option (codes "level"))
     ∷ option (codes "keys")
     ∷ option (codes "view")
     ∷ bound (option (codes "sizes"))
@@ -66,9 +76,14 @@ arguments =
 abbrev pub bare_player : App
 bare_player = on_top (λ top. record top { has_version = true }) (new_app (codes "ps_play"))
 
--- the command with all arguments
+-- a command with more arguments
+unfoldable pub with_rules : App → List Rule → App
+with_rules app [] = app
+with_rules app (rule ∷ more) = with_rules (with_rule app rule) more
+
+-- the command with all arguments, in their order
 unfoldable pub player : App
-player = fold with_rule bare_player arguments
+player = with_rules (with_rules (with_rules bare_player files_and_checks) searches) plays
 
 -- what clap matches in words, of which the first is the program's own name
 unfoldable pub matched : List Text → List Row

@@ -2,7 +2,8 @@
 
 ghost use Rattle.std.specs.Prelude.{◌≡◌, IfOk, codes};
 ghost use Rattle.clap.specs.Words.{app_of};
-ghost use Rattle.ps_command.specs.CommandLines.{IsArgument, bound, flag, further_files, game_file, option, player};
+ghost use Rattle.ps_command.specs.CommandLines.{IsArgument, bound, files_and_checks, flag, further_files, game_file};
+ghost use Rattle.ps_command.specs.CommandLines.{option, player, plays, searches, with_rules};
 
 use crate::replay_options::replay_option;
 use crate::report_options::{all_option, format_option, limit_option, strict_option, warn_option};
@@ -29,7 +30,17 @@ pub fn player_command<'w>(alloc: Global) -> Result<Command<'w>, AllocError>
     let command = Command::new(alloc, "ps_play")
         .version(VERSION)
         .about("Plays a game of PuzzleScript at a terminal")
-        .after_help(AFTER_HELP)
+        .after_help(AFTER_HELP);
+    let command = with_checks(alloc, command)?;
+    let command = with_searches(alloc, command)?;
+    with_plays(alloc, command)
+}
+
+/// A command with `GAME`, further files, and what is said of a check.
+fn with_checks<'w>(alloc: Global, command: Command<'w>) -> Result<Command<'w>, AllocError>
+    ensures { IfOk result (λ more. app_of more ≡ with_rules (app_of command) files_and_checks) }
+{
+    let command = command
         .arg(game_argument(alloc)?)?
         .arg(further_argument(alloc))?
         .arg(check_option(alloc))?
@@ -38,12 +49,28 @@ pub fn player_command<'w>(alloc: Global) -> Result<Command<'w>, AllocError>
         .arg(limit_option(alloc)?)?
         .arg(format_option(alloc))?
         .arg(warn_option(alloc)?)?
-        .arg(strict_option(alloc)?)?
+        .arg(strict_option(alloc)?)?;
+    Ok(command)
+}
+
+/// A command with what is said of searches and replays, too.
+fn with_searches<'w>(alloc: Global, command: Command<'w>) -> Result<Command<'w>, AllocError>
+    ensures { IfOk result (λ more. app_of more ≡ with_rules (app_of command) searches) }
+{
+    let command = command
         .arg(solve_option(alloc)?)?
         .arg(states_option(alloc)?)?
         .arg(after_option(alloc)?)?
         .arg(stop_option(alloc)?)?
-        .arg(replay_option(alloc)?)?
+        .arg(replay_option(alloc)?)?;
+    Ok(command)
+}
+
+/// A command with what is said of runs, and all else, too.
+fn with_plays<'w>(alloc: Global, command: Command<'w>) -> Result<Command<'w>, AllocError>
+    ensures { IfOk result (λ more. app_of more ≡ with_rules (app_of command) plays) }
+{
+    let command = command
         .arg(level_option(alloc)?)?
         .arg(keys_option(alloc))?
         .arg(view_option(alloc))?
