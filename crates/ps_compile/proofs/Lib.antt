@@ -6,4 +6,4 @@ pub mod MadePieces
 pub mod MadeSections
 pub mod RunnablePrograms
 pub mod TurnedRules
-mod WholeRows
+pub mod WholeRows

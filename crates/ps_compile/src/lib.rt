@@ -12,7 +12,8 @@ mod turning;
 mod values;
 mod writes;
 
+pub use idle::is_idle;
 pub use program::{CompiledPrograms, compile};
 pub use ps_model::{Memory, Part};
 pub use ps_program::{CompiledRule, CompiledSection, Program};
-pub use rules::push_rules;
+pub use rules::{push_rules, rule_by};

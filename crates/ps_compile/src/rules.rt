@@ -143,7 +143,7 @@ fn compiled_rows(
 }
 
 /// The compiled rule of a rule under a reading, facing down or right.
-fn rule_by<'r>(
+pub fn rule_by<'r>(
     alloc: Global,
     names: &Names,
     occurrences: &Occurrences<'r>,

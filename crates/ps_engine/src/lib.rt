@@ -19,6 +19,7 @@ mod walking;
 mod workspace;
 mod writing;
 
+pub use attempts::attempt;
 pub use cycle_finder::KeptBoards;
 pub use lent_queue::LentQueue;
 pub use programs::{run_program, run_until_cancelled};
@@ -26,3 +27,4 @@ pub use ps_match::{ListBoard, Scan};
 pub use ps_places::ScratchFor;
 pub use quiet_groups::QuietGroups;
 pub use scratch::scratch_for;
+pub use workspace::Workspace;
