@@ -34,9 +34,9 @@ further_files = record (new_rule (codes "FURTHER")) {
 abbrev pub IsArgument : Rule → Arg → Type 0
 IsArgument rule arg = (rule_of arg ≡ rule) × (arg.global ≡ false)
 
--- GAME, further files, and what is said of a check
-abbrev pub files_and_checks : List Rule
-files_and_checks =
+-- all arguments, in their order
+abbrev pub arguments : List Rule
+arguments =
     game_file
     ∷ further_files
     ∷ flag (codes "check")
@@ -46,22 +46,12 @@ files_and_checks =
     ∷ option (codes "format")
     ∷ bound (flag (codes "warn"))
     ∷ bound (flag (codes "strict"))
-    ∷ []
-
--- what is said of searches and replays
-abbrev pub searches : List Rule
-searches =
-    bound (flag (codes "solve"))
+    ∷ bound (flag (codes "solve"))
     ∷ bound (option (codes "states"))
     ∷ bound (option (codes "after"))
     ∷ bound (option (codes "stop-file"))
     ∷ bound (flag (codes "replay"))
-    ∷ []
-
--- what is said of runs, and all else
-abbrev pub plays : List Rule
-plays =
-    bound (option (codes "level"))
+    ∷ bound (option (codes "level"))
     ∷ option (codes "keys")
     ∷ option (codes "view")
     ∷ bound (option (codes "sizes"))
@@ -81,9 +71,9 @@ unfoldable pub with_rules : App → List Rule → App
 with_rules app [] = app
 with_rules app (rule ∷ more) = with_rules (with_rule app rule) more
 
--- the command with all arguments, in their order
+-- the command with all arguments
 unfoldable pub player : App
-player = with_rules (with_rules (with_rules bare_player files_and_checks) searches) plays
+player = with_rules bare_player arguments
 
 -- what clap matches in words, of which the first is the program's own name
 unfoldable pub matched : List Text → List Row

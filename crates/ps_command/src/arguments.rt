@@ -2,8 +2,7 @@
 
 ghost use Rattle.std.specs.Prelude.{◌≡◌, IfOk, codes};
 ghost use Rattle.clap.specs.Words.{app_of};
-ghost use Rattle.ps_command.specs.CommandLines.{IsArgument, bound, files_and_checks, flag, further_files, game_file};
-ghost use Rattle.ps_command.specs.CommandLines.{option, player, plays, searches, with_rules};
+ghost use Rattle.ps_command.specs.CommandLines.{IsArgument, bound, flag, further_files, game_file, option, player};
 
 use crate::replay_options::replay_option;
 use crate::report_options::{all_option, format_option, limit_option, strict_option, warn_option};
@@ -30,17 +29,7 @@ pub fn player_command<'w>(alloc: Global) -> Result<Command<'w>, AllocError>
     let command = Command::new(alloc, "ps_play")
         .version(VERSION)
         .about("Plays a game of PuzzleScript at a terminal")
-        .after_help(AFTER_HELP);
-    let command = with_checks(alloc, command)?;
-    let command = with_searches(alloc, command)?;
-    with_plays(alloc, command)
-}
-
-/// A command with `GAME`, further files, and what is said of a check.
-fn with_checks<'w>(alloc: Global, command: Command<'w>) -> Result<Command<'w>, AllocError>
-    ensures { IfOk result (λ more. app_of more ≡ with_rules (app_of command) files_and_checks) }
-{
-    let command = command
+        .after_help(AFTER_HELP)
         .arg(game_argument(alloc)?)?
         .arg(further_argument(alloc))?
         .arg(check_option(alloc))?
@@ -49,28 +38,12 @@ fn with_checks<'w>(alloc: Global, command: Command<'w>) -> Result<Command<'w>, A
         .arg(limit_option(alloc)?)?
         .arg(format_option(alloc))?
         .arg(warn_option(alloc)?)?
-        .arg(strict_option(alloc)?)?;
-    Ok(command)
-}
-
-/// A command with what is said of searches and replays, too.
-fn with_searches<'w>(alloc: Global, command: Command<'w>) -> Result<Command<'w>, AllocError>
-    ensures { IfOk result (λ more. app_of more ≡ with_rules (app_of command) searches) }
-{
-    let command = command
+        .arg(strict_option(alloc)?)?
         .arg(solve_option(alloc)?)?
         .arg(states_option(alloc)?)?
         .arg(after_option(alloc)?)?
         .arg(stop_option(alloc)?)?
-        .arg(replay_option(alloc)?)?;
-    Ok(command)
-}
-
-/// A command with what is said of runs, and all else, too.
-fn with_plays<'w>(alloc: Global, command: Command<'w>) -> Result<Command<'w>, AllocError>
-    ensures { IfOk result (λ more. app_of more ≡ with_rules (app_of command) plays) }
-{
-    let command = command
+        .arg(replay_option(alloc)?)?
         .arg(level_option(alloc)?)?
         .arg(keys_option(alloc))?
         .arg(view_option(alloc))?
