@@ -1,4 +1,4 @@
-use Rattle.std.proofs.Common.{◌≡◌, ◌∙◌, true, ap}
+use Rattle.std.proofs.Common.{◌≡◌, ◌∙◌, [], true, ap}
 use Rattle.clap.specs.Simple.{app_of_fields, on_top}
 use Rattle.clap.specs.Words.{App, app_of}
 use Rattle.clap.specs.declared.builder.command.Command.{Command}
@@ -37,4 +37,4 @@ returns c =
     let from_3 = one_more _ _ last _ _ _ c.in_ok-arg-3.ensures c.check_option.ensures from_4 in
     let from_2 = one_more _ _ last _ _ _ c.in_ok-arg-2.ensures c.further_argument.ensures from_3 in
     let from_1 = one_more _ _ last _ _ _ c.in_ok-arg.ensures c.in_ok-game_argument.ensures from_2 in
-    from_1 ∙ ap (λ (app : App). with_rules app arguments) bare
+    record { is = from_1 ∙ ap (λ (app : App). with_rules app arguments) bare }

@@ -5,5 +5,7 @@ use Rattle.ps_command.proofs.command.matches_of.Goals as goal
 
 pub returns : goal.returns
 returns g c =
-    matched_by (app_of c.in_ok-command.command) (map g.S.AsStr.text c.args.words.now) c.in_ok-matches.matches
-    c.in_ok-command.ensures c.in_ok-matches.ensures.matches
+    record {
+      matched = matched_by (app_of c.in_ok-command.command) (map g.S.AsStr.text c.args.words.now)
+          c.in_ok-matches.matches c.in_ok-command.ensures.is c.in_ok-matches.ensures.matches;
+    }
