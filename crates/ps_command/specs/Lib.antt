@@ -1,4 +1,7 @@
+pub mod AskedFor
+pub mod CommandLines
 pub mod Details
+pub mod Given
 pub mod Replayed
 pub mod Reported
 pub mod Searched

@@ -51,6 +51,7 @@ IsStatusOf stop.NoLevel status = status ≡ 2
 IsStatusOf stop.NoLimit status = status ≡ 2
 IsStatusOf stop.NoFormat status = status ≡ 2
 IsStatusOf stop.NoStates status = status ≡ 2
+IsStatusOf stop.NoTask status = status ≡ 2
 IsStatusOf stop.OneGame status = status ≡ 2
 IsStatusOf stop.OneInput status = status ≡ 2
 IsStatusOf stop.Game status = status ≡ 1

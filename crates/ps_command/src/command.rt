@@ -1,18 +1,21 @@
 //! The command line.
 
+ghost use Rattle.std.specs.Prelude.{◌≡◌, ◌∷◌, IfOk, IfSome, None, Some, codes, map};
+ghost use Rattle.clap.specs.Words.{first_of};
+ghost use Rattle.ps_command.specs.AskedFor.{Checks, IsAsked, Plays, names_more};
+ghost use Rattle.ps_command.specs.CommandLines.{matched};
+ghost use Rattle.ps_command.specs.Given.{IsCount, IsGameIn, IsLevelOf, IsSizeOf, keys_file, rows_in, text_of, texts_of};
+
 use crate::after_keys::SolveAfter;
+use crate::arguments::player_command;
 use crate::files::STANDARD_INPUT;
-use crate::replay_options::{ReplayStreams, asked_replay, replay_option};
-use crate::report_options::{
-    all_option, asked_report, format_option, limit_option, strict_option, wants_report, warn_option,
-};
-use crate::searches::{
-    after_option, fitting, solve_option, states_asked, states_option, stop_option, tasks,
-    wants_data, words_to_solve,
-};
+use crate::given::{is_given, value_given, values_given};
+use crate::replay_options::{ReplayStreams, asked_replay};
+use crate::report_options::{asked_report, format_asked, tells_more};
+use crate::searches::asked_solve;
 use crate::sizes::size_of;
 use crate::stops::Stop;
-use clap::{Arg, ArgAction, ArgMatches, Command};
+use clap::ArgMatches;
 use ps_report::How;
 use ps_view::Size;
 use std::alloc::{AllocError, Global};
@@ -61,18 +64,6 @@ pub struct Solve<'w> {
     pub stop_file: Option<&'w str>,
 }
 
-/// The version, which `--version` tells.
-const VERSION: &str = "0.3.0";
-
-/// What help says below the arguments.
-const AFTER_HELP: &str =
-    "Keys: w, a, s, d or the arrows move, x acts, z undoes, r restarts, q quits.
-Status: 0 where the run ended, the check accepted, --solve won each level or --replay the game
-with each file of keys; 1 at a fault, or where a level isn't known to be won or a game isn't
-won; 2 at a bad command line.
-A fault of the game is told on standard error, as `line 30: RU7 Unbound`; --check tells it
-on standard output.";
-
 /// What a command line asks for.
 #[derive(Drop)]
 pub enum Asked<'w> {
@@ -104,100 +95,114 @@ pub enum Asked<'w> {
 }
 
 /// What the words of a command line ask for, of which the first is the program's own name.
-pub fn read_command<'w, S: AsStr>(alloc: Global, words: &'w [S]) -> Result<Asked<'w>, Stop> {
-    let command = Command::new(alloc, "ps_play")
-        .version(VERSION)
-        .about("Plays a game of PuzzleScript at a terminal")
-        .after_help(AFTER_HELP)
-        .arg(game_argument(alloc)?)?
-        .arg(further_argument(alloc)?)?
-        .arg(check_option(alloc))?
-        .arg(why_option(alloc)?)?
-        .arg(all_option(alloc)?)?
-        .arg(limit_option(alloc)?)?
-        .arg(format_option(alloc)?)?
-        .arg(warn_option(alloc)?)?
-        .arg(strict_option(alloc)?)?
-        .arg(solve_option(alloc)?)?
-        .arg(states_option(alloc)?)?
-        .arg(after_option(alloc)?)?
-        .arg(stop_option(alloc)?)?
-        .arg(replay_option(alloc)?)?
-        .arg(level_option(alloc)?)?
-        .arg(keys_option(alloc))?
-        .arg(view_option(alloc))?
-        .arg(sizes_option(alloc)?)?
-        .arg(plain_option(alloc))?
-        .arg(fresh_option(alloc))?
-        .arg(show_option(alloc)?)?
-        .arg(describe_option(alloc)?)?
-        .arg(explain_option(alloc)?)?
-        .group(tasks(alloc)?)?;
-    let matches = command.try_get_matches_from(words)?;
+pub fn read_command<'w, S: AsStr>(alloc: Global, words: &'w [S]) -> Result<Asked<'w>, Stop>
+    ensures asked { IfOk result (IsAsked (matched (map S.text words.entry.now))) }
+{
+    let matches = matches_of(alloc, words)?;
     asked_by(alloc, &matches)
 }
 
-/// What the matches of a command line ask for.
-fn asked_by<'w>(alloc: Global, matches: &ArgMatches<'w>) -> Result<Asked<'w>, Stop> {
-    if let Some(code) = matches.get_str("explain") {
-        return Ok(Asked::Explanation(code));
-    }
-    let Some(path) = matches.get_str("GAME") else {
-        return Err(Stop::Game);
-    };
-    let size = match matches.get_str("view") {
-        None => None,
-        Some(word) => Some(size_of(word).ok_or(Stop::NoSize)?),
-    };
-    let level = match matches.get_str("level") {
-        None => None,
-        Some(word) => Some(level_of(word).ok_or(Stop::NoLevel)?),
-    };
-    if matches.get_flag("solve") {
-        return asked_solve(alloc, matches, path, level);
-    }
-    if matches.get_flag("replay") {
-        return asked_replay(alloc, matches, path);
-    }
-    if wants_report(matches)? {
-        return asked_report(alloc, matches, path);
-    }
-    if matches.get_flag("check") {
-        return asked_check(alloc, matches, path);
-    }
-    if matches.get_flag("describe") {
-        return Ok(Asked::Description(path));
-    }
-    Ok(asked_play(matches, path, level, size))
+/// What clap matches in the words of a command line.
+fn matches_of<'w, S: AsStr>(alloc: Global, words: &'w [S]) -> Result<ArgMatches<'w>, Stop>
+    ensures matched { IfOk result (λ matches. rows_in matches ≡ matched (map S.text words.entry.now)) }
+{
+    let command = player_command(alloc)?;
+    let matches = command.try_get_matches_from(words)?;
+    Ok(matches)
 }
 
-/// What the matches of a command line ask for that plays a game, or shows the output of a run, which wants a size.
+/// What the matches of a command line ask for.
+fn asked_by<'w>(alloc: Global, matches: &ArgMatches<'w>) -> Result<Asked<'w>, Stop>
+    ensures asked { IfOk result (IsAsked (rows_in matches.now)) }
+{
+    if let Some(code) = value_given(matches, "explain") {
+        return Ok(Asked::Explanation(code));
+    }
+    let Some(path) = value_given(matches, "GAME") else {
+        return Err(Stop::Game);
+    };
+    // A size that is none is told, whatever the task.
+    let size = size_asked(matches)?;
+    if is_given(matches, "solve") {
+        return asked_solve(alloc, matches, path);
+    }
+    if is_given(matches, "replay") {
+        return asked_replay(alloc, matches, path);
+    }
+    if is_given(matches, "check") {
+        return asked_check(alloc, matches, path);
+    }
+    if names_more(matches) {
+        return Err(Stop::NoTask);
+    }
+    if is_given(matches, "describe") {
+        return Ok(Asked::Description(path));
+    }
+    match value_given(matches, "show") {
+        Some(output) => asked_show(matches, path, output, size),
+        None => asked_play(matches, path, size),
+    }
+}
+
+/// Whether further files are named, or a form in which something is told.
+fn names_more(matches: &ArgMatches<'_>) -> bool
+    ensures { result ≡ names_more (rows_in matches.now) }
+{
+    values_given(matches, "FURTHER").is_some() || value_given(matches, "format").is_some()
+}
+
+/// What the matches of a command line ask for that shows the output of a run, which wants a size.
+fn asked_show<'w>(
+    matches: &ArgMatches<'w>,
+    path: &'w str,
+    output: &'w str,
+    size: Option<Size>,
+) -> Result<Asked<'w>, Stop>
+    requires game { IsGameIn (rows_in matches.now) path.now }
+    requires task { Plays (rows_in matches.now) }
+    requires output { first_of (codes "show") (rows_in matches.now) ≡ Some output.now }
+    requires size { IsSizeOf (first_of (codes "view") (rows_in matches.now)) size }
+    ensures asked { IfOk result (IsAsked (rows_in matches.now)) }
+{
+    let Some(size) = size else {
+        return Err(Stop::NoSize);
+    };
+    Ok(Asked::Show(Show {
+        game: path,
+        output,
+        size,
+        sizes: value_given(matches, "sizes"),
+    }))
+}
+
+/// What the matches of a command line ask for that plays a game.
 fn asked_play<'w>(
     matches: &ArgMatches<'w>,
     path: &'w str,
-    level: Option<usize>,
     size: Option<Size>,
-) -> Asked<'w> {
-    let sizes = matches.get_str("sizes");
-    if let (Some(output), Some(size)) = (matches.get_str("show"), size) {
-        return Asked::Show(Show {
-            game: path,
-            output,
-            size,
-            sizes,
-        });
-    }
-    Asked::Play(Play {
+) -> Result<Asked<'w>, Stop>
+    requires game { IsGameIn (rows_in matches.now) path.now }
+    requires task { Plays (rows_in matches.now) }
+    requires shown { first_of (codes "show") (rows_in matches.now) ≡ None }
+    requires size { IsSizeOf (first_of (codes "view") (rows_in matches.now)) size }
+    ensures asked { IfOk result (IsAsked (rows_in matches.now)) }
+{
+    let level = level_asked(matches)?;
+    let keys = keys_named(value_given(matches, "keys"));
+    let sizes = value_given(matches, "sizes");
+    Ok(Asked::Play(Play {
         game: path,
         level,
-        keys: keys_named(matches.get_str("keys")),
+        keys,
         size,
         sizes,
-    })
+    }))
 }
 
 /// The file with the keys; none where it is standard input, from which they come anyway.
-fn keys_named<'w>(word: Option<&'w str>) -> Option<&'w str> {
+fn keys_named<'w>(word: Option<&'w str>) -> Option<&'w str>
+    ensures { text_of result ≡ keys_file (text_of word.entry) }
+{
     match word {
         Some(path) => {
             if path == STANDARD_INPUT {
@@ -210,14 +215,58 @@ fn keys_named<'w>(word: Option<&'w str>) -> Option<&'w str> {
     }
 }
 
+/// The size of the terminal that the matches of a command line give.
+fn size_asked(matches: &ArgMatches<'_>) -> Result<Option<Size>, Stop>
+    ensures { IfOk result (IsSizeOf (first_of (codes "view") (rows_in matches.now))) }
+{
+    let Some(word) = value_given(matches, "view") else {
+        return Ok(None);
+    };
+    match size_of(word) {
+        Some(size) => Ok(Some(size)),
+        None => Err(Stop::NoSize),
+    }
+}
+
+/// The number of the level that the matches of a command line give.
+pub fn level_asked(matches: &ArgMatches<'_>) -> Result<Option<usize>, Stop>
+    ensures { IfOk result (IsLevelOf (first_of (codes "level") (rows_in matches.now))) }
+{
+    let Some(word) = value_given(matches, "level") else {
+        return Ok(None);
+    };
+    match level_of(word) {
+        Some(level) => Ok(Some(level)),
+        None => Err(Stop::NoLevel),
+    }
+}
+
+/// The number of a level that a word gives, from 1.
+fn level_of(word: &str) -> Option<usize>
+    ensures { IfSome result (IsCount word.now) }
+{
+    match word.parse::<usize>() {
+        Ok(level) if level > 0 => Some(level),
+        _ => None,
+    }
+}
+
 /// What the matches of a command line ask for that checks texts, the first of which is in this file.
 fn asked_check<'w>(
     alloc: Global,
     matches: &ArgMatches<'w>,
     path: &'w str,
-) -> Result<Asked<'w>, Stop> {
-    let why = matches.get_flag("why");
-    let Some(further) = matches.get_strs("FURTHER") else {
+) -> Result<Asked<'w>, Stop>
+    requires game { IsGameIn (rows_in matches.now) path.now }
+    requires task { Checks (rows_in matches.now) }
+    ensures asked { IfOk result (IsAsked (rows_in matches.now)) }
+{
+    let format = format_asked(matches)?;
+    if tells_more(matches, format) {
+        return asked_report(alloc, matches, path, format);
+    }
+    let why = is_given(matches, "why");
+    let Some(further) = values_given(matches, "FURTHER") else {
         return Ok(if why {
             Asked::CheckWhy(path)
         } else {
@@ -232,208 +281,16 @@ fn asked_check<'w>(
     })
 }
 
-/// What the matches of a command line ask for that searches levels of games, the first of which is in this file.
-fn asked_solve<'w>(
-    alloc: Global,
-    matches: &ArgMatches<'w>,
-    path: &'w str,
-    level: Option<usize>,
-) -> Result<Asked<'w>, Stop> {
-    let states = states_asked(matches)?;
-    let is_data = wants_data(matches)?;
-    let further = matches.get_strs("FURTHER").unwrap_or(&[]);
-    let words = words_to_solve(level, further)?;
-    let stop_file = matches.get_str("stop-file");
-    if let Some(keys) = matches.get_str("after") {
-        let asked = SolveAfter {
-            game: path,
-            level: words.level,
-            keys,
-            limit: states,
-            is_data,
-            stop_file,
-        };
-        return Ok(Asked::SolveAfter(fitting(asked, words.further)?));
-    }
-    let paths = all_paths(alloc, path, words.further)?;
-    Ok(Asked::Solve(Solve {
-        paths,
-        level: words.level,
-        limit: states,
-        is_data,
-        stop_file,
-    }))
-}
-
-/// `GAME`.
-fn game_argument(alloc: Global) -> Result<Arg<'static>, AllocError> {
-    Arg::new(alloc, "GAME")
-        .help(
-            "The text of a game, or - for standard input; it is played: frames go to standard output",
-        )
-        .action(ArgAction::Set)
-        .required_unless_present("explain")
-}
-
 /// A first path and all further ones.
 pub fn all_paths<'w>(
     alloc: Global,
     first: &'w str,
     further: &[&'w str],
-) -> Result<Vec<&'w str>, AllocError> {
+) -> Result<Vec<&'w str>, AllocError>
+    ensures { IfOk result (λ paths. texts_of paths.items ≡ first.entry.now ∷ texts_of further.now) }
+{
     let mut paths = Vec::new(alloc);
     paths.push(first)?;
-    for path in further {
-        paths.push(*path)?;
-    }
+    paths.extend_from_slice(further)?;
     Ok(paths)
-}
-
-/// Further files behind `GAME`: texts that are checked or searched as well, or keys that are replayed.
-fn further_argument(alloc: Global) -> Result<Arg<'static>, AllocError> {
-    Arg::new(alloc, "FURTHER")
-        .help(
-            "With --check or --solve, further texts, with --replay files of keys; where lines are on several, they begin with names",
-        )
-        .action(ArgAction::Append)
-        .num_args(1..)
-        .requires_arg("TASK")
-}
-
-/// `--check`.
-fn check_option(alloc: Global) -> Arg<'static> {
-    Arg::new(alloc, "check")
-        .long("check")
-        .help(
-            "Says whether each text is a game, and how large, or which fault it has; plays nothing",
-        )
-        .action(ArgAction::SetTrue)
-}
-
-/// `--why`.
-fn why_option(alloc: Global) -> Result<Arg<'static>, AllocError> {
-    Arg::new(alloc, "why")
-        .long("why")
-        .help(
-            "With --check, shows below a fault its line of the text, and says what is to be mended",
-        )
-        .action(ArgAction::SetTrue)
-        .requires_arg("check")
-}
-
-/// The number of a level that a word gives, from 1.
-pub fn level_of(word: &str) -> Option<usize> {
-    match word.parse::<usize>() {
-        Ok(level) if level > 0 => Some(level),
-        _ => None,
-    }
-}
-
-/// `--level N`.
-fn level_option(alloc: Global) -> Result<Arg<'static>, AllocError> {
-    Arg::new(alloc, "level")
-        .long("level")
-        .value_name("N")
-        .help(
-            "Begins at the level of this number, from 1, without what comes before it; --solve asks of it alone",
-        )
-        .action(ArgAction::Set)
-        .conflicts_with_all(&["check"])
-}
-
-/// `--keys FILE`.
-fn keys_option(alloc: Global) -> Arg<'static> {
-    Arg::new(alloc, "keys")
-        .long("keys")
-        .value_name("FILE")
-        .help("Takes the keys from a file in place of standard input, which is -")
-        .action(ArgAction::Set)
-}
-
-/// `--view ROWSxCOLUMNS`.
-fn view_option(alloc: Global) -> Arg<'static> {
-    Arg::new(alloc, "view")
-        .long("view")
-        .value_name("ROWSxCOLUMNS")
-        .help("Keeps the board in place on a terminal of so many rows and columns, as 24x80")
-        .action(ArgAction::Set)
-}
-
-/// `--sizes FILE`.
-fn sizes_option(alloc: Global) -> Result<Arg<'static>, AllocError> {
-    Arg::new(alloc, "sizes")
-        .long("sizes")
-        .value_name("FILE")
-        .help("With --view, takes the size anew from a file, as often as something is drawn")
-        .action(ArgAction::Set)
-        .requires_arg("view")
-}
-
-/// `--plain`, which is as this program always plays without `--view`: it stands here as at `play`.
-fn plain_option(alloc: Global) -> Arg<'static> {
-    Arg::new(alloc, "plain")
-        .long("plain")
-        .help("Writes each frame below the last one, which is so without --view")
-        .action(ArgAction::SetTrue)
-}
-
-/// `--fresh`, which is as this program always plays: it stands here as at `play`.
-fn fresh_option(alloc: Global) -> Arg<'static> {
-    Arg::new(alloc, "fresh")
-        .long("fresh")
-        .help("Begins at the first level, as this program always does")
-        .action(ArgAction::SetTrue)
-}
-
-/// `--show FILE`.
-fn show_option(alloc: Global) -> Result<Arg<'static>, AllocError> {
-    Arg::new(alloc, "show")
-        .long("show")
-        .value_name("FILE")
-        .help(
-            "With --view, shows the output of a run that a file has, or - for standard input; plays nothing",
-        )
-        .action(ArgAction::Set)
-        .requires_arg("view")?
-        .conflicts_with_all(&["check", "keys", "level"])
-}
-
-/// `--describe`.
-fn describe_option(alloc: Global) -> Result<Arg<'static>, AllocError> {
-    Arg::new(alloc, "describe")
-        .long("describe")
-        .help("Says in a line of JSON what a front end needs to know of the game; plays nothing")
-        .action(ArgAction::SetTrue)
-        .conflicts_with_all(&["FURTHER", "check", "keys", "level", "view", "show"])
-}
-
-/// `--explain CODE`.
-fn explain_option(alloc: Global) -> Result<Arg<'static>, AllocError> {
-    Arg::new(alloc, "explain")
-        .long("explain")
-        .value_name("CODE")
-        .help("Says in a sentence what the fault of this code is, as RU7")
-        .action(ArgAction::Set)
-        .conflicts_with_all(&[
-            "GAME",
-            "FURTHER",
-            "check",
-            "why",
-            "all",
-            "limit",
-            "format",
-            "warn",
-            "strict",
-            "solve",
-            "states",
-            "after",
-            "stop-file",
-            "replay",
-            "level",
-            "keys",
-            "view",
-            "sizes",
-            "show",
-            "describe",
-        ])
 }

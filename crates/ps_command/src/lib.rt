@@ -6,11 +6,13 @@
 
 mod acts;
 mod after_keys;
+mod arguments;
 mod command;
 mod descriptions;
 mod details;
 mod engine;
 mod files;
+mod given;
 mod playing;
 mod replay_options;
 mod replaying;

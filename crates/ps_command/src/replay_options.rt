@@ -1,7 +1,14 @@
 //! The words of a command line that ask how far recorded keys get.
 
+ghost use Rattle.std.specs.List.{list_any};
+ghost use Rattle.std.specs.Prelude.{◌≡◌, IfOk, codes};
+ghost use Rattle.ps_command.specs.AskedFor.{IsAsked, Replays};
+ghost use Rattle.ps_command.specs.CommandLines.{IsArgument, bound, flag};
+ghost use Rattle.ps_command.specs.Given.{IsGameIn, further_in, is_input, rows_in, texts_of};
+
 use crate::command::Asked;
 use crate::files::STANDARD_INPUT;
+use crate::given::values_given;
 use crate::searches::wants_data;
 use crate::stops::Stop;
 use clap::{Arg, ArgAction, ArgMatches};
@@ -19,7 +26,9 @@ pub struct ReplayStreams<'w> {
 }
 
 /// `--replay`.
-pub fn replay_option(alloc: Global) -> Result<Arg<'static>, AllocError> {
+pub fn replay_option(alloc: Global) -> Result<Arg<'static>, AllocError>
+    ensures { IfOk result (IsArgument (bound (flag (codes "replay")))) }
+{
     Arg::new(alloc, "replay")
         .long("replay")
         .help(
@@ -48,8 +57,23 @@ pub fn replay_option(alloc: Global) -> Result<Arg<'static>, AllocError> {
 }
 
 /// Whether one of these words stands for standard input.
-fn has_input(words: &[&str]) -> bool {
+fn has_input(words: &[&str]) -> bool
+    ensures { result ≡ list_any (λ word. is_input word.now) words.now }
+{
     words.iter().any(|word| *word == STANDARD_INPUT)
+}
+
+/// The files with keys that stand after `GAME`.
+fn streams_given<'w>(
+    alloc: Global,
+    matches: &ArgMatches<'w>,
+) -> Result<Vec<&'w str>, AllocError>
+    ensures { IfOk result (λ streams. texts_of streams.items ≡ further_in (rows_in matches.now)) }
+{
+    match values_given(matches, "FURTHER") {
+        Some(words) => Vec::from_slice(alloc, words),
+        None => Ok(Vec::new(alloc)),
+    }
 }
 
 /// What the matches of a command line ask for that replays streams of keys in the game of this file, if the words fit
@@ -58,13 +82,16 @@ pub fn asked_replay<'w>(
     alloc: Global,
     matches: &ArgMatches<'w>,
     game: &'w str,
-) -> Result<Asked<'w>, Stop> {
+) -> Result<Asked<'w>, Stop>
+    requires game { IsGameIn (rows_in matches.now) game.now }
+    requires task { Replays (rows_in matches.now) }
+    ensures asked { IfOk result (IsAsked (rows_in matches.now)) }
+{
     let is_data = wants_data(matches)?;
-    let further = matches.get_strs("FURTHER").unwrap_or(&[]);
-    if game == STANDARD_INPUT && has_input(further) {
+    let streams = streams_given(alloc, matches)?;
+    if game == STANDARD_INPUT && has_input(&streams) {
         return Err(Stop::OneInput);
     }
-    let streams = Vec::from_slice(alloc, further)?;
     Ok(Asked::Replay(ReplayStreams {
         game,
         streams,

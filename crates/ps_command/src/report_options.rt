@@ -1,6 +1,13 @@
 //! The options of a check that tells more than whether a text is a game, or its first fault.
 
+ghost use Rattle.std.specs.Prelude.{◌≡◌, IfOk, IfSome, codes, true};
+ghost use Rattle.clap.specs.Words.{first_of};
+ghost use Rattle.ps_command.specs.AskedFor.{Checks, IsAsked, IsHow, IsMost, tells_more};
+ghost use Rattle.ps_command.specs.CommandLines.{IsArgument, bound, flag, option};
+ghost use Rattle.ps_command.specs.Given.{IsCount, IsFormOf, IsGameIn, is_given, rows_in, word_of};
+
 use crate::command::{Asked, all_paths};
+use crate::given::{is_given, value_given, values_given};
 use crate::stops::Stop;
 use clap::{Arg, ArgAction, ArgMatches};
 use ps_report::{Detail, Format, How};
@@ -10,7 +17,9 @@ use std::alloc::{AllocError, Global};
 const MOST_FAULTS: u32 = 100;
 
 /// `--all`.
-pub fn all_option(alloc: Global) -> Result<Arg<'static>, AllocError> {
+pub fn all_option(alloc: Global) -> Result<Arg<'static>, AllocError>
+    ensures { IfOk result (IsArgument (bound (flag (codes "all")))) }
+{
     Arg::new(alloc, "all")
         .long("all")
         .help(
@@ -21,7 +30,9 @@ pub fn all_option(alloc: Global) -> Result<Arg<'static>, AllocError> {
 }
 
 /// `--limit N`.
-pub fn limit_option(alloc: Global) -> Result<Arg<'static>, AllocError> {
+pub fn limit_option(alloc: Global) -> Result<Arg<'static>, AllocError>
+    ensures { IfOk result (IsArgument (bound (option (codes "limit")))) }
+{
     Arg::new(alloc, "limit")
         .long("limit")
         .value_name("N")
@@ -31,7 +42,9 @@ pub fn limit_option(alloc: Global) -> Result<Arg<'static>, AllocError> {
 }
 
 /// `--warn`.
-pub fn warn_option(alloc: Global) -> Result<Arg<'static>, AllocError> {
+pub fn warn_option(alloc: Global) -> Result<Arg<'static>, AllocError>
+    ensures { IfOk result (IsArgument (bound (flag (codes "warn")))) }
+{
     Arg::new(alloc, "warn")
         .long("warn")
         .help("With --check, warns of what is surely a mistake in a game, as a misspelt option")
@@ -40,7 +53,9 @@ pub fn warn_option(alloc: Global) -> Result<Arg<'static>, AllocError> {
 }
 
 /// `--strict`.
-pub fn strict_option(alloc: Global) -> Result<Arg<'static>, AllocError> {
+pub fn strict_option(alloc: Global) -> Result<Arg<'static>, AllocError>
+    ensures { IfOk result (IsArgument (bound (flag (codes "strict")))) }
+{
     Arg::new(alloc, "strict")
         .long("strict")
         .help("With --warn, ends with status 1 where there is a warning")
@@ -49,7 +64,9 @@ pub fn strict_option(alloc: Global) -> Result<Arg<'static>, AllocError> {
 }
 
 /// `--format FORMAT`.
-pub fn format_option(alloc: Global) -> Result<Arg<'static>, AllocError> {
+pub fn format_option(alloc: Global) -> Arg<'static>
+    ensures { IsArgument (option (codes "format")) result }
+{
     Arg::new(alloc, "format")
         .long("format")
         .value_name("FORMAT")
@@ -57,11 +74,12 @@ pub fn format_option(alloc: Global) -> Result<Arg<'static>, AllocError> {
             "Tells what --check, --solve or --replay says as text for people or as json for programs; --check also as gnu for editors",
         )
         .action(ArgAction::Set)
-        .requires_arg("TASK")
 }
 
 /// The form that a word asks for.
-fn format_of(word: &str) -> Option<Format> {
+fn format_of(word: &str) -> Option<Format>
+    ensures { IfSome result (λ format. word.now ≡ word_of format) }
+{
     match word {
         "text" => Some(Format::Text),
         "gnu" => Some(Format::Gnu),
@@ -71,22 +89,30 @@ fn format_of(word: &str) -> Option<Format> {
 }
 
 /// The form in which the matches of a command line ask for what is told.
-pub fn format_asked(matches: &ArgMatches<'_>) -> Result<Format, Stop> {
-    match matches.get_str("format") {
-        None => Ok(Format::Text),
-        Some(word) => format_of(word).ok_or(Stop::NoFormat),
+pub fn format_asked(matches: &ArgMatches<'_>) -> Result<Format, Stop>
+    ensures { IfOk result (IsFormOf (first_of (codes "format") (rows_in matches.now))) }
+{
+    let Some(word) = value_given(matches, "format") else {
+        return Ok(Format::Text);
+    };
+    match format_of(word) {
+        Some(format) => Ok(format),
+        None => Err(Stop::NoFormat),
     }
 }
 
 /// Whether the matches of a command line ask for a check that tells more than the first fault, or of games as well, or
 /// not for people.
-pub fn wants_report(matches: &ArgMatches<'_>) -> Result<bool, Stop> {
-    let format = format_asked(matches)?;
-    Ok(matches.get_flag("all") || matches.get_flag("warn") || format != Format::Text)
+pub fn tells_more(matches: &ArgMatches<'_>, format: Format) -> bool
+    ensures { result ≡ tells_more (rows_in matches.now) format }
+{
+    is_given(matches, "all") || is_given(matches, "warn") || format != Format::Text
 }
 
 /// How many faults a word lets be told, from 1.
-fn limit_of(word: &str) -> Option<u32> {
+fn limit_of(word: &str) -> Option<u32>
+    ensures { IfSome result (IsCount word.now) }
+{
     match word.parse::<u32>() {
         Ok(most) if most > 0 => Some(most),
         _ => None,
@@ -94,21 +120,29 @@ fn limit_of(word: &str) -> Option<u32> {
 }
 
 /// Of how many lines a fault is told at most: of one, unless all faults are asked for.
-fn most_asked(matches: &ArgMatches<'_>) -> Result<u32, Stop> {
-    if !matches.get_flag("all") {
+fn most_asked(matches: &ArgMatches<'_>) -> Result<u32, Stop>
+    ensures { IfOk result (IsMost (rows_in matches.now) (is_given (codes "all") (rows_in matches.now))) }
+{
+    if !is_given(matches, "all") {
         return Ok(1);
     }
-    match matches.get_str("limit") {
-        None => Ok(MOST_FAULTS),
-        Some(word) => limit_of(word).ok_or(Stop::NoLimit),
+    let Some(word) = value_given(matches, "limit") else {
+        return Ok(MOST_FAULTS);
+    };
+    match limit_of(word) {
+        Some(most) => Ok(most),
+        None => Err(Stop::NoLimit),
     }
 }
 
 /// How a check tells of texts that the matches of a command line ask for, of one or of several.
-fn how_asked(matches: &ArgMatches<'_>, is_named: bool) -> Result<How, Stop> {
-    let format = format_asked(matches)?;
+fn how_asked(matches: &ArgMatches<'_>, format: Format, is_named: bool) -> Result<How, Stop>
+    requires format { IsFormOf (first_of (codes "format") (rows_in matches.now)) format }
+    requires more { tells_more (rows_in matches.now) format ≡ true }
+    ensures { IfOk result (IsHow (rows_in matches.now) is_named) }
+{
     let most = most_asked(matches)?;
-    let detail = if matches.get_flag("why") {
+    let detail = if is_given(matches, "why") {
         Detail::Why
     } else {
         Detail::Line
@@ -118,9 +152,9 @@ fn how_asked(matches: &ArgMatches<'_>, is_named: bool) -> Result<How, Stop> {
         is_named,
         detail,
         most,
-        counts: matches.get_flag("all"),
-        warns: matches.get_flag("warn"),
-        strict: matches.get_flag("strict"),
+        counts: is_given(matches, "all"),
+        warns: is_given(matches, "warn"),
+        strict: is_given(matches, "strict"),
     })
 }
 
@@ -130,11 +164,18 @@ pub fn asked_report<'w>(
     alloc: Global,
     matches: &ArgMatches<'w>,
     path: &'w str,
-) -> Result<Asked<'w>, Stop> {
-    let Some(further) = matches.get_strs("FURTHER") else {
-        return Ok(Asked::Report(path, how_asked(matches, false)?));
+    format: Format,
+) -> Result<Asked<'w>, Stop>
+    requires game { IsGameIn (rows_in matches.now) path.now }
+    requires task { Checks (rows_in matches.now) }
+    requires format { IsFormOf (first_of (codes "format") (rows_in matches.now)) format }
+    requires more { tells_more (rows_in matches.now) format ≡ true }
+    ensures asked { IfOk result (IsAsked (rows_in matches.now)) }
+{
+    let Some(further) = values_given(matches, "FURTHER") else {
+        return Ok(Asked::Report(path, how_asked(matches, format, false)?));
     };
-    let how = how_asked(matches, true)?;
+    let how = how_asked(matches, format, true)?;
     let paths = all_paths(alloc, path, further)?;
     Ok(Asked::Reports(paths, how))
 }

@@ -1,10 +1,19 @@
 //! The words of a command line that ask whether levels can be won.
 
+ghost use Rattle.std.specs.Prelude.{◌≡◌, ◌≢◌, [], IfOk, IfSome, OnOk, codes};
+ghost use Rattle.clap.specs.Words.{first_of};
+ghost use Rattle.ps_command.specs.AskedFor.{IsAsked, IsSearch, Solves};
+ghost use Rattle.ps_command.specs.CommandLines.{IsArgument, bound, flag, option};
+ghost use Rattle.ps_command.specs.Given.{AreWordsToSolve, IsCount, IsCountOr, IsFormOf, IsGameIn, form_for, rows_in};
+ghost use Rattle.ps_command.specs.Given.{files_of, text_of, texts_of};
+
 use crate::after_keys::SolveAfter;
+use crate::command::{Asked, Solve, all_paths, level_asked};
 use crate::files::STANDARD_INPUT;
+use crate::given::{value_given, values_given};
 use crate::report_options::format_asked;
 use crate::stops::Stop;
-use clap::{Arg, ArgAction, ArgGroup, ArgMatches};
+use clap::{Arg, ArgAction, ArgMatches};
 use ps_report::Format;
 use std::alloc::{AllocError, Global};
 
@@ -12,7 +21,9 @@ use std::alloc::{AllocError, Global};
 const MOST_STATES: u32 = 1_000_000;
 
 /// `--solve`.
-pub fn solve_option(alloc: Global) -> Result<Arg<'static>, AllocError> {
+pub fn solve_option(alloc: Global) -> Result<Arg<'static>, AllocError>
+    ensures { IfOk result (IsArgument (bound (flag (codes "solve")))) }
+{
     Arg::new(alloc, "solve")
         .long("solve")
         .help(
@@ -25,7 +36,9 @@ pub fn solve_option(alloc: Global) -> Result<Arg<'static>, AllocError> {
 }
 
 /// `--states N`.
-pub fn states_option(alloc: Global) -> Result<Arg<'static>, AllocError> {
+pub fn states_option(alloc: Global) -> Result<Arg<'static>, AllocError>
+    ensures { IfOk result (IsArgument (bound (option (codes "states")))) }
+{
     Arg::new(alloc, "states")
         .long("states")
         .value_name("N")
@@ -36,7 +49,9 @@ pub fn states_option(alloc: Global) -> Result<Arg<'static>, AllocError> {
 }
 
 /// `--stop-file FILE`.
-pub fn stop_option(alloc: Global) -> Result<Arg<'static>, AllocError> {
+pub fn stop_option(alloc: Global) -> Result<Arg<'static>, AllocError>
+    ensures { IfOk result (IsArgument (bound (option (codes "stop-file")))) }
+{
     Arg::new(alloc, "stop-file")
         .long("stop-file")
         .value_name("FILE")
@@ -47,7 +62,9 @@ pub fn stop_option(alloc: Global) -> Result<Arg<'static>, AllocError> {
 }
 
 /// `--after KEYS`.
-pub fn after_option(alloc: Global) -> Result<Arg<'static>, AllocError> {
+pub fn after_option(alloc: Global) -> Result<Arg<'static>, AllocError>
+    ensures { IfOk result (IsArgument (bound (option (codes "after")))) }
+{
     Arg::new(alloc, "after")
         .long("after")
         .value_name("KEYS")
@@ -59,13 +76,10 @@ pub fn after_option(alloc: Global) -> Result<Arg<'static>, AllocError> {
         .conflicts_with_all(&["check", "keys", "view", "show", "describe"])
 }
 
-/// What several files can be given for: one of these.
-pub fn tasks(alloc: Global) -> Result<ArgGroup<'static>, AllocError> {
-    ArgGroup::new(alloc, "TASK").args(&["check", "solve", "replay"])
-}
-
 /// How many states a word lets be kept, from 1.
-fn states_of(word: &str) -> Option<u32> {
+fn states_of(word: &str) -> Option<u32>
+    ensures { IfSome result (IsCount word.now) }
+{
     match word.parse::<u32>() {
         Ok(most) if most > 0 => Some(most),
         _ => None,
@@ -73,15 +87,22 @@ fn states_of(word: &str) -> Option<u32> {
 }
 
 /// How many states the matches of a command line let be kept for a level.
-pub fn states_asked(matches: &ArgMatches<'_>) -> Result<u32, Stop> {
-    match matches.get_str("states") {
-        None => Ok(MOST_STATES),
-        Some(word) => states_of(word).ok_or(Stop::NoStates),
+fn states_asked(matches: &ArgMatches<'_>) -> Result<u32, Stop>
+    ensures { IfOk result (IsCountOr 1000000 (first_of (codes "states") (rows_in matches.now))) }
+{
+    let Some(word) = value_given(matches, "states") else {
+        return Ok(MOST_STATES);
+    };
+    match states_of(word) {
+        Some(states) => Ok(states),
+        None => Err(Stop::NoStates),
     }
 }
 
 /// Whether the matches of a command line ask for objects of JSON. There is no form for editors.
-pub fn wants_data(matches: &ArgMatches<'_>) -> Result<bool, Stop> {
+pub fn wants_data(matches: &ArgMatches<'_>) -> Result<bool, Stop>
+    ensures { IfOk result (λ is_data. IsFormOf (first_of (codes "format") (rows_in matches.now)) (form_for is_data)) }
+{
     match format_asked(matches)? {
         Format::Text => Ok(false),
         Format::Json => Ok(true),
@@ -89,19 +110,97 @@ pub fn wants_data(matches: &ArgMatches<'_>) -> Result<bool, Stop> {
     }
 }
 
+/// What the matches of a command line ask for that searches levels of games, the first of which is in this file.
+pub fn asked_solve<'w>(
+    alloc: Global,
+    matches: &ArgMatches<'w>,
+    path: &'w str,
+) -> Result<Asked<'w>, Stop>
+    requires game { IsGameIn (rows_in matches.now) path.now }
+    requires task { Solves (rows_in matches.now) }
+    ensures asked { IfOk result (IsAsked (rows_in matches.now)) }
+{
+    let search = search_asked(matches)?;
+    match value_given(matches, "after") {
+        Some(keys) => {
+            let asked = SolveAfter {
+                game: path,
+                level: search.level,
+                keys,
+                limit: search.limit,
+                is_data: search.is_data,
+                stop_file: search.stop_file,
+            };
+            let asked = fitting(asked, search.further)?;
+            Ok(Asked::SolveAfter(asked))
+        }
+        None => {
+            let paths = all_paths(alloc, path, search.further)?;
+            Ok(Asked::Solve(Solve {
+                paths,
+                level: search.level,
+                limit: search.limit,
+                is_data: search.is_data,
+                stop_file: search.stop_file,
+            }))
+        }
+    }
+}
+
+/// What the words of a command line say of a search.
+#[derive(Clone, Copy)]
+struct SearchWords<'w, 'm> {
+    /// The number of the level, and the further texts.
+    level: Option<usize>,
+    further: &'m [&'w str],
+    /// How many states are kept at most.
+    limit: u32,
+    is_data: bool,
+    stop_file: Option<&'w str>,
+}
+
+/// What the matches of a command line say of a search.
+fn search_asked<'w, 'm>(matches: &'m ArgMatches<'w>) -> Result<SearchWords<'w, 'm>, Stop>
+    ensures { IfOk result (λ search. IsSearch (rows_in matches.entry.now) search.level (texts_of search.further.now)
+        search.limit search.is_data (text_of search.stop_file)) }
+{
+    let given = level_asked(matches)?;
+    let limit = states_asked(matches)?;
+    let is_data = wants_data(matches)?;
+    let words = words_to_solve(given, values_given(matches, "FURTHER"))?;
+    let stop_file = value_given(matches, "stop-file");
+    Ok(SearchWords {
+        level: words.level,
+        further: words.further,
+        limit,
+        is_data,
+        stop_file,
+    })
+}
+
 /// The words after the first text, and the number of the level.
 #[derive(Clone, Copy)]
-pub struct WordsToSolve<'w, 'm> {
-    pub further: &'m [&'w str],
-    pub level: Option<usize>,
+struct WordsToSolve<'w, 'm> {
+    further: &'m [&'w str],
+    level: Option<usize>,
 }
 
 /// What is meant by the words after the first text. They are further texts; but a number alone is that of the level,
 /// unless an option has given it.
-pub fn words_to_solve<'w, 'm>(
+#[tactic(auto, using(crate::proofs::WordsToSolve::no_words, crate::proofs::WordsToSolve::words_kept, crate::proofs::WordsToSolve::lone_level, crate::proofs::WordsToSolve::lone_file, crate::proofs::NumbersRead::number_read))]
+fn words_to_solve<'w, 'm>(
     level: Option<usize>,
-    further: &'m [&'w str],
-) -> Result<WordsToSolve<'w, 'm>, Stop> {
+    further: Option<&'m [&'w str]>,
+) -> Result<WordsToSolve<'w, 'm>, Stop>
+    ensures { IfOk result (λ words.
+        AreWordsToSolve level (files_of further.entry) words.level (texts_of words.further.now)) }
+{
+    let Some(further) = further else {
+        return Ok(WordsToSolve {
+            further: &[],
+            level,
+        });
+    };
     if level.is_some() || further.len() != 1 {
         return Ok(WordsToSolve { further, level });
     }
@@ -116,7 +215,11 @@ pub fn words_to_solve<'w, 'm>(
 }
 
 /// The search from where keys lead, if the words fit together: there is one game, and standard input is one file.
-pub fn fitting<'w>(asked: SolveAfter<'w>, further: &[&str]) -> Result<SolveAfter<'w>, Stop> {
+fn fitting<'w>(asked: SolveAfter<'w>, further: &[&str]) -> Result<SolveAfter<'w>, Stop>
+    ensures same { IfOk result (λ fits. fits ≡ asked.entry) }
+    ensures alone { OnOk result (texts_of further.now ≡ []) }
+    ensures one_input { OnOk result (asked.entry.game.now ≡ codes "-" → asked.entry.keys.now ≢ codes "-") }
+{
     if !further.is_empty() {
         return Err(Stop::OneGame);
     }

@@ -1,5 +1,8 @@
 //! The size of a terminal, as a word gives it, on a command line or in a file.
 
+ghost use Rattle.std.specs.Prelude.{IfSome};
+ghost use Rattle.ps_command.specs.Given.{IsSizeIn};
+
 use ps_view::{Size, SizeTeller};
 use std::fs;
 use std::io::Read;
@@ -9,7 +12,10 @@ use std::rt::Files;
 const MOST_BYTES: usize = 16;
 
 /// The size that a word gives: how many rows, `x`, and how many columns, as in `24x80`.
-pub fn size_of(word: &str) -> Option<Size> {
+#[tactic(auto, using(crate::proofs::NumbersRead::number_read, crate::proofs::NumbersRead::parted, crate::proofs::NumbersRead::size_read))]
+pub fn size_of(word: &str) -> Option<Size>
+    ensures { IfSome result (IsSizeIn word.now) }
+{
     let (rows, columns) = word.split_once('x')?;
     let (Ok(rows), Ok(columns)) = (rows.parse::<u16>(), columns.parse::<u16>()) else {
         return None;

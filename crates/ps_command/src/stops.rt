@@ -49,6 +49,11 @@ const ONE_GAME: &str = "error: --after takes one GAME, and perhaps the number of
 
 For more information, try '--help'.";
 
+/// What is told where several files or a form stand beside no task for them.
+const NO_TASK: &str = "error: several files and --format go with --check, --solve or --replay
+
+For more information, try '--help'.";
+
 /// What is told where a text and keys are both to come from standard input.
 const ONE_INPUT: &str = "error: GAME and keys can't both be standard input
 
@@ -73,6 +78,8 @@ pub enum Stop {
     NoFormat,
     /// The command line gives no number of states where it is to.
     NoStates,
+    /// The command line gives several files, or a form in which something is told, and asks for nothing that has them.
+    NoTask,
     /// The command line gives several games where it is to give one.
     OneGame,
     /// The command line asks for a text and for keys from standard input, which gives one of them.
@@ -200,6 +207,7 @@ pub fn tell<R: Print + Eprint>(rt: &R, stop: Stop) -> u8
             let _ = rt.eprintln(NO_STATES);
             return 2;
         }
+        Stop::NoTask => return tell_wrong_line(rt, NO_TASK),
         Stop::OneGame => return tell_wrong_line(rt, ONE_GAME),
         Stop::OneInput => return tell_wrong_line(rt, ONE_INPUT),
         Stop::Game => {

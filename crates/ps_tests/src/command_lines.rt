@@ -78,11 +78,13 @@ pub const CUT_OBJECT: &str =
     \"levels\":null,\"ok\":false,\"title\":null}\n";
 
 /// The words of command lines that aren't right.
-const BAD_LINES: [&[&str]; 82] = [
+const BAD_LINES: [&[&str]; 86] = [
     &["ps_play", "a.game", "--show", "-"],
     &["ps_play", "--view", "24x80", "--show", "-"],
     &["ps_play", "--describe"],
     &["ps_play", "--describe", "a.game", "--check"],
+    &["ps_play", "--describe", "a.game", "b.game"],
+    &["ps_play", "--describe", "a.game", "--format", "json"],
     &[
         "ps_play", "a.game", "--view", "24x80", "--show", "-", "--keys", "a.keys",
     ],
@@ -104,6 +106,8 @@ const BAD_LINES: [&[&str]; 82] = [
     &["ps_play", "a.game", "--view", "24x0"],
     &["ps_play", "a.game", "--view", "24x80", "--view", "24x80"],
     &["ps_play", "--explain", "RU7", "--view", "24x80"],
+    &["ps_play", "--check", "a.game", "--view", "24"],
+    &["ps_play", "--check", "a.game", "b.game", "--view", "0x80"],
     &["ps_play", "a.game", "--sizes", "small.size"],
     &["ps_play", "a.game", "--view", "24x80", "--sizes"],
     &["ps_play", "--explain", "RU7", "--sizes", "small.size"],
