@@ -1,0 +1,56 @@
+//! Which slots of a board have changed.
+
+use crate::boards::{cell_count, is_same_slot, slot_there};
+use crate::told::SlotChange;
+use ps_board::{Board, Columns};
+use ps_model::Memory;
+use ps_text::List;
+use std::alloc::Global;
+
+/// Rows, as a set of their numbers, outside of which two boards show the same. There may be more of them.
+fn rows_unlike<B: Board>(first: &B, second: &B) -> Columns<B::Words> {
+    if !first.is_alike(second) {
+        return Columns::all();
+    }
+    let moving = first.rows_moving_any().either(second.rows_moving_any());
+    first.rows_differing(second).either(moving)
+}
+
+/// Puts the slots of a cell last that two boards show otherwise.
+fn push_changes<B: Board>(
+    changes: &mut Vec<SlotChange>,
+    first: &B,
+    second: &B,
+    cell: u32,
+) -> Result<(), Memory> {
+    for layer in 0..second.layers() {
+        let before = slot_there(first, cell, layer);
+        let after = slot_there(second, cell, layer);
+        if !is_same_slot(before, after) {
+            changes.push(SlotChange {
+                cell,
+                before,
+                after,
+            })?;
+        }
+    }
+    Ok(())
+}
+
+/// The slots that a second board shows otherwise than the first one, by their cells and then by their layers. `Memory`
+/// if there is no room for them.
+pub fn slot_changes<B: Board>(
+    alloc: Global,
+    first: &B,
+    second: &B,
+) -> Result<List<SlotChange>, Memory> {
+    let mut changes = Vec::new(alloc);
+    let rows = rows_unlike(first, second);
+    let (_, height) = second.size();
+    for cell in 0..cell_count(second) {
+        if rows.has(cell % height.max(1)) {
+            push_changes(&mut changes, first, second, cell)?;
+        }
+    }
+    Ok(List::from_vec(changes))
+}

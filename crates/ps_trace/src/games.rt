@@ -1,0 +1,94 @@
+//! A game in play whose rules tell what they do.
+
+ghost use Rattle.std.specs.Prelude.{◌≡◌, ◌≤◌};
+ghost use Rattle.ps_model.specs.declared.limits.TheConstants.{SIDE_LIMIT};
+ghost use Rattle.ps_stage.specs.Playable.{EntriesFit};
+
+use crate::rules::TracedRules;
+use crate::told::ToldRun;
+use ps_board::ManyWords;
+use ps_model::{Ending, Key, Memory, SIDE_LIMIT};
+use ps_origins::PlacedProgram;
+use ps_rulebook::{RowBoard, RowHistory};
+use ps_screen::OutputText;
+use ps_session::{BoardSides, Phase, Session, SessionGame, Stop};
+use ps_turn::TurnRules;
+use std::alloc::Global;
+
+/// Boards with room for every level.
+pub type TracedBoard = RowBoard<ManyWords<4>>;
+
+/// A game in play whose rules tell what they do.
+pub struct TracedGame<'g> {
+    session: Session<'g, TracedBoard, RowHistory<ManyWords<4>>>,
+    rules: TurnRules<TracedRules<'g, 'g, TracedBoard>>,
+}
+
+/// Written out, so that a function that owns a game in play calls this where it returns.
+impl<'g> Drop for TracedGame<'g> {
+    fn drop(self) {
+        let TracedGame {
+            session: _session,
+            rules: _rules,
+        } = self;
+    }
+}
+
+impl<'g> TracedGame<'g> {
+    /// Starts a game by these programs, at the entry at which it begins. What it writes there is forgotten.
+    ///
+    /// # Errors
+    ///
+    /// `Memory`.
+    pub fn start(
+        alloc: Global,
+        game: SessionGame<'g>,
+        plain: PlacedProgram<'g, 'g>,
+        late: PlacedProgram<'g, 'g>,
+    ) -> Result<TracedGame<'g>, Memory>
+        requires { EntriesFit SIDE_LIMIT game.entries }
+    {
+        let mut rules = TurnRules {
+            plain: TracedRules::try_new(alloc, plain)?,
+            late: TracedRules::try_new(alloc, late)?,
+        };
+        let entry = game.first_entry();
+        let sides = BoardSides {
+            above: 0,
+            most: SIDE_LIMIT,
+        };
+        let mut output = OutputText::new(alloc);
+        let session = Session::start_at(alloc, game, sides, &mut rules, entry, &mut output)?;
+        Ok(TracedGame { session, rules })
+    }
+
+    /// Does what a key does. What it writes is put into the output, and what rules have told before is forgotten.
+    ///
+    /// # Errors
+    ///
+    /// `Memory`.
+    pub fn key(&mut self, key: Key, output: &mut OutputText) -> Result<(), Memory> {
+        self.rules.plain.forget();
+        self.rules.late.forget();
+        match self.session.key(&mut self.rules, key, output) {
+            Ok(_) => Ok(()),
+            Err(Stop::Memory) => Err(Memory),
+            Err(Stop::Elsewhere(_)) => Err(Memory),
+        }
+    }
+
+    /// Whether the first turn of a key would be the key's own: the player is in a level, and the key is for the rules.
+    pub fn takes(&self, key: Key) -> bool {
+        matches!(self.session.phase(), Phase::Playing) && matches!(key, Key::Move(_))
+    }
+
+    /// What the runs of rules have told since the last key: those of the rules, and those of the late rules.
+    pub fn told(&self) -> (&[ToldRun<TracedBoard>], &[ToldRun<TracedBoard>]) {
+        (self.rules.plain.runs(), self.rules.late.runs())
+    }
+
+    /// How the game ended, if it has.
+    pub fn ending(&self) -> Option<Ending> {
+        self.session.ending()
+    }
+}

@@ -1,0 +1,217 @@
+//! Games that are played and traced.
+
+ghost use Rattle.std.specs.Prelude.{◌≡◌, false};
+ghost use Rattle.ps_model.specs.session.RoomSizes.{HasRoomSize};
+ghost use Rattle.ps_devices.specs.Answers.{level_answer_of};
+ghost use Rattle.ps_stage.specs.Playable.{ArePlayable};
+ghost use Rattle.ps_tracers.specs.TracedRuns.{RunsTraced};
+
+use crate::games::TracedGame;
+use crate::spellings::Spellings;
+use crate::tracer::GameTracer;
+use crate::turns::Speaker;
+use ps_devices::{ByteReader, ByteWriter, FromStd, LevelFault, Player};
+use ps_game::{Game, read_game};
+use ps_keys::Keys;
+use ps_model::{Ending, Memory};
+use ps_origins::PlacedPrograms;
+use ps_run::parts_of_game;
+use ps_screen::OutputText;
+use ps_stage::level_entry;
+use ps_text::Source;
+use ps_tracers::{Start, TracedKeys, Tracing, play_from};
+use std::alloc::Global;
+use std::io::Write;
+
+/// What is traced of a text: its game, its programs, and what its objects are called; and the entry at which the game
+/// begins.
+#[derive(Clone, Copy)]
+struct Traced<'g> {
+    source: &'g Source,
+    game: &'g Game,
+    programs: &'g PlacedPrograms<'g>,
+    spellings: &'g Spellings<'g>,
+    entry: usize,
+}
+
+/// What tells of the keys of a game.
+fn tracer_of<'g>(alloc: Global, traced: Traced<'g>) -> Result<GameTracer<'g>, Memory>
+    requires playable { ArePlayable traced.game.now.names traced.game.now.entries }
+    requires rooms { HasRoomSize traced.game.now.options }
+{
+    let (plain, late) = (traced.programs.plain(), traced.programs.late());
+    let parts = parts_of_game(traced.game, traced.entry);
+    let game = TracedGame::start(alloc, parts, plain, late)?;
+    Ok(GameTracer {
+        game,
+        speaker: Speaker {
+            alloc,
+            source: traced.source,
+            spellings: traced.spellings,
+            plain: plain.origins,
+            late: late.origins,
+            players: traced.game.names.players(),
+            wins: traced.game.wins.as_slice(),
+        },
+        keys: Keys::new(),
+        lines: OutputText::new(alloc),
+        unseen: OutputText::new(alloc),
+    })
+}
+
+/// The entry of a game at which it begins: its first one, or that of a level, if it has it.
+fn entry_of(game: &Game, level: Option<usize>) -> Option<usize> {
+    match level {
+        Some(level) => level_entry(&game.entries, level),
+        None => Some(0),
+    }
+}
+
+/// A text whose game is played by a player.
+struct Playing<'p, P: Player> {
+    alloc: Global,
+    player: &'p P,
+    start: Start<'p>,
+}
+
+impl<'p, P: Player> Playing<'p, P> {
+    /// Plays it without a trace.
+    fn untraced<I: ByteReader, W: ByteWriter>(
+        &self,
+        reader: &mut I,
+        writer: &mut W,
+    ) -> Result<Ending, LevelFault>
+        requires heard { (I.state reader.old).has_failed ≡ false }
+        requires well { (W.state writer.old).has_failed ≡ false }
+        ensures rightly { RunsTraced self.now.start.text.now self.now.start.level (I.state reader.old)
+            (I.state reader.new) (W.state writer.old) (W.state writer.new) (level_answer_of result) }
+    {
+        play_from(self.alloc, self.player, self.start, reader, writer)
+    }
+
+    /// Plays it by keys that are told of.
+    fn told<I: ByteReader, W: ByteWriter, L: ByteWriter>(
+        &self,
+        tracer: &mut GameTracer<'_>,
+        reader: &mut I,
+        writer: &mut W,
+        lines: &mut L,
+    ) -> Result<Ending, LevelFault>
+        requires heard { (I.state reader.old).has_failed ≡ false }
+        requires well { (W.state writer.old).has_failed ≡ false }
+        requires told { (L.state lines.old).has_failed ≡ false }
+        ensures rightly { RunsTraced self.now.start.text.now self.now.start.level (I.state reader.old)
+            (I.state reader.new) (W.state writer.old) (W.state writer.new) (level_answer_of result) }
+    {
+        if !tracer.open(lines) {
+            return self.untraced(reader, writer);
+        }
+        let mut keys = TracedKeys::new(reader, lines, tracer);
+        play_from(self.alloc, self.player, self.start, &mut keys, writer)
+    }
+
+    /// Plays it by keys of which is told what is traced.
+    fn traced<I: ByteReader, W: ByteWriter, L: ByteWriter>(
+        &self,
+        traced: Traced<'_>,
+        reader: &mut I,
+        writer: &mut W,
+        lines: &mut L,
+    ) -> Result<Ending, LevelFault>
+        requires heard { (I.state reader.old).has_failed ≡ false }
+        requires well { (W.state writer.old).has_failed ≡ false }
+        requires told { (L.state lines.old).has_failed ≡ false }
+        requires playable { ArePlayable traced.game.now.names traced.game.now.entries }
+        requires rooms { HasRoomSize traced.game.now.options }
+        ensures rightly { RunsTraced self.now.start.text.now self.now.start.level (I.state reader.old)
+            (I.state reader.new) (W.state writer.old) (W.state writer.new) (level_answer_of result) }
+    {
+        match tracer_of(self.alloc, traced) {
+            Ok(mut tracer) => self.told(&mut tracer, reader, writer, lines),
+            Err(Memory) => self.untraced(reader, writer),
+        }
+    }
+
+    /// Plays it by keys of which is told what its game does.
+    fn of_game<I: ByteReader, W: ByteWriter, L: ByteWriter>(
+        &self,
+        game: &Game,
+        reader: &mut I,
+        writer: &mut W,
+        lines: &mut L,
+    ) -> Result<Ending, LevelFault>
+        requires heard { (I.state reader.old).has_failed ≡ false }
+        requires well { (W.state writer.old).has_failed ≡ false }
+        requires told { (L.state lines.old).has_failed ≡ false }
+        requires playable { ArePlayable game.now.names game.now.entries }
+        requires rooms { HasRoomSize game.now.options }
+        ensures rightly { RunsTraced self.now.start.text.now self.now.start.level (I.state reader.old)
+            (I.state reader.new) (W.state writer.old) (W.state writer.new) (level_answer_of result) }
+    {
+        let Some(entry) = entry_of(game, self.start.level) else {
+            return self.untraced(reader, writer);
+        };
+        let Ok(source) = Source::read(self.alloc, self.start.text) else {
+            return self.untraced(reader, writer);
+        };
+        let Ok(programs) = PlacedPrograms::of(self.alloc, &game.names, &game.rules) else {
+            return self.untraced(reader, writer);
+        };
+        let Ok(spellings) = Spellings::of(self.alloc, &source, &game.names) else {
+            return self.untraced(reader, writer);
+        };
+        let traced = Traced {
+            source: &source,
+            game,
+            programs: &programs,
+            spellings: &spellings,
+            entry,
+        };
+        self.traced(traced, reader, writer, lines)
+    }
+
+    /// Plays it by keys of which lines tell, if it is a game.
+    pub fn by_lines<I: ByteReader, W: ByteWriter, L: ByteWriter>(
+        &self,
+        reader: &mut I,
+        writer: &mut W,
+        lines: &mut L,
+    ) -> Result<Ending, LevelFault>
+        requires heard { (I.state reader.old).has_failed ≡ false }
+        requires well { (W.state writer.old).has_failed ≡ false }
+        requires told { (L.state lines.old).has_failed ≡ false }
+        ensures rightly { RunsTraced self.now.start.text.now self.now.start.level (I.state reader.old)
+            (I.state reader.new) (W.state writer.old) (W.state writer.new) (level_answer_of result) }
+    {
+        match read_game(self.alloc, self.start.text) {
+            Ok(game) => self.of_game(&game, reader, writer, lines),
+            Err(_) => self.untraced(reader, writer),
+        }
+    }
+}
+
+/// Plays games by a player, and tells before what each key writes what the rules do for it. Its lines go to a stream
+/// that may be written to at any time, as standard output may.
+#[derive(Drop)]
+pub struct GameTracing<'p, P: Player, L: Write + Drop + Copy> {
+    pub player: &'p P,
+    pub lines: L,
+}
+
+impl<'p, P: Player, L: Write + Drop + Copy> Tracing for GameTracing<'p, P, L> {
+    fn play<I: ByteReader, W: ByteWriter>(
+        &self,
+        alloc: Global,
+        start: Start<'_>,
+        reader: &mut I,
+        writer: &mut W,
+    ) -> Result<Ending, LevelFault> {
+        let playing = Playing {
+            alloc,
+            player: self.player,
+            start,
+        };
+        let mut lines = FromStd::new(self.lines);
+        playing.by_lines(reader, writer, &mut lines)
+    }
+}

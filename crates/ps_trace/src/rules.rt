@@ -1,0 +1,134 @@
+//! The rules of a turn that tell what they do.
+
+use crate::queues::{lent, owned};
+use crate::telling::Telling;
+use crate::told::ToldRun;
+use ps_engine::{Scan, ScratchFor, scratch_for};
+use ps_model::{Extent, Memory};
+use ps_origins::{PlacedProgram, RuleOrigin};
+use ps_program::CompiledSection;
+use ps_rulebook::GameRules;
+use ps_turn::{Queue, Rules};
+use std::alloc::Global;
+
+/// What tells of the runs of a program.
+struct Teller<'p, 'r, B: Scan> {
+    alloc: Global,
+    sections: &'p [CompiledSection<'r>],
+    origins: &'p [RuleOrigin],
+    /// Room for the rows of a rule.
+    scratch: Vec<ScratchFor<B>>,
+    /// What runs have told since they were forgotten last.
+    runs: Vec<ToldRun<B>>,
+}
+
+/// Written out, so that a function that owns it calls this where it returns.
+impl<'p, 'r, B: Scan> Drop for Teller<'p, 'r, B> {
+    fn drop(self) {
+        let Teller {
+            alloc: _,
+            sections: _,
+            origins: _,
+            scratch: _scratch,
+            runs: _runs,
+        } = self;
+    }
+}
+
+impl<'p, 'r, B: Scan> Teller<'p, 'r, B> {
+    /// Runs the program on a copy of a board and of a queue, and keeps what that tells.
+    ///
+    /// # Errors
+    ///
+    /// `Memory`, and nothing more is kept.
+    fn tell(&mut self, board: &B, queue: &Queue, extent: Extent) -> Result<(), Memory> {
+        let before = board.try_copy(self.alloc)?;
+        let mut telling = Telling {
+            alloc: self.alloc,
+            origins: self.origins,
+            scratch: self.scratch.as_mut_slice(),
+            board: board.try_copy(self.alloc)?,
+            before: board.try_copy(self.alloc)?,
+            queue: lent(queue),
+            events: Vec::new(self.alloc),
+        };
+        telling.program(self.sections)?;
+        let Telling {
+            alloc,
+            origins: _,
+            scratch: _,
+            board: after,
+            before: _before,
+            queue: queued,
+            events,
+        } = telling;
+        let queue = owned(alloc, &queued)?;
+        self.runs.push(ToldRun {
+            extent,
+            before,
+            after,
+            queue,
+            events,
+        })?;
+        Ok(())
+    }
+}
+
+/// The rules of one part of a turn, which tell what each run does before they do it: the program runs on a copy of the
+/// board first, plainly, and then the ordinary rules play the board.
+pub struct TracedRules<'p, 'r, B: Scan> {
+    rules: GameRules<'p, 'r, B>,
+    teller: Teller<'p, 'r, B>,
+}
+
+/// Written out, so that a function that owns rules calls this where it returns.
+impl<'p, 'r, B: Scan> Drop for TracedRules<'p, 'r, B> {
+    fn drop(self) {
+        let TracedRules {
+            rules: _rules,
+            teller: _teller,
+        } = self;
+    }
+}
+
+impl<'p, 'r, B: Scan> TracedRules<'p, 'r, B> {
+    /// The rules of a program. `Memory` if there is no room for what their runs need.
+    pub fn try_new(
+        alloc: Global,
+        program: PlacedProgram<'p, 'r>,
+    ) -> Result<TracedRules<'p, 'r, B>, Memory> {
+        let rules = GameRules::try_new(alloc, program.sections)?;
+        let scratch = scratch_for(alloc, program.sections)?;
+        Ok(TracedRules {
+            rules,
+            teller: Teller {
+                alloc,
+                sections: program.sections,
+                origins: program.origins,
+                scratch,
+                runs: Vec::new(alloc),
+            },
+        })
+    }
+
+    /// What runs have told since they were forgotten last, in their order.
+    pub fn runs(&self) -> &[ToldRun<B>] {
+        self.teller.runs.as_slice()
+    }
+
+    /// Forgets what runs have told.
+    pub fn forget(&mut self) {
+        self.teller.runs.clear();
+    }
+}
+
+impl<'p, 'r, B: Scan> Rules<B> for TracedRules<'p, 'r, B> {
+    ghost use Rattle.ps_engine.specs.RulesInRoom.{sections_meaning};
+
+    ghost meant = { λ traced table. sections_meaning table traced.rules };
+
+    fn run(&mut self, board: &mut B, queue: &mut Queue, extent: Extent) -> Result<(), Memory> {
+        self.teller.tell(board, queue, extent)?;
+        self.rules.run(board, queue, extent)
+    }
+}
