@@ -21,7 +21,8 @@ pub struct Speech<'t> {
 }
 
 /// What became of a slot.
-fn change(alloc: Global, spellings: &Spellings<'_>, told: &SlotChange) -> Result<String, Memory> {
+fn change(spellings: &Spellings<'_>, told: &SlotChange) -> Result<String, Memory> {
+    let alloc = spellings.alloc;
     match (told.before, told.after) {
         (Slot::Bare, Slot::Bare) => Ok(String::new(alloc)),
         (Slot::Bare, Slot::Holds { object, motion }) => {
@@ -51,15 +52,15 @@ fn change(alloc: Global, spellings: &Spellings<'_>, told: &SlotChange) -> Result
 
 /// What is told alike of the cells of which a slot has changed.
 fn changes_alike(
-    alloc: Global,
     spellings: &Spellings<'_>,
     changes: &[SlotChange],
 ) -> Result<Vec<Alike>, Memory> {
+    let alloc = spellings.alloc;
     let mut groups = Vec::new(alloc);
     let mut text = String::new(alloc);
     for number in 0..changes.len() {
         let told = &changes[number];
-        text.push_str(&change(alloc, spellings, told)?)?;
+        text.push_str(&change(spellings, told)?)?;
         let is_last = match changes.get(number + 1) {
             Some(next) => next.cell != told.cell,
             None => true,
@@ -161,11 +162,11 @@ fn moment(alloc: Global, origins: &[RuleOrigin], told: &Told) -> Result<String, 
 
 /// Adds the line of the rule that an attempt was made of.
 fn add_rule(
-    alloc: Global,
     speech: &Speech<'_>,
     told: &Told,
     output: &mut OutputText,
 ) -> Result<(), Memory> {
+    let alloc = speech.spellings.alloc;
     let number = told.origin.line;
     let first = format!(in alloc; "line {number}")?;
     let mut rest = String::new(alloc);
@@ -178,14 +179,14 @@ fn add_rule(
 
 /// Adds the lines of an attempt.
 fn add_attempt(
-    alloc: Global,
     speech: &Speech<'_>,
     height: u32,
     told: &Told,
     output: &mut OutputText,
 ) -> Result<(), Memory> {
-    add_rule(alloc, speech, told, output)?;
-    let groups = changes_alike(alloc, speech.spellings, told.changes.as_slice())?;
+    let alloc = speech.spellings.alloc;
+    add_rule(speech, told, output)?;
+    let groups = changes_alike(speech.spellings, told.changes.as_slice())?;
     for group in &groups {
         let cells = spots(alloc, height, &group.cells)?;
         let what = group.text.as_str();
@@ -197,7 +198,6 @@ fn add_attempt(
 
 /// Adds the lines of what is told of a run on a board of so many rows.
 pub fn add_events(
-    alloc: Global,
     speech: &Speech<'_>,
     height: u32,
     events: &[Event],
@@ -205,7 +205,7 @@ pub fn add_events(
 ) -> Result<(), Memory> {
     for event in events {
         match event {
-            Event::Attempt(told) => add_attempt(alloc, speech, height, told, output)?,
+            Event::Attempt(told) => add_attempt(speech, height, told, output)?,
             Event::GroupStops => {
                 add_marked(output, "! the group stops: it has made 200 rounds")?;
             }

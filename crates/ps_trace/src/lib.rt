@@ -23,4 +23,5 @@ mod told;
 mod tracer;
 mod turns;
 
-pub use playing::GameTracing;
+pub use playing::{GameTracing, TracedPlay};
+pub use ps_tracers::{Start, Tracing};

@@ -30,7 +30,7 @@ fn opposite(direction: Direction) -> Direction {
 /// The cell one step on in a direction, if it is on the board.
 fn neighbour<B: Board>(board: &B, direction: Direction, cell: u32) -> Option<u32> {
     let (width, height) = board.size();
-    let (column, row) = (cell / height, cell % height);
+    let (column, row) = (cell / height.max(1), cell % height.max(1));
     match direction {
         Direction::Up if 0 < row => Some(cell.saturating_sub(1)),
         Direction::Down if row.saturating_add(1) < height => Some(cell.saturating_add(1)),

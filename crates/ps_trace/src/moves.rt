@@ -26,13 +26,13 @@ fn add_groups(
 
 /// Adds the motion of the object on a layer of a cell, if it has one.
 fn add_motion<B: Board>(
-    alloc: Global,
     spellings: &Spellings<'_>,
     board: &B,
     cell: u32,
     layer: u32,
     groups: &mut Vec<Alike>,
 ) -> Result<(), Memory> {
+    let alloc = spellings.alloc;
     let motion = motion_there(board, cell, layer);
     let Some(object) = object_there(board, cell, layer) else {
         return Ok(());
@@ -46,32 +46,31 @@ fn add_motion<B: Board>(
 
 /// Adds the motions that objects have before the rules.
 pub fn add_given<B: Board>(
-    alloc: Global,
     spellings: &Spellings<'_>,
     board: &B,
     output: &mut OutputText,
 ) -> Result<(), Memory> {
     let (_, height) = board.size();
-    let mut groups = Vec::new(alloc);
+    let mut groups = Vec::new(spellings.alloc);
     for cell in 0..cell_count(board) {
         for number in 0..board.layers() {
-            add_motion(alloc, spellings, board, cell, number, &mut groups)?;
+            add_motion(spellings, board, cell, number, &mut groups)?;
         }
     }
-    add_groups(alloc, height, &groups, output)
+    add_groups(spellings.alloc, height, &groups, output)
 }
 
 /// What is told of an object that stays, though it was about to go.
 fn staying(
-    alloc: Global,
     spellings: &Spellings<'_>,
     object: ObjectId,
     direction: Direction,
     fate: Fate,
 ) -> Result<String, Memory> {
-    let (name, word) = (spellings.name(object), word_of(direction));
+    let (alloc, word) = (spellings.alloc, word_of(direction));
+    let name = spellings.name(object);
     match fate {
-        Fate::Goes(_) => Ok(format!(in alloc; "{name} moves {word}")?),
+        Fate::Goes(_) => Ok(format!(in alloc; "{name} goes {word}")?),
         Fate::AtEdge => Ok(format!(in alloc; "{name} can't go {word}: the board ends")?),
         Fate::Blocked(other) => {
             let blocking = spellings.name(other);
@@ -84,59 +83,48 @@ fn staying(
     }
 }
 
-/// Objects that move, and objects that stay though they were about to go.
-#[derive(Drop)]
-struct Movers {
-    moving: Vec<Alike>,
-    staying: Vec<Alike>,
-}
-
-/// Adds the object on a layer of a cell to those that move or stay, if it is about to go.
+/// Adds the line of the object on a layer of a cell, if it moves; or adds it to those that stay, if it can't.
 fn add_mover<B: Board>(
-    alloc: Global,
     spellings: &Spellings<'_>,
     board: &B,
-    cell: u32,
-    layer: u32,
-    movers: &mut Movers,
+    place: (u32, u32),
+    stay: &mut Vec<Alike>,
+    output: &mut OutputText,
 ) -> Result<(), Memory> {
+    let (cell, layer) = place;
     let (Some(object), Motion::Going(direction)) = (
         object_there(board, cell, layer),
         motion_there(board, cell, layer),
     ) else {
         return Ok(());
     };
+    let alloc = spellings.alloc;
     let (_, height) = board.size();
     match fate(board, layer, cell) {
         Fate::Goes(to) => {
-            let (name, place) = (spellings.name(object), spot(alloc, height, to)?);
-            let text = format!(in alloc; "{name} moves to {place}")?;
-            add_alike(alloc, &mut movers.moving, text, cell)
+            let (name, there) = (spellings.name(object), spot(alloc, height, to)?);
+            let text = format!(in alloc; "{name} moves to {there}")?;
+            add_columns(alloc, output, &spot(alloc, height, cell)?, &text)
         }
         stays => {
-            let text = staying(alloc, spellings, object, direction, stays)?;
-            add_alike(alloc, &mut movers.staying, text, cell)
+            let text = staying(spellings, object, direction, stays)?;
+            add_alike(alloc, stay, text, cell)
         }
     }
 }
 
-/// Adds who moves on a board, and who can't, and why.
+/// Adds who moves on a board, and then who can't, and why.
 pub fn add_moves<B: Board>(
-    alloc: Global,
     spellings: &Spellings<'_>,
     board: &B,
     output: &mut OutputText,
 ) -> Result<(), Memory> {
     let (_, height) = board.size();
-    let mut movers = Movers {
-        moving: Vec::new(alloc),
-        staying: Vec::new(alloc),
-    };
+    let mut stay = Vec::new(spellings.alloc);
     for cell in 0..cell_count(board) {
-        for number in 0..board.layers() {
-            add_mover(alloc, spellings, board, cell, number, &mut movers)?;
+        for layer in 0..board.layers() {
+            add_mover(spellings, board, (cell, layer), &mut stay, output)?;
         }
     }
-    add_groups(alloc, height, &movers.moving, output)?;
-    add_groups(alloc, height, &movers.staying, output)
+    add_groups(spellings.alloc, height, &stay, output)
 }

@@ -45,7 +45,6 @@ fn tracer_of<'g>(alloc: Global, traced: Traced<'g>) -> Result<GameTracer<'g>, Me
     Ok(GameTracer {
         game,
         speaker: Speaker {
-            alloc,
             source: traced.source,
             spellings: traced.spellings,
             plain: plain.origins,
@@ -67,14 +66,15 @@ fn entry_of(game: &Game, level: Option<usize>) -> Option<usize> {
     }
 }
 
-/// A text whose game is played by a player.
-struct Playing<'p, P: Player> {
-    alloc: Global,
-    player: &'p P,
-    start: Start<'p>,
+/// A text whose game is played by a player, and traced.
+#[derive(Drop)]
+pub struct TracedPlay<'p, P: Player> {
+    pub alloc: Global,
+    pub player: &'p P,
+    pub start: Start<'p>,
 }
 
-impl<'p, P: Player> Playing<'p, P> {
+impl<'p, P: Player> TracedPlay<'p, P> {
     /// Plays it without a trace.
     fn untraced<I: ByteReader, W: ByteWriter>(
         &self,
@@ -170,8 +170,12 @@ impl<'p, P: Player> Playing<'p, P> {
         self.traced(traced, reader, writer, lines)
     }
 
-    /// Plays it by keys of which lines tell, if it is a game.
-    pub fn by_lines<I: ByteReader, W: ByteWriter, L: ByteWriter>(
+    /// Plays it: reads keys from `reader`, tells of each on `lines`, and then writes frames to `writer`.
+    ///
+    /// # Errors
+    ///
+    /// Those of the player. Where lines can't be made or written, none are any more, and the game goes on.
+    pub fn play<I: ByteReader, W: ByteWriter, L: ByteWriter>(
         &self,
         reader: &mut I,
         writer: &mut W,
@@ -206,12 +210,12 @@ impl<'p, P: Player, L: Write + Drop + Copy> Tracing for GameTracing<'p, P, L> {
         reader: &mut I,
         writer: &mut W,
     ) -> Result<Ending, LevelFault> {
-        let playing = Playing {
+        let traced = TracedPlay {
             alloc,
             player: self.player,
             start,
         };
         let mut lines = FromStd::new(self.lines);
-        playing.by_lines(reader, writer, &mut lines)
+        traced.play(reader, writer, &mut lines)
     }
 }

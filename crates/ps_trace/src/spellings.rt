@@ -10,6 +10,8 @@ use std::alloc::Global;
 /// that stands for the object alone, as it is written there.
 #[derive(Drop)]
 pub struct Spellings<'s> {
+    /// Where texts that speak of objects take memory from.
+    pub alloc: Global,
     names: Vec<&'s str>,
 }
 
@@ -35,7 +37,10 @@ impl<'s> Spellings<'s> {
         for named in &declared {
             call(names, &mut found, named.name);
         }
-        Ok(Spellings { names: found })
+        Ok(Spellings {
+            alloc,
+            names: found,
+        })
     }
 
     /// What an object is called; nothing, where the game has no such object.

@@ -12,13 +12,11 @@ use ps_model::{Extent, Memory, ObjectId};
 use ps_origins::RuleOrigin;
 use ps_screen::OutputText;
 use ps_text::Source;
-use std::alloc::Global;
 
 /// What the lines of a game's turns speak of: its text, what its objects are called, where its rules come from,
 /// its Players and its win conditions.
 #[derive(Drop)]
 pub struct Speaker<'t> {
-    pub alloc: Global,
     pub source: &'t Source,
     pub spellings: &'t Spellings<'t>,
     pub plain: &'t [RuleOrigin],
@@ -53,14 +51,8 @@ impl<'t> Speaker<'t> {
         output: &mut OutputText,
     ) -> Result<(), Memory> {
         let (_, height) = first.before.size();
-        add_moves(self.alloc, self.spellings, &first.after, output)?;
-        add_events(
-            self.alloc,
-            &self.speech(self.late),
-            height,
-            &last.events,
-            output,
-        )
+        add_moves(self.spellings, &first.after, output)?;
+        add_events(&self.speech(self.late), height, &last.events, output)
     }
 
     /// Adds the lines of a turn, of which the runs are told: that of its rules, and that of its late rules, if they
@@ -72,9 +64,9 @@ impl<'t> Speaker<'t> {
         output: &mut OutputText,
     ) -> Result<(), Memory> {
         let (_, height) = first.before.size();
-        add_given(self.alloc, self.spellings, &first.before, output)?;
+        add_given(self.spellings, &first.before, output)?;
         let speech = self.speech(self.plain);
-        add_events(self.alloc, &speech, height, &first.events, output)?;
+        add_events(&speech, height, &first.events, output)?;
         if let Some(last) = last {
             self.add_late(first, last, output)?;
         }
