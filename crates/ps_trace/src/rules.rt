@@ -2,8 +2,8 @@
 
 use crate::queues::{lent, owned};
 use crate::telling::Telling;
-use crate::told::ToldRun;
-use ps_engine::{Scan, ScratchFor, scratch_for};
+use crate::told::{Event, ToldRun};
+use ps_engine::{LentQueue, Scan, ScratchFor, scratch_for};
 use ps_model::{Extent, Memory};
 use ps_origins::{PlacedProgram, RuleOrigin};
 use ps_program::CompiledSection;
@@ -43,26 +43,11 @@ impl<'p, 'r, B: Scan> Teller<'p, 'r, B> {
     /// `Memory`, and nothing more is kept.
     fn tell(&mut self, board: &B, queue: &Queue, extent: Extent) -> Result<(), Memory> {
         let before = board.try_copy(self.alloc)?;
-        let mut telling = Telling {
-            alloc: self.alloc,
-            origins: self.origins,
-            scratch: self.scratch.as_mut_slice(),
-            board: board.try_copy(self.alloc)?,
-            before: board.try_copy(self.alloc)?,
-            queue: lent(queue),
-            events: Vec::new(self.alloc),
-        };
-        telling.program(self.sections)?;
-        let Telling {
-            alloc,
-            origins: _,
-            scratch: _,
-            board: after,
-            before: _before,
-            queue: queued,
-            events,
-        } = telling;
-        let queue = owned(alloc, &queued)?;
+        let mut after = board.try_copy(self.alloc)?;
+        let mut events = Vec::new(self.alloc);
+        let mut during = lent(queue);
+        self.tell_lent(&mut after, &mut during, &mut events)?;
+        let queue = owned(self.alloc, &during)?;
         self.runs.push(ToldRun {
             extent,
             before,
@@ -71,6 +56,33 @@ impl<'p, 'r, B: Scan> Teller<'p, 'r, B> {
             events,
         })?;
         Ok(())
+    }
+
+    /// Runs the program on a board and a queue that are lent, and puts last what that tells.
+    ///
+    /// # Errors
+    ///
+    /// `Memory`, and a part of the program may have been run.
+    fn tell_lent<'q>(
+        &mut self,
+        board: &mut B,
+        queue: &mut LentQueue<'q>,
+        events: &mut Vec<Event>,
+    ) -> Result<(), Memory>
+    where
+        'r: 'q,
+    {
+        let mut before = board.try_copy(self.alloc)?;
+        let mut telling = Telling {
+            alloc: self.alloc,
+            origins: self.origins,
+            board,
+            before: &mut before,
+            queue,
+            scratch: self.scratch.as_mut_slice(),
+            events,
+        };
+        telling.program(self.sections)
     }
 }
 

@@ -10,39 +10,25 @@ use ps_program::{CompiledRule, CompiledSection};
 use ps_text::List;
 use std::alloc::Global;
 
-/// A run of a program that tells what it does, on boards and by a queue of its own.
-pub struct Telling<'q, 's, B: Scan> {
+/// A run of a program that tells what it does: what it lends to each attempt, and what it has told. All of it is lent.
+#[derive(Drop)]
+pub struct Telling<'b, 'q, 's, 'r, B: Scan> {
     pub alloc: Global,
     /// Where the rules of the program come from, in their order.
     pub origins: &'s [RuleOrigin],
+    /// The board that rules rewrite.
+    pub board: &'b mut B,
+    /// Shows what that one did before the next attempt.
+    pub before: &'b mut B,
+    /// The queue that commands of rules enter.
+    pub queue: &'q mut LentQueue<'r>,
     /// Scratch memory for the rows of a rule, one for each.
     pub scratch: &'s mut [ScratchFor<B>],
-    /// The board that rules rewrite.
-    pub board: B,
-    /// Shows what that one did before the next attempt.
-    pub before: B,
-    /// The queue that commands of rules enter.
-    pub queue: LentQueue<'q>,
     /// What was told.
-    pub events: Vec<Event>,
+    pub events: &'s mut Vec<Event>,
 }
 
-/// Written out, so that a function that owns a run calls this where it returns.
-impl<'q, 's, B: Scan> Drop for Telling<'q, 's, B> {
-    fn drop(self) {
-        let Telling {
-            alloc: _,
-            origins: _,
-            scratch: _,
-            board: _board,
-            before: _before,
-            queue: _queue,
-            events: _events,
-        } = self;
-    }
-}
-
-impl<'q, 's, B: Scan> Telling<'q, 's, B> {
+impl<'b, 'q, 's, 'r, B: Scan> Telling<'b, 'q, 's, 'r, B> {
     /// Tells of an attempt of a rule, before which these commands were queued.
     fn tell(
         &mut self,
@@ -50,12 +36,12 @@ impl<'q, 's, B: Scan> Telling<'q, 's, B> {
         moment: Moment,
         queued: &LentQueue<'_>,
     ) -> Result<(), Memory> {
-        let changes = slot_changes(self.alloc, &self.before, &self.board)?;
-        if !changes.as_slice().is_empty() {
-            self.before = self.board.try_copy(self.alloc)?;
+        let changes = slot_changes(self.alloc, &*self.before, &*self.board)?;
+        if self.board.is_alike(&*self.before) {
+            self.board.copy_into(&mut *self.before);
         }
         let before = owned(self.alloc, queued)?;
-        let after = owned(self.alloc, &self.queue)?;
+        let after = owned(self.alloc, &*self.queue)?;
         self.events.push(Event::Attempt(Told {
             origin,
             moment,
@@ -70,7 +56,7 @@ impl<'q, 's, B: Scan> Telling<'q, 's, B> {
     /// entered a command. Answers whether a cell changed.
     fn attempt(
         &mut self,
-        rule: &CompiledRule<'q>,
+        rule: &CompiledRule<'r>,
         number: usize,
         moment: Moment,
     ) -> Result<bool, Memory> {
@@ -80,13 +66,13 @@ impl<'q, 's, B: Scan> Telling<'q, 's, B> {
         let queued = self.queue.copy();
         let changed = {
             let mut work = Workspace {
-                board: &mut self.board,
-                queue: &mut self.queue,
+                board: &mut *self.board,
+                queue: &mut *self.queue,
                 scratch: &mut *self.scratch,
             };
             attempt(rule, &mut work)
         };
-        if !changed && queued.is_same(&self.queue) {
+        if !changed && queued.is_same(&*self.queue) {
             return Ok(false);
         }
         if let Some(origin) = self.origins.get(number) {
@@ -99,7 +85,7 @@ impl<'q, 's, B: Scan> Telling<'q, 's, B> {
     /// changed something.
     fn round(
         &mut self,
-        rules: &[CompiledRule<'q>],
+        rules: &[CompiledRule<'r>],
         first: usize,
         moment: Moment,
     ) -> Result<bool, Memory> {
@@ -114,7 +100,7 @@ impl<'q, 's, B: Scan> Telling<'q, 's, B> {
     /// A group: rounds until one changes nothing, as many as are allowed. Answers whether one changed something.
     fn group(
         &mut self,
-        rules: &[CompiledRule<'q>],
+        rules: &[CompiledRule<'r>],
         first: usize,
         pass: u32,
     ) -> Result<bool, Memory> {
@@ -134,7 +120,7 @@ impl<'q, 's, B: Scan> Telling<'q, 's, B> {
     /// A pass of a loop's body: its groups in order. Answers whether one changed something.
     fn pass(
         &mut self,
-        groups: &[List<CompiledRule<'q>>],
+        groups: &[List<CompiledRule<'r>>],
         first: usize,
         number: u32,
     ) -> Result<bool, Memory> {
@@ -152,7 +138,7 @@ impl<'q, 's, B: Scan> Telling<'q, 's, B> {
     /// repeats are left; nothing, where one more was due than there were.
     fn looped(
         &mut self,
-        groups: &[List<CompiledRule<'q>>],
+        groups: &[List<CompiledRule<'r>>],
         first: usize,
         repeats: u32,
     ) -> Result<Option<u32>, Memory> {
@@ -168,7 +154,7 @@ impl<'q, 's, B: Scan> Telling<'q, 's, B> {
     /// A section whose loop may repeat so often. Answers as a loop does.
     fn section(
         &mut self,
-        section: &CompiledSection<'q>,
+        section: &CompiledSection<'r>,
         first: usize,
         repeats: u32,
     ) -> Result<Option<u32>, Memory> {
@@ -183,7 +169,7 @@ impl<'q, 's, B: Scan> Telling<'q, 's, B> {
 
     /// A program: its sections in order, until a loop would need one more repeat than are allowed for all loops
     /// together. `Memory` if there is no room for what it tells.
-    pub fn program(&mut self, sections: &[CompiledSection<'q>]) -> Result<(), Memory> {
+    pub fn program(&mut self, sections: &[CompiledSection<'r>]) -> Result<(), Memory> {
         let mut repeats = REPEAT_LIMIT;
         let mut first = 0;
         for section in sections {
