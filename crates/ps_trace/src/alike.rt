@@ -1,4 +1,4 @@
-//! Things that are told of several cells alike.
+//! Lines that speak of several cells alike.
 
 use ps_model::Memory;
 use std::alloc::Global;
@@ -6,14 +6,14 @@ use std::alloc::Global;
 /// How many cells are written out.
 const CELLS_WRITTEN: usize = 4;
 
-/// What is told of some cells alike.
+/// What a line says of some cells alike.
 #[derive(Drop)]
 pub struct Alike {
     pub text: String,
     pub cells: Vec<u32>,
 }
 
-/// Adds what is told of a cell: to what is told alike of others, or else last.
+/// Adds what a line says of a cell: to a line that says the same of others, or else as a line of its own.
 pub fn add_alike(
     alloc: Global,
     groups: &mut Vec<Alike>,
@@ -32,7 +32,7 @@ pub fn add_alike(
     Ok(())
 }
 
-/// A cell of a board of so many rows: its column and its row, from 1.
+/// A cell of a board whose columns have `height` rows: its column and its row, from 1.
 pub fn spot(alloc: Global, height: u32, cell: u32) -> Result<String, Memory> {
     let height = u64::from(height).max(1);
     let column = u64::from(cell) / height + 1;

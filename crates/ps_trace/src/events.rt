@@ -196,7 +196,7 @@ fn add_attempt(
     add_commands(alloc, told, output)
 }
 
-/// Adds the lines of what is told of a run on a board of so many rows.
+/// Adds the lines of what a run tells, on a board whose columns have `height` rows.
 pub fn add_events(
     speech: &Speech<'_>,
     height: u32,

@@ -60,7 +60,7 @@ pub fn add_given<B: Board>(
     add_groups(spellings.alloc, height, &groups, output)
 }
 
-/// What is told of an object that stays, though it was about to go.
+/// What a line says of an object that stays, though it was about to go.
 fn staying(
     spellings: &Spellings<'_>,
     object: ObjectId,

@@ -89,7 +89,7 @@ impl<'p, P: Player> TracedPlay<'p, P> {
         play_from(self.alloc, self.player, self.start, reader, writer)
     }
 
-    /// Plays it by keys that are told of.
+    /// Plays it by keys of which the tracer tells.
     fn told<I: ByteReader, W: ByteWriter, L: ByteWriter>(
         &self,
         tracer: &mut GameTracer<'_>,

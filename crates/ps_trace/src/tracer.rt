@@ -11,8 +11,8 @@ use ps_model::{Key, Memory};
 use ps_screen::OutputText;
 use ps_tracers::Tracer;
 
-/// A game in play beside the one that is shown, with what its lines speak of, the keys that are held, and the lines
-/// that are made next.
+/// A game in play beside the one that is shown. With it come what its lines speak of, the keys that are held, and the
+/// lines that are made next.
 #[derive(Drop)]
 pub struct GameTracer<'g> {
     pub game: TracedGame<'g>,
