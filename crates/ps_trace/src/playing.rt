@@ -19,7 +19,7 @@ use ps_run::parts_of_game;
 use ps_screen::OutputText;
 use ps_stage::level_entry;
 use ps_text::Source;
-use ps_tracers::{Start, TracedKeys, Tracing, play_from};
+use ps_tracers::{Start, TracedKeys, Tracing, Untraced, play_from};
 use std::alloc::Global;
 use std::io::Write;
 
@@ -86,7 +86,10 @@ impl<'p, P: Player> TracedPlay<'p, P> {
         ensures rightly { RunsTraced self.now.start.text.now self.now.start.level (I.state reader.old)
             (I.state reader.new) (W.state writer.old) (W.state writer.new) (level_answer_of result) }
     {
-        play_from(self.alloc, self.player, self.start, reader, writer)
+        let player = Untraced {
+            player: self.player,
+        };
+        player.play(self.alloc, self.start, reader, writer)
     }
 
     /// Plays it by keys of which the tracer tells.

@@ -13,4 +13,4 @@ mod tracings;
 pub use keys::TracedKeys;
 pub use ps_devices::{ByteReader, ByteWriter, Failed, LevelFault, Player, RunFault};
 pub use tracers::Tracer;
-pub use tracings::{Start, Tracing, play_from};
+pub use tracings::{Start, Tracing, Untraced, play_from};

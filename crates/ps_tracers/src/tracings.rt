@@ -63,3 +63,21 @@ pub trait Tracing {
         ensures rightly { RunsTraced start.text.now start.level (I.state reader.old) (I.state reader.new)
             (W.state writer.old) (W.state writer.new) (level_answer_of result) };
 }
+
+/// Plays games by a player, and tells nothing.
+#[derive(Drop)]
+pub struct Untraced<'p, P: Player> {
+    pub player: &'p P,
+}
+
+impl<'p, P: Player> Tracing for Untraced<'p, P> {
+    fn play<I: ByteReader, W: ByteWriter>(
+        &self,
+        alloc: Global,
+        start: Start<'_>,
+        reader: &mut I,
+        writer: &mut W,
+    ) -> Result<Ending, LevelFault> {
+        play_from(alloc, self.player, start, reader, writer)
+    }
+}
