@@ -3,7 +3,7 @@
 ghost use Rattle.std.specs.Prelude.{◌≡◌, true};
 ghost use Rattle.ps_model.specs.board.Grid.{IsPlace, cell_count};
 
-use ps_board::Board;
+use ps_board::{Board, Columns};
 use ps_model::{LayerId, Motion, ObjectId, Slot};
 
 /// How many cells a board has.
@@ -12,6 +12,29 @@ pub fn cell_count<B: Board>(board: &B) -> u32
 {
     let (width, height) = board.size();
     width * height
+}
+
+/// Whether a cell of a board is in one of these rows.
+pub fn is_in<B: Board>(board: &B, rows: &Columns<B::Words>, cell: u32) -> bool {
+    let (_, height) = board.size();
+    rows.has(cell % height.max(1))
+}
+
+/// Rows, as a set of their numbers, outside of which two boards show the same objects. There may be more of them.
+pub fn rows_unlike<B: Board>(first: &B, second: &B) -> Columns<B::Words> {
+    if first.is_alike(second) {
+        return first.rows_differing(second);
+    }
+    Columns::all()
+}
+
+/// Rows, as a set of their numbers, without which none of these objects stands on a board. There may be more of them.
+pub fn rows_with<B: Board>(board: &B, objects: &[ObjectId]) -> Columns<B::Words> {
+    let mut rows = Columns::none();
+    for object in objects {
+        rows = rows.either(board.rows_holding(*object));
+    }
+    rows
 }
 
 /// Whether the board has that cell and that layer.

@@ -1,20 +1,11 @@
 //! Which slots of a board have changed.
 
-use crate::boards::{cell_count, is_same_slot, slot_there};
+use crate::boards::{cell_count, is_in, is_same_slot, rows_unlike, slot_there};
 use crate::told::SlotChange;
-use ps_board::{Board, Columns};
+use ps_board::Board;
 use ps_model::Memory;
 use ps_text::List;
 use std::alloc::Global;
-
-/// Rows, as a set of their numbers, outside of which two boards show the same. There may be more of them.
-fn rows_unlike<B: Board>(first: &B, second: &B) -> Columns<B::Words> {
-    if !first.is_alike(second) {
-        return Columns::all();
-    }
-    let moving = first.rows_moving_any().either(second.rows_moving_any());
-    first.rows_differing(second).either(moving)
-}
 
 /// Puts the slots of a cell last that two boards show otherwise.
 fn push_changes<B: Board>(
@@ -45,10 +36,10 @@ pub fn slot_changes<B: Board>(
     second: &B,
 ) -> Result<List<SlotChange>, Memory> {
     let mut changes = Vec::new(alloc);
-    let rows = rows_unlike(first, second);
-    let (_, height) = second.size();
+    let moving = first.rows_moving_any().either(second.rows_moving_any());
+    let rows = rows_unlike(first, second).either(moving);
     for cell in 0..cell_count(second) {
-        if rows.has(cell % height.max(1)) {
+        if is_in(second, &rows, cell) {
             push_changes(&mut changes, first, second, cell)?;
         }
     }

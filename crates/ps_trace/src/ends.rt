@@ -1,6 +1,6 @@
 //! The lines on what became of a turn.
 
-use crate::boards::{cell_count, object_there};
+use crate::boards::{cell_count, is_in, object_there, rows_unlike, rows_with};
 use crate::lines::add_marked;
 use crate::told::ToldRun;
 use ps_board::Board;
@@ -23,9 +23,10 @@ fn has_one_of<B: Board>(board: &B, objects: &[ObjectId], cell: u32) -> bool {
 
 /// Whether there was a Player, and each cell that had one still has one.
 fn stayed<B: Board>(players: &[ObjectId], before: &B, after: &B) -> bool {
+    let rows = rows_with(before, players);
     let mut was_there = false;
     for cell in 0..cell_count(before) {
-        if has_one_of(before, players, cell) {
+        if is_in(before, &rows, cell) && has_one_of(before, players, cell) {
             was_there = true;
             if !has_one_of(after, players, cell) {
                 return false;
@@ -47,8 +48,9 @@ fn is_same_cell<B: Board>(before: &B, after: &B, cell: u32) -> bool {
 
 /// Whether boards show the same objects.
 fn are_same<B: Board>(before: &B, after: &B) -> bool {
+    let rows = rows_unlike(before, after);
     for cell in 0..cell_count(before) {
-        if !is_same_cell(before, after, cell) {
+        if is_in(before, &rows, cell) && !is_same_cell(before, after, cell) {
             return false;
         }
     }

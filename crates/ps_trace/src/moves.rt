@@ -1,7 +1,7 @@
 //! The lines on motions that are given, and on the movement.
 
 use crate::alike::{Alike, add_alike, spot, spots};
-use crate::boards::{cell_count, motion_there, object_there};
+use crate::boards::{cell_count, is_in, motion_there, object_there};
 use crate::lines::{add_columns, doing, word_of};
 use crate::movement::{Fate, fate};
 use crate::spellings::Spellings;
@@ -44,6 +44,19 @@ fn add_motion<B: Board>(
     add_alike(alloc, groups, text, cell)
 }
 
+/// Adds the motions of the objects of a cell.
+fn add_motions<B: Board>(
+    spellings: &Spellings<'_>,
+    board: &B,
+    cell: u32,
+    groups: &mut Vec<Alike>,
+) -> Result<(), Memory> {
+    for layer in 0..board.layers() {
+        add_motion(spellings, board, cell, layer, groups)?;
+    }
+    Ok(())
+}
+
 /// Adds the motions that objects have before the rules.
 pub fn add_given<B: Board>(
     spellings: &Spellings<'_>,
@@ -51,10 +64,11 @@ pub fn add_given<B: Board>(
     output: &mut OutputText,
 ) -> Result<(), Memory> {
     let (_, height) = board.size();
+    let rows = board.rows_moving_any();
     let mut groups = Vec::new(spellings.alloc);
     for cell in 0..cell_count(board) {
-        for number in 0..board.layers() {
-            add_motion(spellings, board, cell, number, &mut groups)?;
+        if is_in(board, &rows, cell) {
+            add_motions(spellings, board, cell, &mut groups)?;
         }
     }
     add_groups(spellings.alloc, height, &groups, output)
@@ -113,6 +127,20 @@ fn add_mover<B: Board>(
     }
 }
 
+/// Adds the lines of the objects of a cell that move, or adds them to those that stay.
+fn add_movers<B: Board>(
+    spellings: &Spellings<'_>,
+    board: &B,
+    cell: u32,
+    stay: &mut Vec<Alike>,
+    output: &mut OutputText,
+) -> Result<(), Memory> {
+    for layer in 0..board.layers() {
+        add_mover(spellings, board, (cell, layer), stay, output)?;
+    }
+    Ok(())
+}
+
 /// Adds who moves on a board, and then who can't, and why.
 pub fn add_moves<B: Board>(
     spellings: &Spellings<'_>,
@@ -120,10 +148,11 @@ pub fn add_moves<B: Board>(
     output: &mut OutputText,
 ) -> Result<(), Memory> {
     let (_, height) = board.size();
+    let rows = board.rows_moving_any();
     let mut stay = Vec::new(spellings.alloc);
     for cell in 0..cell_count(board) {
-        for layer in 0..board.layers() {
-            add_mover(spellings, board, (cell, layer), &mut stay, output)?;
+        if is_in(board, &rows, cell) {
+            add_movers(spellings, board, cell, &mut stay, output)?;
         }
     }
     add_groups(spellings.alloc, height, &stay, output)
