@@ -131,8 +131,8 @@ fn has_others(origins: &[RuleOrigin], own: RuleOrigin) -> bool {
         .any(|other| other.line == own.line && other.direction != own.direction)
 }
 
-/// When an attempt was made: its direction, where there are others, its pass, if it is of a loop, and its round, where it
-/// isn't the first.
+/// When an attempt was made: its direction, where there are others, its pass, if it is of a loop, and its round, where
+/// it isn't the first.
 fn moment(alloc: Global, origins: &[RuleOrigin], told: &Told) -> Result<String, Memory> {
     let mut words = Vec::new(alloc);
     if has_others(origins, told.origin) {

@@ -9,7 +9,7 @@ use crate::told::ToldRun;
 use ps_board::ManyWords;
 use ps_model::{Ending, Key, Memory, SIDE_LIMIT};
 use ps_origins::PlacedProgram;
-use ps_rulebook::{RowBoard, RowHistory};
+use ps_rulebook::{GameRules, RowBoard, RowHistory};
 use ps_screen::OutputText;
 use ps_session::{BoardSides, Phase, Session, SessionGame, Stop};
 use ps_turn::TurnRules;
@@ -18,10 +18,22 @@ use std::alloc::Global;
 /// Boards with room for every level.
 pub type TracedBoard = RowBoard<ManyWords<4>>;
 
+/// What plays them.
+type PlayedRules<'g> = GameRules<'g, 'g, TracedBoard>;
+
+/// Rules that tell, and play a program.
+fn rules_of<'g>(
+    alloc: Global,
+    program: PlacedProgram<'g, 'g>,
+) -> Result<TracedRules<'g, 'g, TracedBoard, PlayedRules<'g>>, Memory> {
+    let rules = GameRules::try_new(alloc, program.sections)?;
+    TracedRules::try_new(alloc, program, rules)
+}
+
 /// A game in play whose rules tell what they do.
 pub struct TracedGame<'g> {
     session: Session<'g, TracedBoard, RowHistory<ManyWords<4>>>,
-    rules: TurnRules<TracedRules<'g, 'g, TracedBoard>>,
+    rules: TurnRules<TracedRules<'g, 'g, TracedBoard, PlayedRules<'g>>>,
 }
 
 /// Written out, so that a function that owns a game in play calls this where it returns.
@@ -49,8 +61,8 @@ impl<'g> TracedGame<'g> {
         requires { EntriesFit SIDE_LIMIT game.entries }
     {
         let mut rules = TurnRules {
-            plain: TracedRules::try_new(alloc, plain)?,
-            late: TracedRules::try_new(alloc, late)?,
+            plain: rules_of(alloc, plain)?,
+            late: rules_of(alloc, late)?,
         };
         let entry = game.first_entry();
         let sides = BoardSides {

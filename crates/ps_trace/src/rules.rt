@@ -1,4 +1,4 @@
-//! The rules of a turn that tell what they do.
+//! Rules of a turn that tell what they do.
 
 use crate::queues::{lent, owned};
 use crate::telling::Telling;
@@ -7,7 +7,6 @@ use ps_engine::{LentQueue, Scan, ScratchFor, scratch_for};
 use ps_model::{Extent, Memory};
 use ps_origins::{PlacedProgram, RuleOrigin};
 use ps_program::CompiledSection;
-use ps_rulebook::GameRules;
 use ps_turn::{Queue, Rules};
 use std::alloc::Global;
 
@@ -87,14 +86,14 @@ impl<'p, 'r, B: Scan> Teller<'p, 'r, B> {
 }
 
 /// The rules of one part of a turn, which tell what each run does before they do it: the program runs on a copy of the
-/// board first, plainly, and then the ordinary rules play the board.
-pub struct TracedRules<'p, 'r, B: Scan> {
-    rules: GameRules<'p, 'r, B>,
+/// board first, plainly, and then other rules play the board.
+pub struct TracedRules<'p, 'r, B: Scan, R: Rules<B>> {
+    rules: R,
     teller: Teller<'p, 'r, B>,
 }
 
 /// Written out, so that a function that owns rules calls this where it returns.
-impl<'p, 'r, B: Scan> Drop for TracedRules<'p, 'r, B> {
+impl<'p, 'r, B: Scan, R: Rules<B> + Drop> Drop for TracedRules<'p, 'r, B, R> {
     fn drop(self) {
         let TracedRules {
             rules: _rules,
@@ -103,13 +102,14 @@ impl<'p, 'r, B: Scan> Drop for TracedRules<'p, 'r, B> {
     }
 }
 
-impl<'p, 'r, B: Scan> TracedRules<'p, 'r, B> {
-    /// The rules of a program. `Memory` if there is no room for what their runs need.
+impl<'p, 'r, B: Scan, R: Rules<B> + Drop> TracedRules<'p, 'r, B, R> {
+    /// Rules that tell of the runs of a program, and are played by others. `Memory` if there is no room for what that
+    /// needs.
     pub fn try_new(
         alloc: Global,
         program: PlacedProgram<'p, 'r>,
-    ) -> Result<TracedRules<'p, 'r, B>, Memory> {
-        let rules = GameRules::try_new(alloc, program.sections)?;
+        rules: R,
+    ) -> Result<TracedRules<'p, 'r, B, R>, Memory> {
         let scratch = scratch_for(alloc, program.sections)?;
         Ok(TracedRules {
             rules,
@@ -134,10 +134,8 @@ impl<'p, 'r, B: Scan> TracedRules<'p, 'r, B> {
     }
 }
 
-impl<'p, 'r, B: Scan> Rules<B> for TracedRules<'p, 'r, B> {
-    ghost use Rattle.ps_engine.specs.RulesInRoom.{sections_meaning};
-
-    ghost meant = { λ traced table. sections_meaning table traced.rules };
+impl<'p, 'r, B: Scan, R: Rules<B>> Rules<B> for TracedRules<'p, 'r, B, R> {
+    ghost meant = { λ traced. R.meant traced.rules };
 
     fn run(&mut self, board: &mut B, queue: &mut Queue, extent: Extent) -> Result<(), Memory> {
         self.teller.tell(board, queue, extent)?;

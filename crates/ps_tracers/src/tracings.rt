@@ -30,8 +30,8 @@ pub fn play_from<P: Player, I: ByteReader, W: ByteWriter>(
 ) -> Result<Ending, LevelFault>
     requires heard { (I.state reader.old).has_failed ≡ false }
     requires well { (W.state writer.old).has_failed ≡ false }
-    ensures { RunsFrom start.text.now start.level (I.state reader.old) (I.state reader.new) (W.state writer.old)
-        (W.state writer.new) (level_answer_of result) }
+    ensures { RunsFrom start.entry.text.now start.entry.level (I.state reader.old) (I.state reader.new)
+        (W.state writer.old) (W.state writer.new) (level_answer_of result) }
 {
     match start.level {
         Some(level) => player.play_from_level(alloc, start.text, level, reader, writer),
@@ -60,7 +60,7 @@ pub trait Tracing {
     ) -> Result<Ending, LevelFault>
         requires heard { (I.state reader.old).has_failed ≡ false }
         requires well { (W.state writer.old).has_failed ≡ false }
-        ensures rightly { RunsTraced start.text.now start.level (I.state reader.old) (I.state reader.new)
+        ensures rightly { RunsTraced start.entry.text.now start.entry.level (I.state reader.old) (I.state reader.new)
             (W.state writer.old) (W.state writer.new) (level_answer_of result) };
 }
 
