@@ -11,8 +11,8 @@ const TOLD: &str = "> right\n  | 2,1       Player goes right\n\
     \x20 | line 30   [ > Player | Crate ] -> [ > Player | > Crate ]   (right)\n  |   3,1: Crate goes right\n\
     \x20 | 2,1       Player moves to 3,1\n  | 3,1       Crate moves to 4,1\n  | = won (the win conditions hold)\n";
 
-/// Whether [`PUSHING`] is played with the key `d` as without a trace, and its trace has these bytes, where there is room
-/// for as many bytes of lines.
+/// Whether [`PUSHING`] is played with the key `d` as without a trace, and its trace has these bytes. There is room for
+/// `room` bytes of lines.
 fn is_traced(rt: &(impl Abort + AllocGlobal), room: usize, told: &[u8]) -> bool {
     let mut reader = MemoryReader::new(b"d", 64, None);
     let mut screen = MemoryWriter::new(rt.alloc(), 1000, 1000).expect(rt, "memory for the screen");
