@@ -1,13 +1,14 @@
 //! A game in play whose rules tell what they do.
 
-ghost use Rattle.std.specs.Prelude.{◌≡◌, ◌≤◌};
 ghost use Rattle.ps_model.specs.declared.limits.TheConstants.{SIDE_LIMIT};
-ghost use Rattle.ps_stage.specs.Playable.{EntriesFit};
+ghost use Rattle.ps_model.specs.session.RoomSizes.{HasRoomSize};
+ghost use Rattle.ps_stage.specs.Playable.{ArePlayable, EntriesFit};
 
 use crate::rules::TracedRules;
 use crate::told::ToldRun;
 use ps_board::ManyWords;
-use ps_model::{Ending, Key, Memory, SIDE_LIMIT};
+use ps_game::Game;
+use ps_model::{Key, Memory, SIDE_LIMIT};
 use ps_origins::PlacedProgram;
 use ps_rulebook::{GameRules, RowBoard, RowHistory};
 use ps_screen::OutputText;
@@ -30,6 +31,22 @@ fn rules_of<'g>(
     TracedRules::try_new(alloc, program, rules)
 }
 
+/// What a session plays of a game that is begun at an entry.
+fn parts_of(game: &Game, entry: usize) -> SessionGame<'_>
+    requires playable { ArePlayable game.now.names game.now.entries }
+    requires rooms { HasRoomSize game.now.options }
+    ensures { EntriesFit SIDE_LIMIT result.entries }
+{
+    SessionGame::new(
+        game.title.as_str(),
+        game.options,
+        &game.names,
+        &game.entries,
+        &game.wins,
+    )
+    .begun_at(entry)
+}
+
 /// A game in play whose rules tell what they do.
 pub struct TracedGame<'g> {
     session: Session<'g, TracedBoard, RowHistory<ManyWords<4>>>,
@@ -47,30 +64,32 @@ impl<'g> Drop for TracedGame<'g> {
 }
 
 impl<'g> TracedGame<'g> {
-    /// Starts a game by these programs, at the entry at which it begins. What it writes there is forgotten.
+    /// Starts a game by these programs, at an entry. What it writes there is forgotten.
     ///
     /// # Errors
     ///
     /// `Memory`.
     pub fn start(
         alloc: Global,
-        game: SessionGame<'g>,
+        game: &'g Game,
+        entry: usize,
         plain: PlacedProgram<'g, 'g>,
         late: PlacedProgram<'g, 'g>,
     ) -> Result<TracedGame<'g>, Memory>
-        requires { EntriesFit SIDE_LIMIT game.entries }
+        requires playable { ArePlayable game.now.names game.now.entries }
+        requires rooms { HasRoomSize game.now.options }
     {
+        let parts = parts_of(game, entry);
         let mut rules = TurnRules {
             plain: rules_of(alloc, plain)?,
             late: rules_of(alloc, late)?,
         };
-        let entry = game.first_entry();
         let sides = BoardSides {
             above: 0,
             most: SIDE_LIMIT,
         };
         let mut output = OutputText::new(alloc);
-        let session = Session::start_at(alloc, game, sides, &mut rules, entry, &mut output)?;
+        let session = Session::start_at(alloc, parts, sides, &mut rules, entry, &mut output)?;
         Ok(TracedGame { session, rules })
     }
 
@@ -97,10 +116,5 @@ impl<'g> TracedGame<'g> {
     /// What the runs of rules have told since the last key: those of the rules, and those of the late rules.
     pub fn told(&self) -> (&[ToldRun<TracedBoard>], &[ToldRun<TracedBoard>]) {
         (self.rules.plain.runs(), self.rules.late.runs())
-    }
-
-    /// How the game ended, if it has.
-    pub fn ending(&self) -> Option<Ending> {
-        self.session.ending()
     }
 }

@@ -15,7 +15,6 @@ use ps_game::{Game, read_game};
 use ps_keys::Keys;
 use ps_model::{Ending, Memory};
 use ps_origins::PlacedPrograms;
-use ps_run::parts_of_game;
 use ps_screen::OutputText;
 use ps_stage::level_entry;
 use ps_text::Source;
@@ -40,8 +39,7 @@ fn tracer_of<'g>(alloc: Global, traced: Traced<'g>) -> Result<GameTracer<'g>, Me
     requires rooms { HasRoomSize traced.game.now.options }
 {
     let (plain, late) = (traced.programs.plain(), traced.programs.late());
-    let parts = parts_of_game(traced.game, traced.entry);
-    let game = TracedGame::start(alloc, parts, plain, late)?;
+    let game = TracedGame::start(alloc, traced.game, traced.entry, plain, late)?;
     Ok(GameTracer {
         game,
         speaker: Speaker {
