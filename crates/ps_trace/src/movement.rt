@@ -111,7 +111,7 @@ fn slides<B: Board>(board: &B, layer: u32, cell: u32) -> bool {
 }
 
 /// What becomes of the object on a layer of a cell, if it is about to go.
-pub fn fate<B: Board>(board: &B, layer: u32, cell: u32) -> Fate {
+pub fn fate_of<B: Board>(board: &B, layer: u32, cell: u32) -> Fate {
     let Some(to) = target(board, layer, cell) else {
         return Fate::AtEdge;
     };

@@ -3,7 +3,7 @@
 use crate::alike::{Alike, add_alike, spot, spots};
 use crate::boards::{cell_count, is_in, motion_there, object_there};
 use crate::lines::{add_columns, doing, word_of};
-use crate::movement::{Fate, fate};
+use crate::movement::{Fate, fate_of};
 use crate::spellings::Spellings;
 use ps_board::Board;
 use ps_model::{Direction, Memory, Motion, ObjectId};
@@ -114,7 +114,7 @@ fn add_mover<B: Board>(
     };
     let alloc = spellings.alloc;
     let (_, height) = board.size();
-    match fate(board, layer, cell) {
+    match fate_of(board, layer, cell) {
         Fate::Goes(to) => {
             let (name, there) = (spellings.name(object), spot(alloc, height, to)?);
             let text = format!(in alloc; "{name} moves to {there}")?;
