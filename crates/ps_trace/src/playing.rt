@@ -82,7 +82,7 @@ impl<'p, P: Player> TracedPlay<'p, P> {
         requires heard { (I.state reader.old).has_failed ≡ false }
         requires well { (W.state writer.old).has_failed ≡ false }
         ensures rightly { RunsTraced self.now.start.text.now self.now.start.level (I.state reader.old)
-            (I.state reader.new) (W.state writer.old) (W.state writer.new) (level_answer_of result) }
+            (W.state writer.old) (W.state writer.new) (level_answer_of result) }
     {
         let player = Untraced {
             player: self.player,
@@ -102,7 +102,7 @@ impl<'p, P: Player> TracedPlay<'p, P> {
         requires well { (W.state writer.old).has_failed ≡ false }
         requires told { (L.state lines.old).has_failed ≡ false }
         ensures rightly { RunsTraced self.now.start.text.now self.now.start.level (I.state reader.old)
-            (I.state reader.new) (W.state writer.old) (W.state writer.new) (level_answer_of result) }
+            (W.state writer.old) (W.state writer.new) (level_answer_of result) }
     {
         if !tracer.open(lines) {
             return self.untraced(reader, writer);
@@ -125,7 +125,7 @@ impl<'p, P: Player> TracedPlay<'p, P> {
         requires playable { ArePlayable traced.game.now.names traced.game.now.entries }
         requires rooms { HasRoomSize traced.game.now.options }
         ensures rightly { RunsTraced self.now.start.text.now self.now.start.level (I.state reader.old)
-            (I.state reader.new) (W.state writer.old) (W.state writer.new) (level_answer_of result) }
+            (W.state writer.old) (W.state writer.new) (level_answer_of result) }
     {
         match tracer_of(self.alloc, traced) {
             Ok(mut tracer) => self.told(&mut tracer, reader, writer, lines),
@@ -147,7 +147,7 @@ impl<'p, P: Player> TracedPlay<'p, P> {
         requires playable { ArePlayable game.now.names game.now.entries }
         requires rooms { HasRoomSize game.now.options }
         ensures rightly { RunsTraced self.now.start.text.now self.now.start.level (I.state reader.old)
-            (I.state reader.new) (W.state writer.old) (W.state writer.new) (level_answer_of result) }
+            (W.state writer.old) (W.state writer.new) (level_answer_of result) }
     {
         let Some(entry) = entry_of(game, self.start.level) else {
             return self.untraced(reader, writer);
@@ -186,7 +186,7 @@ impl<'p, P: Player> TracedPlay<'p, P> {
         requires well { (W.state writer.old).has_failed ≡ false }
         requires told { (L.state lines.old).has_failed ≡ false }
         ensures rightly { RunsTraced self.now.start.text.now self.now.start.level (I.state reader.old)
-            (I.state reader.new) (W.state writer.old) (W.state writer.new) (level_answer_of result) }
+            (W.state writer.old) (W.state writer.new) (level_answer_of result) }
     {
         match read_game(self.alloc, self.start.text) {
             Ok(game) => self.of_game(&game, reader, writer, lines),

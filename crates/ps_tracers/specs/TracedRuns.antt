@@ -1,6 +1,6 @@
 -- Runs that begin at a level or at the start, and traced runs: a tracer tells of each key before it is played. A traced
--- run is right as any run is. It reads by a reader above the one that is lent. That has the same bytes to give before
--- the run, and the same left after it.
+-- run is right as any run is, and so is what it writes. It reads by a reader above the one that is lent, which has the
+-- same bytes to give. Not said: what is left in the one that is lent.
 use Rattle.std.specs.Prelude.{◌≡◌, ℕ, Option, Some, None, List}
 use Rattle.ps_model.specs.game.Tellings.{ReaderState, WriterState}
 use Rattle.ps_model.specs.game.Headline.{RunsRightly}
@@ -14,10 +14,9 @@ RunsFrom text (Some level) before after first last answer =
     RunsRightlyFromLevel text level before after first last answer
 
 -- a traced run is right
-pub record RunsTraced (text : List ℕ) (level : Option ℕ) (reader_before reader_after : ReaderState)
-    (writer_before writer_after : WriterState) (answer : LevelAnswer) : Type 0 where
+pub record RunsTraced (text : List ℕ) (level : Option ℕ) (reader : ReaderState) (before after : WriterState)
+    (answer : LevelAnswer) : Type 0 where
   pub first : ReaderState
   pub last : ReaderState
-  pub same_first : first.remaining ≡ reader_before.remaining
-  pub same_last : last.remaining ≡ reader_after.remaining
-  pub rightly : RunsFrom text level first last writer_before writer_after answer
+  pub same : first.remaining ≡ reader.remaining
+  pub rightly : RunsFrom text level first last before after answer

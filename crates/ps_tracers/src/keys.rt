@@ -41,9 +41,7 @@ impl<'d, R: ByteReader, W: ByteWriter, T: Tracer> TracedKeys<'d, R, W, T> {
         requires heard { (R.state reader.old).has_failed ≡ false }
         requires well { (W.state lines.old).has_failed ≡ false }
         ensures reader { result.reader.now ≡ reader.old }
-        ensures same_reader { result.reader.ghost_name ≡ reader.entry.ghost_name }
         ensures lines { result.lines.now ≡ lines.old }
-        ensures same_lines { result.lines.ghost_name ≡ lines.entry.ghost_name }
         ensures failed { result.counts.failed ≡ false }
         ensures last { result.counts.last ≡ 0 }
         ensures calls { result.counts.calls ≡ 0 }

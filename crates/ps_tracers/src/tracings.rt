@@ -60,8 +60,8 @@ pub trait Tracing {
     ) -> Result<Ending, LevelFault>
         requires heard { (I.state reader.old).has_failed ≡ false }
         requires well { (W.state writer.old).has_failed ≡ false }
-        ensures rightly { RunsTraced start.entry.text.now start.entry.level (I.state reader.old) (I.state reader.new)
-            (W.state writer.old) (W.state writer.new) (level_answer_of result) };
+        ensures rightly { RunsTraced start.entry.text.now start.entry.level (I.state reader.old) (W.state writer.old)
+            (W.state writer.new) (level_answer_of result) };
 }
 
 /// Plays games by a player, and tells nothing.
