@@ -16,12 +16,12 @@ use std::alloc::Global;
 #[derive(Clone, Copy)]
 pub struct Speech<'t> {
     pub source: &'t Source,
-    pub spellings: &'t Spellings<'t>,
+    pub spellings: &'t Spellings,
     pub origins: &'t [RuleOrigin],
 }
 
 /// What became of a slot.
-fn change(spellings: &Spellings<'_>, told: &SlotChange) -> Result<String, Memory> {
+fn change(spellings: &Spellings, told: &SlotChange) -> Result<String, Memory> {
     let alloc = spellings.alloc;
     match (told.before, told.after) {
         (Slot::Bare, Slot::Bare) => Ok(String::new(alloc)),
@@ -52,7 +52,7 @@ fn change(spellings: &Spellings<'_>, told: &SlotChange) -> Result<String, Memory
 
 /// What is told alike of the cells of which a slot has changed.
 fn changes_alike(
-    spellings: &Spellings<'_>,
+    spellings: &Spellings,
     changes: &[SlotChange],
 ) -> Result<Vec<Alike>, Memory> {
     let alloc = spellings.alloc;

@@ -26,7 +26,7 @@ fn add_groups(
 
 /// Adds the motion of the object on a layer of a cell, if it has one.
 fn add_motion<B: Board>(
-    spellings: &Spellings<'_>,
+    spellings: &Spellings,
     board: &B,
     cell: u32,
     layer: u32,
@@ -46,7 +46,7 @@ fn add_motion<B: Board>(
 
 /// Adds the motions of the objects of a cell.
 fn add_motions<B: Board>(
-    spellings: &Spellings<'_>,
+    spellings: &Spellings,
     board: &B,
     cell: u32,
     groups: &mut Vec<Alike>,
@@ -59,7 +59,7 @@ fn add_motions<B: Board>(
 
 /// Adds the motions that objects have before the rules.
 pub fn add_given<B: Board>(
-    spellings: &Spellings<'_>,
+    spellings: &Spellings,
     board: &B,
     output: &mut OutputText,
 ) -> Result<(), Memory> {
@@ -76,7 +76,7 @@ pub fn add_given<B: Board>(
 
 /// What a line says of an object that stays, though it was about to go.
 fn staying(
-    spellings: &Spellings<'_>,
+    spellings: &Spellings,
     object: ObjectId,
     direction: Direction,
     fate: Fate,
@@ -99,7 +99,7 @@ fn staying(
 
 /// Adds the line of the object on a layer of a cell, if it moves; or adds it to those that stay, if it can't.
 fn add_mover<B: Board>(
-    spellings: &Spellings<'_>,
+    spellings: &Spellings,
     board: &B,
     place: (u32, u32),
     stay: &mut Vec<Alike>,
@@ -129,7 +129,7 @@ fn add_mover<B: Board>(
 
 /// Adds the lines of the objects of a cell that move, or adds them to those that stay.
 fn add_movers<B: Board>(
-    spellings: &Spellings<'_>,
+    spellings: &Spellings,
     board: &B,
     cell: u32,
     stay: &mut Vec<Alike>,
@@ -143,7 +143,7 @@ fn add_movers<B: Board>(
 
 /// Adds who moves on a board, and then who can't, and why.
 pub fn add_moves<B: Board>(
-    spellings: &Spellings<'_>,
+    spellings: &Spellings,
     board: &B,
     output: &mut OutputText,
 ) -> Result<(), Memory> {

@@ -29,7 +29,7 @@ struct Traced<'g> {
     source: &'g Source,
     game: &'g Game,
     programs: &'g PlacedPrograms<'g>,
-    spellings: &'g Spellings<'g>,
+    spellings: &'g Spellings,
     entry: usize,
 }
 
@@ -38,17 +38,17 @@ fn tracer_of<'g>(alloc: Global, traced: Traced<'g>) -> Result<GameTracer<'g>, Me
     requires playable { ArePlayable traced.game.now.names traced.game.now.entries }
     requires rooms { HasRoomSize traced.game.now.options }
 {
-    let (plain, late) = (traced.programs.plain(), traced.programs.late());
-    let game = TracedGame::start(alloc, traced.game, traced.entry, plain, late)?;
+    let (game, programs) = (traced.game, traced.programs);
+    let (plain, late) = (programs.plain(), programs.late());
     Ok(GameTracer {
-        game,
+        game: TracedGame::start(alloc, game, traced.entry, plain, late)?,
         speaker: Speaker {
             source: traced.source,
             spellings: traced.spellings,
             plain: plain.origins,
             late: late.origins,
-            players: traced.game.names.players(),
-            wins: traced.game.wins.as_slice(),
+            players: game.names.players(),
+            wins: game.wins.as_slice(),
         },
         keys: Keys::new(),
         lines: OutputText::new(alloc),

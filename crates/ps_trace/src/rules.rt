@@ -1,5 +1,7 @@
 //! Rules of a turn that tell what they do.
 
+ghost use Rattle.std.specs.Prelude.{◌≡◌};
+
 use crate::queues::{lent, owned};
 use crate::telling::Telling;
 use crate::told::{Event, ToldRun};
@@ -40,18 +42,22 @@ impl<'p, 'r, B: Scan> Teller<'p, 'r, B> {
     /// # Errors
     ///
     /// `Memory`, and nothing more is kept.
-    fn tell(&mut self, board: &B, queue: &Queue, extent: Extent) -> Result<(), Memory> {
+    fn tell(&mut self, board: &B, queue: &mut Queue, extent: Extent) -> Result<(), Memory>
+        ensures { queue.new ≡ queue.old }
+    {
         let before = board.try_copy(self.alloc)?;
         let mut after = board.try_copy(self.alloc)?;
         let mut events = Vec::new(self.alloc);
-        let mut during = lent(queue);
-        self.tell_lent(&mut after, &mut during, &mut events)?;
-        let queue = owned(self.alloc, &during)?;
+        let came = {
+            let mut during = lent(queue);
+            self.tell_lent(&mut after, &mut during, &mut events)?;
+            owned(self.alloc, &during)?
+        };
         self.runs.push(ToldRun {
             extent,
             before,
             after,
-            queue,
+            queue: came,
             events,
         })?;
         Ok(())

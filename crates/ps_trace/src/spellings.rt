@@ -9,33 +9,39 @@ use std::alloc::Global;
 /// What each object of a game is called, in the order of their numbers: by the first name that the text declares and
 /// that stands for the object alone, as it is written there.
 #[derive(Drop)]
-pub struct Spellings<'s> {
+pub struct Spellings {
     /// Where texts that speak of objects take memory from.
     pub alloc: Global,
-    names: Vec<&'s str>,
+    names: Vec<String>,
 }
 
 /// Calls an object by a name that stands for it alone, if it isn't called otherwise.
-fn call<'s>(names: &Names, found: &mut Vec<&'s str>, name: &'s str) {
+fn call(
+    alloc: Global,
+    names: &Names,
+    found: &mut Vec<String>,
+    name: &str,
+) -> Result<(), Memory> {
     let Some(Meaning::One(object)) = names.meaning(name) else {
-        return;
+        return Ok(());
     };
     let number = object.0 as usize;
     if number < found.len() && found[number].is_empty() {
-        found[number] = name;
+        found[number] = String::from_str(alloc, name)?;
     }
+    Ok(())
 }
 
-impl<'s> Spellings<'s> {
+impl Spellings {
     /// Those of a text's game. `Memory` if there is no room for them.
-    pub fn of(alloc: Global, source: &'s Source, names: &Names) -> Result<Spellings<'s>, Memory> {
+    pub fn of(alloc: Global, source: &Source, names: &Names) -> Result<Spellings, Memory> {
         let declared = declared_names(alloc, source)?;
         let mut found = Vec::new(alloc);
         for _number in 0..names.object_count() {
-            found.push("")?;
+            found.push(String::new(alloc))?;
         }
         for named in &declared {
-            call(names, &mut found, named.name);
+            call(alloc, names, &mut found, named.name)?;
         }
         Ok(Spellings {
             alloc,
@@ -44,9 +50,9 @@ impl<'s> Spellings<'s> {
     }
 
     /// What an object is called; nothing, where the game has no such object.
-    pub fn name(&self, object: ObjectId) -> &'s str {
+    pub fn name(&self, object: ObjectId) -> &str {
         match self.names.get(object.0 as usize) {
-            Some(name) => *name,
+            Some(name) => name.as_str(),
             None => "",
         }
     }

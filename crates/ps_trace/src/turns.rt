@@ -18,7 +18,7 @@ use ps_text::Source;
 #[derive(Drop)]
 pub struct Speaker<'t> {
     pub source: &'t Source,
-    pub spellings: &'t Spellings<'t>,
+    pub spellings: &'t Spellings,
     pub plain: &'t [RuleOrigin],
     pub late: &'t [RuleOrigin],
     pub players: &'t [ObjectId],
@@ -55,28 +55,15 @@ impl<'t> Speaker<'t> {
         add_events(&self.speech(self.late), height, &last.events, output)
     }
 
-    /// Adds the lines of a turn, of which the runs are told: that of its rules, and that of its late rules, if they
-    /// were run.
-    fn add_turn<B: Board>(
+    /// Adds the lines of what a turn begins with: the motions that are given, and what its rules did.
+    fn add_begun<B: Board>(
         &self,
         first: &ToldRun<B>,
-        last: Option<&ToldRun<B>>,
         output: &mut OutputText,
     ) -> Result<(), Memory> {
         let (_, height) = first.before.size();
         add_given(self.spellings, &first.before, output)?;
-        let speech = self.speech(self.plain);
-        add_events(&speech, height, &first.events, output)?;
-        if let Some(last) = last {
-            self.add_late(first, last, output)?;
-        }
-        add_end(
-            self.players,
-            self.wins,
-            first,
-            last.unwrap_or(first),
-            output,
-        )
+        add_events(&self.speech(self.plain), height, &first.events, output)
     }
 
     /// Adds the lines of turns, of which the runs are told: those of their rules, and those of their late rules. A key
@@ -94,10 +81,13 @@ impl<'t> Speaker<'t> {
                 add_marked(output, "turn without a key")?;
             }
             let first = &plain[number];
-            if is_decided(first) {
-                self.add_turn(first, None, output)?;
+            self.add_begun(first, output)?;
+            if is_decided(first) || late.len() <= next {
+                add_end(self.players, self.wins, first, first, output)?;
             } else {
-                self.add_turn(first, late.get(next), output)?;
+                let last = &late[next];
+                self.add_late(first, last, output)?;
+                add_end(self.players, self.wins, first, last, output)?;
                 next = next.saturating_add(1);
             }
         }
