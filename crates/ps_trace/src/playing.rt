@@ -25,16 +25,18 @@ use std::io::Write;
 /// What is traced of a text: its game, its programs, and what its objects are called; and the entry at which the game
 /// begins.
 #[derive(Clone, Copy)]
-struct Traced<'g> {
-    source: &'g Source,
+struct Traced<'t, 'g> {
+    source: &'t Source,
     game: &'g Game,
-    programs: &'g PlacedPrograms<'g>,
-    spellings: &'g Spellings,
+    programs: &'t PlacedPrograms<'g>,
+    spellings: &'t Spellings,
     entry: usize,
 }
 
 /// What tells of the keys of a game.
-fn tracer_of<'g>(alloc: Global, traced: Traced<'g>) -> Result<GameTracer<'g>, Memory>
+fn tracer_of<'t, 'g>(alloc: Global, traced: Traced<'t, 'g>) -> Result<GameTracer<'t>, Memory>
+where
+    'g: 't,
     requires playable { ArePlayable traced.game.now.names traced.game.now.entries }
     requires rooms { HasRoomSize traced.game.now.options }
 {
@@ -114,7 +116,7 @@ impl<'p, P: Player> TracedPlay<'p, P> {
     /// Plays it by keys of which is told what is traced.
     fn traced<I: ByteReader, W: ByteWriter, L: ByteWriter>(
         &self,
-        traced: Traced<'_>,
+        traced: Traced<'_, '_>,
         reader: &mut I,
         writer: &mut W,
         lines: &mut L,

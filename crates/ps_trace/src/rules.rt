@@ -1,22 +1,54 @@
 //! Rules of a turn that tell what they do.
 
-ghost use Rattle.std.specs.Prelude.{◌≡◌};
-
 use crate::queues::{lent, owned};
 use crate::telling::Telling;
-use crate::told::{Event, ToldRun};
-use ps_engine::{LentQueue, Scan, ScratchFor, scratch_for};
+use crate::told::ToldRun;
+use ps_engine::{Scan, ScratchFor, scratch_for};
 use ps_model::{Extent, Memory};
-use ps_origins::{PlacedProgram, RuleOrigin};
-use ps_program::CompiledSection;
+use ps_origins::PlacedProgram;
 use ps_turn::{Queue, Rules};
 use std::alloc::Global;
+
+/// Runs a program on copies of a board and of a queue, and answers what that tells, as of a whole run. `Memory` if there
+/// is no room for it.
+fn told_run<'q, B: Scan>(
+    alloc: Global,
+    program: PlacedProgram<'q, 'q>,
+    scratch: &mut [ScratchFor<B>],
+    board: &B,
+    queue: &'q Queue,
+) -> Result<ToldRun<B>, Memory> {
+    let before = board.try_copy(alloc)?;
+    let mut shown = board.try_copy(alloc)?;
+    let mut after = board.try_copy(alloc)?;
+    let mut events = Vec::new(alloc);
+    let mut during = lent(queue);
+    {
+        let mut telling = Telling {
+            alloc,
+            origins: program.origins,
+            board: &mut after,
+            before: &mut shown,
+            queue: &mut during,
+            scratch,
+            events: &mut events,
+        };
+        telling.program(program.sections)?;
+    }
+    let queue = owned(alloc, &during)?;
+    Ok(ToldRun {
+        extent: Extent::Whole,
+        before,
+        after,
+        queue,
+        events,
+    })
+}
 
 /// What tells of the runs of a program.
 struct Teller<'p, 'r, B: Scan> {
     alloc: Global,
-    sections: &'p [CompiledSection<'r>],
-    origins: &'p [RuleOrigin],
+    program: PlacedProgram<'p, 'r>,
     /// Room for the rows of a rule.
     scratch: Vec<ScratchFor<B>>,
     /// What runs have told since they were forgotten last.
@@ -28,8 +60,7 @@ impl<'p, 'r, B: Scan> Drop for Teller<'p, 'r, B> {
     fn drop(self) {
         let Teller {
             alloc: _,
-            sections: _,
-            origins: _,
+            program: _,
             scratch: _scratch,
             runs: _runs,
         } = self;
@@ -42,52 +73,12 @@ impl<'p, 'r, B: Scan> Teller<'p, 'r, B> {
     /// # Errors
     ///
     /// `Memory`, and nothing more is kept.
-    fn tell(&mut self, board: &B, queue: &mut Queue, extent: Extent) -> Result<(), Memory>
-        ensures { queue.new ≡ queue.old }
-    {
-        let before = board.try_copy(self.alloc)?;
-        let mut after = board.try_copy(self.alloc)?;
-        let mut events = Vec::new(self.alloc);
-        let came = {
-            let mut during = lent(queue);
-            self.tell_lent(&mut after, &mut during, &mut events)?;
-            owned(self.alloc, &during)?
-        };
-        self.runs.push(ToldRun {
-            extent,
-            before,
-            after,
-            queue: came,
-            events,
-        })?;
+    fn tell(&mut self, board: &B, queue: &Queue, extent: Extent) -> Result<(), Memory> {
+        let scratch = self.scratch.as_mut_slice();
+        let mut run = told_run(self.alloc, self.program, scratch, board, queue)?;
+        run.extent = extent;
+        self.runs.push(run)?;
         Ok(())
-    }
-
-    /// Runs the program on a board and a queue that are lent, and puts last what that tells.
-    ///
-    /// # Errors
-    ///
-    /// `Memory`, and a part of the program may have been run.
-    fn tell_lent<'q>(
-        &mut self,
-        board: &mut B,
-        queue: &mut LentQueue<'q>,
-        events: &mut Vec<Event>,
-    ) -> Result<(), Memory>
-    where
-        'r: 'q,
-    {
-        let mut before = board.try_copy(self.alloc)?;
-        let mut telling = Telling {
-            alloc: self.alloc,
-            origins: self.origins,
-            board,
-            before: &mut before,
-            queue,
-            scratch: self.scratch.as_mut_slice(),
-            events,
-        };
-        telling.program(self.sections)
     }
 }
 
@@ -121,8 +112,7 @@ impl<'p, 'r, B: Scan, R: Rules<B> + Drop> TracedRules<'p, 'r, B, R> {
             rules,
             teller: Teller {
                 alloc,
-                sections: program.sections,
-                origins: program.origins,
+                program,
                 scratch,
                 runs: Vec::new(alloc),
             },
