@@ -9,8 +9,8 @@ use ps_origins::PlacedProgram;
 use ps_turn::{Queue, Rules};
 use std::alloc::Global;
 
-/// Runs a program on copies of a board and of a queue, and answers what that tells, as of a whole run. `Memory` if there
-/// is no room for it.
+/// Runs a program on copies of a board and of a queue, and answers what that tells, as of a whole run. `Memory` if
+/// there is no room for it.
 fn told_run<'q, B: Scan>(
     alloc: Global,
     program: PlacedProgram<'q, 'q>,
