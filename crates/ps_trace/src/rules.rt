@@ -2,12 +2,41 @@
 
 use crate::queues::{lent, owned};
 use crate::telling::Telling;
-use crate::told::ToldRun;
-use ps_engine::{Scan, ScratchFor, scratch_for};
+use crate::told::{Event, ToldRun};
+use ps_engine::{LentQueue, Scan, ScratchFor, scratch_for};
 use ps_model::{Extent, Memory};
 use ps_origins::PlacedProgram;
 use ps_turn::{Queue, Rules};
 use std::alloc::Global;
+
+/// Runs a program on a board and a queue that are lent, and answers what that tells. `Memory` if there is no room for
+/// it, and a part of the program may have been run.
+fn told_events<'q, 'r, B: Scan>(
+    alloc: Global,
+    program: PlacedProgram<'_, 'r>,
+    scratch: &mut [ScratchFor<B>],
+    board: &mut B,
+    queue: &mut LentQueue<'q>,
+) -> Result<Vec<Event>, Memory>
+where
+    'r: 'q,
+{
+    let mut before = board.try_copy(alloc)?;
+    let mut events = Vec::new(alloc);
+    {
+        let mut telling = Telling {
+            alloc,
+            origins: program.origins,
+            board,
+            before: &mut before,
+            queue,
+            scratch,
+            events: &mut events,
+        };
+        telling.program(program.sections)?;
+    }
+    Ok(events)
+}
 
 /// Runs a program on copies of a board and of a queue, and answers what that tells, as of a whole run. `Memory` if
 /// there is no room for it.
@@ -19,22 +48,9 @@ fn told_run<'q, B: Scan>(
     queue: &'q Queue,
 ) -> Result<ToldRun<B>, Memory> {
     let before = board.try_copy(alloc)?;
-    let mut shown = board.try_copy(alloc)?;
     let mut after = board.try_copy(alloc)?;
-    let mut events = Vec::new(alloc);
     let mut during = lent(queue);
-    {
-        let mut telling = Telling {
-            alloc,
-            origins: program.origins,
-            board: &mut after,
-            before: &mut shown,
-            queue: &mut during,
-            scratch,
-            events: &mut events,
-        };
-        telling.program(program.sections)?;
-    }
+    let events = told_events(alloc, program, scratch, &mut after, &mut during)?;
     let queue = owned(alloc, &during)?;
     Ok(ToldRun {
         extent: Extent::Whole,
