@@ -63,6 +63,7 @@ pub record IsPlay (rows : List Row) (play : Play) : Type 0 where
   pub keys : text_of play.keys ≡ keys_file (first_of (codes "keys") rows)
   pub size : IsSizeOf (first_of (codes "view") rows) play.size
   pub sizes : text_of play.sizes ≡ first_of (codes "sizes") rows
+  pub traced : play.is_traced ≡ is_given (codes "trace") rows
 
 pub record IsShow (rows : List Row) (show : Show) : Type 0 where
   pub game : IsGameIn rows show.game.now

@@ -55,6 +55,7 @@ arguments =
     ∷ option (codes "keys")
     ∷ option (codes "view")
     ∷ bound (option (codes "sizes"))
+    ∷ bound (flag (codes "trace"))
     ∷ flag (codes "plain")
     ∷ flag (codes "fresh")
     ∷ bound (option (codes "show"))

@@ -22,11 +22,13 @@ use crate::reporting::{report_alone, report_texts};
 use crate::showing::show_asked;
 use crate::solving::solve_asked;
 use crate::stops::{Stop, stop_for, tell};
+use crate::tracing::trace_asked;
 use ps_answers::LevelSolver;
 use ps_check::{check, check_named};
 use ps_devices::{ByteReader, ByteWriter, Player, RunFault};
 use ps_records::Replayer;
 use ps_report::{Detail, explanation};
+use ps_tracers::Tracing;
 use std::alloc::Global;
 use std::rt::{Env, Files};
 use std::time::Clock;
@@ -41,10 +43,11 @@ pub fn run_command_line<
     R: Env + Files + AllocGlobal + Clock + Print + Eprint,
     P: Player,
     S: LevelSolver,
+    T: Tracing,
     Y: Replayer,
     I: ByteReader,
     O: ByteWriter,
->(rt: &R, engine: &Engine<'_, P, S>, replayer: &Y, keys: &mut I, screen: &mut O) -> u8
+>(rt: &R, engine: &Engine<'_, P, S, T>, replayer: &Y, keys: &mut I, screen: &mut O) -> u8
     requires heard { (I.state keys.old).has_failed ≡ false }
     requires well { (O.state screen.old).has_failed ≡ false }
     ensures { result ≤ 2 }
@@ -61,10 +64,11 @@ fn act<
     R: Env + Files + AllocGlobal + Clock + Print + Eprint,
     P: Player,
     S: LevelSolver,
+    T: Tracing,
     Y: Replayer,
     I: ByteReader,
     O: ByteWriter,
->(rt: &R, engine: &Engine<'_, P, S>, replayer: &Y, keys: &mut I, screen: &mut O) -> Result<(), Stop>
+>(rt: &R, engine: &Engine<'_, P, S, T>, replayer: &Y, keys: &mut I, screen: &mut O) -> Result<(), Stop>
     requires heard { (I.state keys.old).has_failed ≡ false }
     requires well { (O.state screen.old).has_failed ≡ false }
 {
@@ -85,7 +89,12 @@ fn act<
         Asked::Solve(asked) => solve_asked(rt, engine, &asked, keys, screen),
         Asked::SolveAfter(asked) => solve_after_asked(rt, engine, asked, keys, screen),
         Asked::Replay(asked) => replay_asked(rt, replayer, &asked, keys, screen),
-        Asked::Play(asked) => play_asked(rt, engine.player, asked, keys, screen),
+        Asked::Play(asked) => {
+            if asked.is_traced {
+                return trace_asked(rt, engine.tracing, asked, keys, screen);
+            }
+            play_asked(rt, engine.player, asked, keys, screen)
+        }
     }
 }
 

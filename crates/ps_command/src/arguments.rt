@@ -48,6 +48,7 @@ pub fn player_command<'w>(alloc: Global) -> Result<Command<'w>, AllocError>
         .arg(keys_option(alloc))?
         .arg(view_option(alloc))?
         .arg(sizes_option(alloc)?)?
+        .arg(trace_option(alloc)?)?
         .arg(plain_option(alloc))?
         .arg(fresh_option(alloc))?
         .arg(show_option(alloc)?)?
@@ -153,6 +154,19 @@ fn sizes_option(alloc: Global) -> Result<Arg<'static>, AllocError>
         .requires_arg("view")
 }
 
+/// `--trace`.
+fn trace_option(alloc: Global) -> Result<Arg<'static>, AllocError>
+    ensures { IfOk result (IsArgument (bound (flag (codes "trace")))) }
+{
+    Arg::new(alloc, "trace")
+        .long("trace")
+        .help(
+            "Tells before the frames of each key what the rules did for it; these lines are tested and not proved",
+        )
+        .action(ArgAction::SetTrue)
+        .conflicts_with_all(&["check", "solve", "replay", "view", "show", "describe"])
+}
+
 /// `--plain`, which is as this program always plays without `--view`: it stands here as at `play`.
 fn plain_option(alloc: Global) -> Arg<'static>
     ensures { IsArgument (flag (codes "plain")) result }
@@ -229,5 +243,6 @@ fn explain_option(alloc: Global) -> Result<Arg<'static>, AllocError>
             "sizes",
             "show",
             "describe",
+            "trace",
         ])
 }

@@ -23,6 +23,7 @@ mod showing;
 mod sizes;
 mod solving;
 mod stops;
+mod tracing;
 mod viewed_games;
 
 pub use acts::run_command_line;

@@ -126,7 +126,7 @@ fn play<P: Player, I: ByteReader, O: ByteWriter>(
 }
 
 /// What ends the program where a run from a level came to a fault.
-fn stop_of_level(level: usize, fault: LevelFault) -> Stop
+pub fn stop_of_level(level: usize, fault: LevelFault) -> Stop
     ensures { result ≡ stop_of_level level fault }
 {
     match fault {

@@ -19,6 +19,7 @@ use ps_answers::{
 };
 use ps_devices::{ByteReader, ByteWriter, Player, RunFault};
 use ps_report::{Detail, Format, How};
+use ps_tracers::Tracing;
 use std::rt::Files;
 use std::time::Clock;
 
@@ -29,11 +30,12 @@ pub fn solve_asked<
     R: Files + AllocGlobal + Clock + Eprint,
     P: Player,
     S: LevelSolver,
+    T: Tracing,
     I: ByteReader,
     O: ByteWriter,
 >(
     rt: &R,
-    engine: &Engine<'_, P, S>,
+    engine: &Engine<'_, P, S, T>,
     asked: &Solve<'_>,
     input: &mut I,
     screen: &mut O,

@@ -29,9 +29,10 @@ returns c =
     let a16 = one_more _ _ _ _ _ a15 c.keys_option.ensures c.in_ok-arg-16.ensures in
     let a17 = one_more _ _ _ _ _ a16 c.view_option.ensures c.in_ok-arg-17.ensures in
     let a18 = one_more _ _ _ _ _ a17 c.in_ok-sizes_option.ensures c.in_ok-arg-18.ensures in
-    let a19 = one_more _ _ _ _ _ a18 c.plain_option.ensures c.in_ok-arg-19.ensures in
-    let a20 = one_more _ _ _ _ _ a19 c.fresh_option.ensures c.in_ok-arg-20.ensures in
-    let a21 = one_more _ _ _ _ _ a20 c.in_ok-show_option.ensures c.in_ok-arg-21.ensures in
-    let a22 = one_more _ _ _ _ _ a21 c.in_ok-describe_option.ensures c.in_ok-arg-22.ensures in
-    let a23 = one_more _ _ _ _ _ a22 c.in_ok-explain_option.ensures c.in_ok-command.ensures in
-    a23
+    let a19 = one_more _ _ _ _ _ a18 c.in_ok-trace_option.ensures c.in_ok-arg-19.ensures in
+    let a20 = one_more _ _ _ _ _ a19 c.plain_option.ensures c.in_ok-arg-20.ensures in
+    let a21 = one_more _ _ _ _ _ a20 c.fresh_option.ensures c.in_ok-arg-21.ensures in
+    let a22 = one_more _ _ _ _ _ a21 c.in_ok-show_option.ensures c.in_ok-arg-22.ensures in
+    let a23 = one_more _ _ _ _ _ a22 c.in_ok-describe_option.ensures c.in_ok-arg-23.ensures in
+    let a24 = one_more _ _ _ _ _ a23 c.in_ok-explain_option.ensures c.in_ok-command.ensures in
+    a24
