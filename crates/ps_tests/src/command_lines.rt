@@ -9,6 +9,7 @@ use ps_model::CALL_LIMIT;
 use ps_replay::GameReplayer;
 use ps_run::GamePlayer;
 use ps_solve::GameSolver;
+use ps_tracers::Untraced;
 use std::process::Abort;
 
 /// What must come of a command line.
@@ -78,7 +79,7 @@ pub const CUT_OBJECT: &str =
     \"levels\":null,\"ok\":false,\"title\":null}\n";
 
 /// The words of command lines that aren't right.
-const BAD_LINES: [&[&str]; 86] = [
+const BAD_LINES: [&[&str]; 92] = [
     &["ps_play", "a.game", "--show", "-"],
     &["ps_play", "--view", "24x80", "--show", "-"],
     &["ps_play", "--describe"],
@@ -111,6 +112,12 @@ const BAD_LINES: [&[&str]; 86] = [
     &["ps_play", "a.game", "--sizes", "small.size"],
     &["ps_play", "a.game", "--view", "24x80", "--sizes"],
     &["ps_play", "--explain", "RU7", "--sizes", "small.size"],
+    &["ps_play", "a.game", "--trace", "--check"],
+    &["ps_play", "a.game", "--trace", "--solve"],
+    &["ps_play", "a.game", "a.keys", "--trace", "--replay"],
+    &["ps_play", "a.game", "--trace", "--view", "24x80"],
+    &["ps_play", "a.game", "--trace", "--describe"],
+    &["ps_play", "--explain", "RU7", "--trace"],
     &["ps_play", "a.game", "--level"],
     &["ps_play", "a.game", "--level", "0"],
     &["ps_play", "a.game", "--level", "two"],
@@ -217,6 +224,10 @@ const PLAYS: [(Told, &[Line]); 11] = [
                 "a.game\na.keys\n",
             ),
             (&["ps_play", "--keys=a.keys", "a.game"], "a.game\na.keys\n"),
+            (
+                &["ps_play", "--trace", "a.game", "--keys", "a.keys"],
+                "a.game\na.keys\n",
+            ),
         ],
     ),
     // It is won in a view, of the size that is given where no file tells another one.
@@ -832,8 +843,12 @@ pub fn obey_on(
     let mut keys = Watched::new(MemoryReader::new(input, 1, None));
     let screen = MemoryWriter::new(rt.alloc(), room, CALL_LIMIT);
     let mut screen = screen.expect(rt, "memory for the screen");
+    let tracing = Untraced {
+        player: &GamePlayer,
+    };
     let engine = Engine {
         player: &GamePlayer,
+        tracing: &tracing,
         solver: &GameSolver,
         is_watched: true,
     };
