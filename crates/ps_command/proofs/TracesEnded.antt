@@ -7,10 +7,10 @@ use Rattle.ps_model.specs.game.Tellings.{ReaderState, WriterState}
 use Rattle.ps_tracers.specs.TracedRuns.{RunsTraced}
 use Rattle.ps_command.specs.Told.{EndsRightly}
 
-pub traced_to_end : (text : List ℕ) (level : Option ℕ) (keys left : ReaderState) (before after : WriterState)
-    (ending : Ending) → RunsTraced text level keys left before after (Plays (Ends ending)) →
+pub traced_to_end : (text : List ℕ) (level : Option ℕ) (keys : ReaderState) (before after : WriterState)
+    (ending : Ending) → RunsTraced text level keys before after (Plays (Ends ending)) →
     EndsRightly level text before after
-traced_to_end text None keys left before after ending run =
+traced_to_end text None keys before after ending run =
     record { ending = ending; keys = run.first; left = run.last; rightly = run.rightly }
-traced_to_end text (Some level) keys left before after ending run =
+traced_to_end text (Some level) keys before after ending run =
     record { ending = ending; keys = run.first; left = run.last; rightly = run.rightly }
