@@ -149,14 +149,40 @@ def wrong_by_one(engine, text, keys, place, made):
         halves, texts = [one.copy()], [one.text()]
         for at in range(len(keys)):
             one.play(keys[at:at + 1])
+            if at % 3:
+                one.look()
             halves.append(one.copy())
             texts.append(one.text())
         if one.look() != place or b"".join(texts) != made.output.removesuffix(b"* end of keys\n"):
             return "comes elsewhere key by key, or writes something else"
     for at, half in enumerate(halves):
-        half.play(keys[at:])
+        if at % 5 == 0 and (wrong := wrong_taken_back(engine, text, keys[:at], half.copy())):
+            return wrong
+        half.play(keys[at:at + 1])
+        half.look()
+        half = half.copy()
+        half.play(keys[at + 1:])
         if half.look() != place or half.text() != b"".join(texts[at:]):
             return "comes elsewhere by a copy, or writes something else"
+    return None
+
+
+def wrong_taken_back(engine, text, keys, copy):
+    """What is wrong with a copy of a session with these keys, from which keys are taken back that were played before; or nothing."""
+    with engine.start(text) as wanted:
+        for key in (b"d", b"z", b"zz", b"r", b"x", b"z"):
+            copy.play(key)
+            keys += key
+        wanted.play(keys)
+        if copy.look() != wanted.look():
+            return "comes elsewhere where a copy takes back"
+    for key in (b"z", b"a", b"z"):
+        copy.play(key)
+        keys += key
+        with engine.start(text) as wanted:
+            wanted.play(keys)
+            if copy.look() != wanted.look():
+                return "comes elsewhere where a copy takes back key by key"
     return None
 
 

@@ -1,7 +1,9 @@
 pub mod Boxes
 pub mod Handles
 pub mod HeldCalls
+pub mod HistoriesLeftOut
 pub mod InMemory
 pub mod KeyedBytes
+pub mod PlayedOn
 pub mod SeenPlaces
 pub mod ToldCells

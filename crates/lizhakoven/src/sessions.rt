@@ -63,7 +63,7 @@ fn copy_of(alloc: Global, session: &mut SessionHandle) -> Result<Box<HeldSession
     ensures same { session.new.value ≡ session.old.value }
     ensures copy { IsCopy session.old.value result }
 {
-    let Some(held) = session.take(alloc) else {
+    let Some(mut held) = session.take(alloc) else {
         return Err(Status::Closed);
     };
     let made = held.copied(alloc);
@@ -135,7 +135,7 @@ fn look_in(
     ensures looked { IsLook cells.old cells.new session.old.value place.new result }
 {
     *place = Place::nowhere(0);
-    let Some(held) = session.take(alloc) else {
+    let Some(mut held) = session.take(alloc) else {
         return Status::Closed;
     };
     let looked = held.look(alloc, cells);

@@ -1,6 +1,7 @@
 use Rattle.std.proofs.Common.{◌≡◌, subst}
 use Rattle.std.specs.Prelude.{IfOk}
 use Rattle.lizhakoven.specs.HeldSessions.{HeldValue, IsAt}
+use Rattle.lizhakoven.specs.PlayedKeys.{ArePlayed}
 use Rattle.lizhakoven.proofs.HeldCalls.{at_each, held_of, held_same}
 use Rattle.lizhakoven.proofs.held.HeldSession.look.Goals as goal
 
@@ -10,6 +11,8 @@ returns-clause-seen c =
     let same : own ≡ c.args.self.now =
     held_same c.deref.result.now c.self.inside.game.value c.self.inside.entry c.deref-2.result.now
     c.self.inside.keys.items c.args.self.now c.deref.ensures c.deref-2.ensures.value c.self.view_is in
+    let played : ArePlayed c.deref.result.now c.self.inside.entry c.deref-2.result.now c.self.inside.played =
+    rw (c.deref.ensures, c.deref-2.ensures.value) c.self.invariant.1.1.1 in
     subst (λ (held : HeldValue). IfOk c.look_from.result
     (λ seen. IsAt held c.args.cells.now c.look_from.new.cells seen)) same
-    (at_each c.look_from.result own c.args.cells.now c.look_from.new.cells c.look_from.ensures.seen)
+    (at_each c.look_from.result own c.args.cells.now c.look_from.new.cells (c.look_from.ensures.seen played))
