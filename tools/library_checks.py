@@ -336,12 +336,13 @@ class Held:
         self.room = len(place.cells) // 4
 
     def look(self, session, is_there=True):
-        """The status of a look; another number where cells or place aren't as the status says."""
+        """The status of a look; another number where cells or place aren't as the status says. Whether the session is there isn't looked
+        at where that is nothing."""
         cells, place = (ctypes.c_uint32 * self.room)(*[AFTER] * self.room), self.engine._Place(9, 9, 9, 9, 9)
         status = self.library.lzk_look(session, cells, self.room, place)
         if status != DONE:
             return status if all(cell == AFTER for cell in cells) and place.phase == 0 else -1
-        return status if (bytes(cells) == self.wanted.cells) == is_there else -1
+        return status if is_there is None or (bytes(cells) == self.wanted.cells) == is_there else -1
 
     def tell(self, session, first, room):
         """The status of a text from a byte on; another number where the output or its length aren't as the status says."""
@@ -378,12 +379,33 @@ def wrong_held(engine, library, text, keys):
         yield "a copy isn't where its session is, or isn't apart from it"
     if library.lzk_start(game, 99, session) != NO_LEVEL or not session.is_open:
         yield "a start at no level ends a session"
+    yield from wrong_rested(engine, library, game, text, keys)
     if library.lzk_open(b"", 0, game, fault) != REFUSED or fault.line != 1 or not game.is_open:
         yield "an opening of no game closes one"
     yield from wrong_held_rooms(held, session)
     yield from wrong_names(engine, library, game)
     yield from wrong_ends(held, game, session, copy)
     yield from wrong_rounds(library, text, game, session, fault)
+
+
+def wrong_rested(engine, library, game, text, keys):
+    """What is wrong with a session that goes on from where its last look left it, and with its copy, of which each growth is refused in
+    turn. The copy plays a key more, or takes one back."""
+    half = len(keys) // 2
+    for last in (b"", b"a", b"z"):
+        with engine.start(text) as own:
+            own.play(keys + last)
+            held = Held(engine, library, own.look(), own.text())
+        session, copy = engine._Handle(), engine._Handle()
+        made = [lambda: library.lzk_start(game, 1, session), lambda: library.lzk_keys(session, keys, half),
+                lambda: held.look(session, None), lambda: library.lzk_keys(session, keys[half:], len(keys) - half),
+                lambda: held.look(session, None), lambda: library.lzk_copy(session, copy),
+                lambda: library.lzk_keys(copy, last, len(last)), lambda: held.look(copy), lambda: held.tell(copy, 0, len(held.text)),
+                lambda: library.lzk_keys(session, last, len(last)), lambda: held.look(session)]
+        if not all(is_refused_in_turn(library, call) for call in made):
+            yield f"a session that goes on from its last look by {last} comes to something else than it is out of memory, or elsewhere"
+        library.lzk_end(session)
+        library.lzk_end(copy)
 
 
 def wrong_ends(held, game, session, copy):

@@ -1,4 +1,5 @@
 pub mod Boxes
+pub mod Goings
 pub mod Handles
 pub mod HeldCalls
 pub mod HistoriesLeftOut
