@@ -28,7 +28,7 @@ returns-clause-led_to c = λ text read entry is own made led.
     c.sections-late.ensures own refl in
     let taken : AreLedToIf script c.args.keys.now c.take.result =
     led_alike source script c.args.keys.now c.take.result (λ (keys : List ℕ). sym (runs.sessions keys))
-    (rw c.take.ensures led) in
+    (rw c.take.ensures.value led) in
     c.of.ensures.led_to source c.args.keys.now refl
     (played_alike going.is_whole script source going.play.session going.keys c.args.keys.now
     (runs.sessions c.args.keys.now)
@@ -45,7 +45,7 @@ returns-clause-seen c = λ text read entry is own made led.
     c.sections-late.ensures own refl in
     let taken : AreLedToIf script c.args.keys.now c.take.result =
     led_alike source script c.args.keys.now c.take.result (λ (keys : List ℕ). sym (runs.sessions keys))
-    (rw c.take.ensures led) in
+    (rw c.take.ensures.value led) in
     seen_played (entries_shown c.args.entries.now) going.is_whole source going.play.session going.keys
     c.args.keys.now c.args.cells.now c.see-seen.new.cells c.see-seen.result
     (played_alike going.is_whole script source going.play.session going.keys c.args.keys.now
