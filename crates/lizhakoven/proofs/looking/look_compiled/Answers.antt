@@ -6,9 +6,21 @@ use Rattle.ps_model.specs.names.Names.{Names}
 use Rattle.ps_run.proofs.Scripts.{names_in}
 use Rattle.ps_run.specs.GamesInPlay.{script_on}
 use Rattle.lizhakoven.specs.PlayedKeys.{AreLedToIf, IsOfKeys}
+use Rattle.lizhakoven.proofs.Goings.{within_if}
 use Rattle.lizhakoven.proofs.PlayedOn.{led_alike, played_alike, seen_played}
 use Rattle.lizhakoven.proofs.SeenPlaces.{runs_as_written}
 use Rattle.lizhakoven.proofs.looking.look_compiled.Goals as goal
+
+pub usable-before-requires : goal.usable-before-requires
+usable-before-requires c =
+    within_if c.args.parts.names c.args.keys.now c.take.result (rw c.take.ensures.value c.requires.of_keys)
+
+pub play_keys-going-requires : goal.play_keys-going-requires
+play_keys-going-requires c = record {
+  fit = c.requires.fit;
+  of_keys = c.usable-before.ensures.of_keys c.args.parts.names (rw c.take.ensures.value c.requires.of_keys);
+  goes_on = c.usable-before.ensures.goes_on;
+}
 
 pub returns-clause-of_keys : goal.returns-clause-of_keys
 returns-clause-of_keys c =
