@@ -4,15 +4,16 @@ use Rattle.std.proofs.Common.{sym}
 use Rattle.std.specs.Prelude.{IfSome}
 use Rattle.ps_model.specs.declared.held.Held.{Held}
 use Rattle.ps_model.specs.declared.held.Held.TheVariants.{Nothing}
-use Rattle.ps_model.specs.board.Turns.{Script}
+use Rattle.ps_model.specs.board.Turns.{Script, script_at}
+use Rattle.ps_model.specs.game.Games.{Game}
 use Rattle.ps_model.specs.game.Outputs.{opening_step}
 use Rattle.ps_model.specs.names.Names.{Names}
 use Rattle.ps_model.specs.session.HeldKeys as keys
 use Rattle.ps_model.specs.session.Sessions.{Session}
 use Rattle.ps_run.specs.SizedPlays.{rested_in}
 use Rattle.lizhakoven.specs.declared.played_keys.PlayedKeys.{PlayedKeys}
-use Rattle.lizhakoven.specs.PlayedKeys.{AreLedTo, CanPlay, HasPlayed, IsOfKeysIf}
-use Rattle.lizhakoven.proofs.PlayedOn.{played_all}
+use Rattle.lizhakoven.specs.PlayedKeys.{AreLedTo, AreLedToIf, ArePlayed, CanPlay, HasPlayed, IsOfKeysIf}
+use Rattle.lizhakoven.proofs.PlayedOn.{led_by_more, of_more, played_all}
 
 -- a session that has played some bytes plays others
 abbrev pub PlaysOn : Bool → Script → Session → Session → Held → Held → List ℕ → Type 0
@@ -59,3 +60,27 @@ pub within_if : (names : Names) (bytes : List ℕ) (played : Option PlayedKeys) 
     IfSome played (λ before. before.count ≤ length bytes)
 within_if names bytes None is = tt
 within_if names bytes (Some played) is = is.within
+
+-- between the calls of a session --------------------------------------------------------------------------------------
+
+-- what is kept of the first of these keys, in a game that was begun at an entry
+abbrev pub AreKept : Game → ℕ → List ℕ → Option PlayedKeys → Type 0
+AreKept read entry bytes played = IsOfKeysIf read.names bytes played × ArePlayed read entry bytes played
+
+-- it is so with more keys, too
+pub kept_with_more : (read : Game) (entry : ℕ) (bytes more : List ℕ) (played : Option PlayedKeys) →
+    AreKept read entry bytes played → AreKept read entry (bytes ++ more) played
+kept_with_more read entry bytes more played kept = (
+  of_more read.names bytes more played kept.0,
+  λ text is. led_by_more read.names (script_at read entry) bytes more played kept.0 (kept.1 text is),
+)
+
+-- and of what has come in its place, or was copied of it
+pub kept_after : (read : Game) (entry : ℕ) (bytes : List ℕ) (before after : Option PlayedKeys) →
+    ((names : Names) (bytes : List ℕ) → IsOfKeysIf names bytes before → IsOfKeysIf names bytes after) →
+    ((script : Script) (bytes : List ℕ) → AreLedToIf script bytes before → AreLedToIf script bytes after) →
+    AreKept read entry bytes before → AreKept read entry bytes after
+kept_after read entry bytes before after named led kept = (
+  named read.names bytes kept.0,
+  λ text is. led (script_at read entry) bytes (kept.1 text is),
+)

@@ -111,7 +111,7 @@ impl HeldSession {
     ///
     /// # Errors
     ///
-    /// `Memory`, and the cells are as before. The next look plays all keys.
+    /// `Memory`, and the cells are as before. The next look may play all keys.
     pub fn look(&mut self, alloc: Global, cells: &mut [u32]) -> Result<Seen, Memory>
         ensures same { self.new ≡ self.old }
         ensures seen { IfOk result (λ seen. IsAt self.old cells.old cells.new seen) }
