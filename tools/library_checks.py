@@ -418,6 +418,22 @@ def blocks_of(kind):
     return re.findall(rf"^```{kind}\n(.*?)^```", PAGE.read_text(), re.M | re.S)
 
 
+def wrong_installs(room):
+    """What is wrong with what is put below a folder: the library by two words of ./play, and the player by one of them."""
+    for word, has_player in (("--install", True), ("--library", False)):
+        prefix = room / word.strip("-")
+        done = subprocess.run([TOP / "play", word, prefix], capture_output=True, text=True)
+        if done.returncode != 0:
+            yield f"./play {word} fails: {done.stderr}"
+            continue
+        names = ("include/lizhakoven.h", "lib/liblizhakoven.a", "lib/liblizhakoven.so", "lib/pkgconfig/lizhakoven.pc")
+        lacking = [name for name in names if not (prefix / name).exists()]
+        if lacking or len([*prefix.glob("lib/python3*/site-packages/lizhakoven.py")]) != 1:
+            yield f"./play {word} leaves out a part of the library: {' '.join(lacking) or 'the module'}"
+        if (prefix / "bin/ps_play").exists() != has_player:
+            yield f"./play {word} {'leaves out the player' if has_player else 'puts a player'}"
+
+
 def wrong_examples(room):
     """What is wrong with the library as it is installed, and with the examples on its page."""
     prefix = room / "there"
