@@ -15,7 +15,7 @@ use crate::command::{Asked, read_command};
 use crate::descriptions::describe_game;
 use crate::details::show_detail;
 use crate::engine::Engine;
-use crate::files::{STANDARD_INPUT, read_game_file, read_input, read_text};
+use crate::files::{read_one, read_text};
 use crate::playing::play_asked;
 use crate::replaying::replay_asked;
 use crate::reporting::{report_alone, report_texts};
@@ -30,7 +30,7 @@ use ps_report::{Detail, explanation};
 use std::alloc::Global;
 use std::rt::{Env, Files};
 use std::time::Clock;
-use std::{env, io};
+use std::env;
 
 /// Does what the command line asks for, with keys from `keys`, unless it names a file of keys, and frames to `screen`.
 /// Games are played and levels searched by `engine`, and recorded keys are replayed by `replayer`. Gives the status to
@@ -231,21 +231,11 @@ fn check_one<R: Files + AllocGlobal + Eprint, I: ByteReader, O: ByteWriter>(
         TellsOf detail path.now accepted (O.state screen.old).contents (O.state screen.new).contents)) }
     ensures fault { IfErr result (λ stop. stop ≢ Stop.NotAccepted) }
 {
-    if path == STANDARD_INPUT {
-        let text = read_input(rt.alloc(), input)?;
-        let accepted = check_bytes(rt.alloc(), path, &text, detail, screen)?;
-        return Ok(Some(accepted));
-    }
-    match read_game_file(rt, path) {
-        Ok(text) => {
-            let accepted = check_bytes(rt.alloc(), path, &text, detail, screen)?;
-            Ok(Some(accepted))
-        }
-        Err(error) => {
-            tell_unread(rt, path, error)?;
-            Ok(None)
-        }
-    }
+    let Some(text) = read_one(rt, path, input)? else {
+        return Ok(None);
+    };
+    let accepted = check_bytes(rt.alloc(), path, &text, detail, screen)?;
+    Ok(Some(accepted))
 }
 
 /// Says of the text of one of several files whether it is a game, and answers that.
@@ -271,22 +261,6 @@ fn check_bytes<O: ByteWriter>(
     }
     show_detail(alloc, text, detail, screen)?;
     Ok(false)
-}
-
-/// Tells on standard error that one of several files can't be read, unless it can't for want of memory.
-pub fn tell_unread<R: AllocGlobal + Eprint>(
-    rt: &R,
-    path: &str,
-    error: io::Error,
-) -> Result<(), Stop>
-    ensures fault { IfErr result (λ stop. stop ≢ Stop.NotAccepted) }
-{
-    if error.kind() == io::ErrorKind::OutOfMemory {
-        return Err(Stop::Run(RunFault::Memory));
-    }
-    let line = format!(in rt.alloc(); "{path}: cannot read game")?;
-    let _ = rt.eprintln(line);
-    Ok(())
 }
 
 /// Writes what the fault of a code is.

@@ -115,6 +115,7 @@ struct Streams<'s, R: Files + AllocGlobal + Eprint, Y: Replayer> {
 impl<'s, R: Files + AllocGlobal + Eprint, Y: Replayer> Streams<'s, R, Y> {
     /// Says of streams how far their keys get, and answers whether all win the game; or says of a text that is no game
     /// which fault it has first.
+    #[tactic(auto, using(crate::proofs::ReplaysTold::streams_told, crate::proofs::ReplaysTold::refusal_told))]
     fn replay_all<I: ByteReader, O: ByteWriter>(
         &self,
         paths: &[&str],

@@ -6,7 +6,7 @@ use crate::command::Show;
 use crate::files::{STANDARD_INPUT, read_text};
 use crate::sizes::FileSizes;
 use crate::stops::{Stop, stop_for};
-use crate::viewed_games::viewed_game;
+use crate::viewed_games::{drawn, viewed_game};
 use ps_devices::{ByteReader, ByteWriter, FromStd, RunFault, write_whole};
 use ps_model::CALL_LIMIT;
 use ps_view::{Lent, Viewed};
@@ -28,10 +28,7 @@ pub fn show_asked<R: Files + AllocGlobal, I: ByteReader, O: ByteWriter>(
     let sizes = FileSizes::new(rt, asked.sizes);
     let mut view = Viewed::new(rt.alloc(), game, asked.size, sizes, Lent::new(screen));
     let shown = show_from(rt, asked.output, input, &mut view);
-    if view.wants_memory() {
-        return Err(Stop::Run(RunFault::Memory));
-    }
-    shown
+    drawn(shown, view.wants_memory())
 }
 
 /// Hands on the output that a file has, or a reader.

@@ -8,10 +8,9 @@ ghost use Rattle.ps_command.specs.Statuses.{IsApart};
 ghost use Rattle.ps_command.specs.Told.{TellsInOrder};
 ghost use Rattle.ps_command.specs.declared.stops.Stop.TheVariants as Stop;
 
-use crate::acts::tell_unread;
 use crate::command::Solve;
 use crate::engine::Engine;
-use crate::files::{STANDARD_INPUT, read_game_file, read_input};
+use crate::files::read_one;
 use crate::reporting::report_bytes;
 use crate::stops::{Stop, tell_no_such_level};
 use ps_answers::{
@@ -172,16 +171,9 @@ impl<'s, R: Files + AllocGlobal + Clock + Eprint, S: LevelSolver> Search<'s, R, 
             (O.state screen.old).contents (O.state screen.new).contents) }
         ensures fault { IfErr result (λ stop. stop ≢ Stop.NotAccepted) }
     {
-        if path == STANDARD_INPUT {
-            let text = read_input(self.rt.alloc(), input)?;
-            return self.solve_text(path, &text, screen);
-        }
-        match read_game_file(self.rt, path) {
-            Ok(text) => self.solve_text(path, &text, screen),
-            Err(error) => {
-                tell_unread(self.rt, path, error)?;
-                Ok(false)
-            }
+        match read_one(self.rt, path, input)? {
+            Some(text) => self.solve_text(path, &text, screen),
+            None => Ok(false),
         }
     }
 
