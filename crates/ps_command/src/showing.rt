@@ -24,7 +24,21 @@ pub fn show_asked<R: Files + AllocGlobal, I: ByteReader, O: ByteWriter>(
     requires well { (O.state screen.old).has_failed ≡ false }
 {
     let text = read_text(rt, asked.game, input)?;
-    let game = viewed_game(rt.alloc(), &text)?;
+    show_in_view(rt, asked, &text, input, screen)
+}
+
+/// Shows the output of a run of a text's game as a view shows it.
+fn show_in_view<R: Files + AllocGlobal, I: ByteReader, O: ByteWriter>(
+    rt: &R,
+    asked: Show<'_>,
+    text: &[u8],
+    input: &mut I,
+    screen: &mut O,
+) -> Result<(), Stop>
+    requires heard { (I.state input.old).has_failed ≡ false }
+    requires well { (O.state screen.old).has_failed ≡ false }
+{
+    let game = viewed_game(rt.alloc(), text)?;
     let sizes = FileSizes::new(rt, asked.sizes);
     let mut view = Viewed::new(rt.alloc(), game, asked.size, sizes, Lent::new(screen));
     let shown = show_from(rt, asked.output, input, &mut view);
