@@ -64,10 +64,7 @@ fn has_input(words: &[&str]) -> bool
 }
 
 /// The files with keys that stand after `GAME`.
-fn streams_given<'w>(
-    alloc: Global,
-    matches: &ArgMatches<'w>,
-) -> Result<Vec<&'w str>, AllocError>
+fn streams_given<'w>(alloc: Global, matches: &ArgMatches<'w>) -> Result<Vec<&'w str>, AllocError>
     ensures { IfOk result (λ streams. texts_of streams.items ≡ further_in (rows_in matches.now)) }
 {
     match values_given(matches, "FURTHER") {
