@@ -17,8 +17,8 @@ pub enum Solved {
     Never {
         states: u32,
     },
-    /// No `depth` of them do, nor fewer. `states` were kept when the search stopped: all that at most `depth` inputs lead
-    /// to, and besides them only such as one input more leads to. None were kept where it couldn't begin.
+    /// No `depth` of them do, nor fewer. `states` were kept when the search stopped: all that at most `depth` inputs
+    /// lead to, and besides them only such as one input more leads to. None were kept where it couldn't begin.
     Unknown {
         states: u32,
         depth: u32,

@@ -104,7 +104,8 @@ impl<'s, G: SolvableGame, T: LevelWatcher> LevelTeller<'s, G, T> {
         ensures name { self.new.name ≡ self.old.name }
         ensures limit { self.new.limit ≡ self.old.limit }
         ensures told { IfOk result (λ won. Tells
-            (IsLineOnLevel (G.text self.old.game.now) (told_in self.old.form self.old.name.now) self.old.limit level won)
+            (IsLineOnLevel (G.text self.old.game.now) (told_in self.old.form self.old.name.now) self.old.limit level
+            won)
             (W.state writer.old).contents (W.state writer.new).contents) }
         ensures well { result ≢ Err TellFault.Write → (W.state writer.new).has_failed ≡ false }
     {
@@ -126,7 +127,8 @@ impl<'s, G: SolvableGame, T: LevelWatcher> LevelTeller<'s, G, T> {
         requires well { (W.state writer.old).has_failed ≡ false }
         requires levels { HasLevels (G.text self.old.game.now) levels }
         ensures told { IfOk result (λ won. Tells
-            (AreLinesOnFirst (G.text self.old.game.now) (told_in self.old.form self.old.name.now) self.old.limit levels won)
+            (AreLinesOnFirst (G.text self.old.game.now) (told_in self.old.form self.old.name.now) self.old.limit levels
+            won)
             (W.state writer.old).contents (W.state writer.new).contents) }
         ensures well { result ≢ Err TellFault.Write → (W.state writer.new).has_failed ≡ false }
     {

@@ -1,1 +1,2 @@
 mod FedPieces
+pub mod KeyBytes

@@ -4,7 +4,9 @@
 #![tactic(auto)]
 
 mod bytes;
+mod key_bytes;
 mod keys;
 
+pub use key_bytes::keys_of_bytes;
 pub use keys::{Fed, Keys};
 pub use ps_model::{Held, Input, Key};

@@ -65,8 +65,9 @@ pub record EqualSteps (IsSuch : Grid → Type 0) (a b : Step) : Type 0 where
   pub boards : AreBoardsIn IsSuch a.session
 
 -- two scripts have the same runs: whatever bytes come, they write the same, also up to each key, and come to the same
--- session
+-- session, which ignores the same keys
 pub record SameRuns (a b : Script) : Type 0 where
+  pub options : a.options ≡ b.options
   pub outputs : (bytes : List ℕ) → output a bytes ≡ output b bytes
   pub fronts : (bytes : List ℕ) (count : ℕ) → front a bytes count ≡ front b bytes count
   pub whole_fronts : (bytes : List ℕ) → whole_front a bytes ≡ whole_front b bytes

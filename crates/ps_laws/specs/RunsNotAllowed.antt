@@ -5,9 +5,11 @@ use Rattle.std.specs.List.{concat}
 use Rattle.ps_model.specs.declared.play.Ending.{Ending}
 use Rattle.ps_model.specs.declared.play.Ending.TheVariants.{EndOfKeys}
 use Rattle.ps_model.specs.declared.limits.TheConstants.{READ_LIMIT, CALL_LIMIT}
+use Rattle.ps_model.specs.declared.play.Key.{Key}
 use Rattle.ps_model.specs.board.Turns.{Script}
+use Rattle.ps_model.specs.session.IgnoredKeys.{is_ignored}
 use Rattle.ps_model.specs.session.Keys.{keys_of}
-use Rattle.ps_model.specs.game.Outputs.{front, output}
+use Rattle.ps_model.specs.game.Outputs.{front, opening_step, output}
 use Rattle.ps_model.specs.game.Tellings.{ReaderState, WriterState, Call, Gives, Unasked, Asked, Told, Tells, read}
 use Rattle.ps_model.specs.game.Tellings.{all_bytes, has_failing_call}
 use Rattle.ps_model.specs.game.Headline.{Answer, WantsMemory, CannotRead, CannotWrite, Answers, GaveNothing, IsFront}
@@ -55,6 +57,15 @@ NoWantBehindAllKeys =
     script_of_text text ≡ Some script → told.wrote ≢ [] → told.wrote ≡ texts_of script (read told.reading) →
     ((keys : ℕ) → keys < length (keys_of (read told.reading)) →
     front script (read told.reading) keys ≢ texts_of script (read told.reading)) →
+    (GaveNothing told.reading → ⊥) → Answers text told WantsMemory → ⊥
+
+-- something is written, one key was read, which the game ignores where it begins, and no call gave nothing. The run
+-- answers that it is out of memory
+abbrev pub NoWantAtIgnoredKey : Type 0
+NoWantAtIgnoredKey =
+    (text : List ℕ) (told : Told) (script : Script) (key : Key) →
+    script_of_text text ≡ Some script → told.wrote ≢ [] → keys_of (read told.reading) ≡ key ∷ [] →
+    is_ignored script.options (opening_step script).session key ≡ true →
     (GaveNothing told.reading → ⊥) → Answers text told WantsMemory → ⊥
 
 -- calls ---------------------------------------------------------------------------------------------------------------

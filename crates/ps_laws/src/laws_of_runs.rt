@@ -9,7 +9,7 @@ ghost use Rattle.ps_laws.specs.Fronts.{FrontGrows, FrontOfOutput, FrontInPieces,
 ghost use Rattle.ps_laws.specs.Fronts.{OutputOfUnended, OutputOnceEnded, EndIsQuiet, EndStays, EndsOtherwise};
 ghost use Rattle.ps_laws.specs.Fronts.{WrittenByEnding};
 ghost use Rattle.ps_laws.specs.RunsNotAllowed.{NoCallBehindEnding, NoReadFaultBehindEnding, NoWantBehindEnding};
-ghost use Rattle.ps_laws.specs.RunsNotAllowed.{NoWantBehindAllKeys, NoWantWithoutKey};
+ghost use Rattle.ps_laws.specs.RunsNotAllowed.{NoWantAtIgnoredKey, NoWantBehindAllKeys, NoWantWithoutKey};
 ghost use Rattle.ps_laws.specs.RunsNotAllowed.{NoMoreCalls, NoLongCall, NoCallBehindEnd, ReadsWhatWasThere};
 ghost use Rattle.ps_laws.specs.RunsNotAllowed.{NoOddSizedCall, NoSecondEmptyCall, NoCallBehindEmptyOne, NoEmptyWrite};
 ghost use Rattle.ps_laws.specs.RunsNotAllowed.{ReadFaultIsTold, WriteFaultIsTold, NoReadFaultUnasked};
@@ -81,6 +81,7 @@ pub fn runs_not_allowed()
     ensures no_want_behind_ending { NoWantBehindEnding }
     ensures no_want_without_key { NoWantWithoutKey }
     ensures no_want_behind_all_keys { NoWantBehindAllKeys }
+    ensures no_want_at_ignored_key { NoWantAtIgnoredKey }
     ensures no_more_calls { NoMoreCalls }
     ensures no_long_call { NoLongCall }
     ensures no_call_behind_end { NoCallBehindEnd }

@@ -3,6 +3,7 @@ pub mod LevelFaults
 pub mod GameLevels
 pub mod RoomSizes
 pub mod Sessions
+pub mod IgnoredKeys
 pub mod StartSteps
 pub mod KeySteps
 pub mod Solving

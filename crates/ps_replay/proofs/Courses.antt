@@ -11,7 +11,7 @@ use Rattle.ps_laws.specs.Fronts.{session_after}
 use Rattle.ps_laws.proofs.keys.Fronts.{session_after-append}
 use Rattle.ps_records.specs.Courses.{Course, begun, course_by, course_of, followed, place_after, place_of}
 use Rattle.ps_records.specs.declared.courses.Place.{Place}
-use Rattle.ps_replay.proofs.PlayedKeys.{same_played}
+use Rattle.ps_run.proofs.PlayedKeys.{same_played}
 
 -- keys ----------------------------------------------------------------------------------------------------------------
 

@@ -1,5 +1,3 @@
 mod Courses
-mod KeyBytes
-mod PlayedKeys
 mod SessionPlaces
 mod Sources

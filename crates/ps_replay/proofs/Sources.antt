@@ -1,5 +1,5 @@
 -- A replay by compiled programs tells what is so of the game as its text means it.
-use Rattle.std.proofs.Common.{◌≡◌, ◌∙◌, ◌-◌, ℕ, List, Option, Some, None, length, refl, sym, ap, subst}
+use Rattle.std.proofs.Common.{◌≡◌, ◌∙◌, ◌-◌, ℕ, List, Option, Some, None, length, refl, sym, ap}
 use Rattle.ps_model.specs.declared.play.Ending.{Ending}
 use Rattle.ps_model.specs.declared.play.Key.{Key}
 use Rattle.ps_model.specs.board.Turns.{Script, script_at}
@@ -17,23 +17,14 @@ use Rattle.ps_records.specs.Courses.{Course, course_of}
 use Rattle.ps_records.specs.Replays.{IsReplayIn}
 use Rattle.ps_records.specs.declared.replays.Replay.{Replay}
 use Rattle.ps_rulebook.specs.PlayedGames.{AreCompiled, parts_at}
-use Rattle.ps_rulebook.proofs.PlayedGames.{games-play_as_written}
-use Rattle.ps_rulebook.proofs.RowRooms.{rows_give_room}
 use Rattle.ps_run.specs.GamesInPlay.{script_on}
-use Rattle.ps_run.proofs.Scripts.{own_table, script_is}
+use Rattle.ps_run.proofs.PlayedKeys.{played, same_played}
+use Rattle.ps_run.proofs.Sources.{runs_as_written}
 use Rattle.ps_stage.specs.Standings.{SessionParts}
 use Rattle.ps_replay.specs.Played.{IsReplayOfKeys, ending_or}
 use Rattle.ps_replay.proofs.Courses.{course_alike}
-use Rattle.ps_replay.proofs.PlayedKeys.{played, same_played}
 
--- a game that is played by its compiled programs has the runs of the game as it is written
-runs_as_written : (text : List ℕ) (read : Game) (entry : ℕ) (plain late : List CompiledSection) (script : Script) →
-    game text ≡ Some read → AreCompiled read.names read.rules (sections_shown plain) (sections_shown late) →
-    script ≡ script_on (parts_at read entry) plain late → SameRuns script (script_at read entry)
-runs_as_written text read entry plain late script is made own =
-    subst (λ (s : Script). SameRuns s (script_at read entry)) (sym (own ∙ script_is (parts_at read entry) plain late))
-    (games-play_as_written text read is entry plain late made own_table rows_give_room)
-
+-- an ending is told as it is
 closed : (found : Option Ending) → (closing found).ending ≡ ending_or found
 closed None = refl
 closed (Some ending) = refl
@@ -55,13 +46,8 @@ pub replayed_as_written :
 replayed_as_written text read bytes keys parts plain late plain_made late_made replay is made p l own k told =
     let script : Script = script_on parts plain late in
     let source : Script = script_at read 0 in
-    let plain_is : AreCompiled read.names read.rules (sections_shown plain) late_made =
-    subst (λ (s : List model.CompiledSection). AreCompiled read.names read.rules s late_made) (sym p) made in
-    let both : AreCompiled read.names read.rules (sections_shown plain) (sections_shown late) =
-    subst (λ (s : List model.CompiledSection). AreCompiled read.names read.rules (sections_shown plain) s) (sym l)
-    plain_is in
     let runs : SameRuns script source =
-    runs_as_written text read 0 plain late script is both (ap (λ (s : SessionParts). script_on s plain late) own) in
+    runs_as_written text read 0 parts plain late plain_made late_made script is made p l own refl in
     let course : course_of script keys ≡ course_of source keys = course_alike script source runs keys in
     record {
       ending = told.ending

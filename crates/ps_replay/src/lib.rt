@@ -4,7 +4,6 @@
 //! What a [`GameReplayer`] tells is a theorem about the game as its text means it.
 #![tactic(auto)]
 
-mod key_bytes;
 mod places;
 mod playing;
 mod replaying;

@@ -11,10 +11,10 @@ ghost use Rattle.ps_run.specs.GamesInPlay.{script_in, script_on};
 ghost use Rattle.ps_stage.specs.Playable.{ArePlayable, EntriesFit};
 ghost use Rattle.ps_model.specs.declared.limits.TheConstants.{SIDE_LIMIT};
 
-use crate::key_bytes::keys_of_bytes;
 use crate::playing::play_keys;
 use ps_compile::compile;
 use ps_game::{Game, read_game};
+use ps_keys::keys_of_bytes;
 use ps_model::{Ending, Key, Memory, Refusal};
 use ps_program::CompiledSection;
 use ps_records::{Course, Replay, Replayer};

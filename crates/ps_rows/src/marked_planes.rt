@@ -49,8 +49,8 @@ impl<W: ColumnWords> Planes<W> {
         differing
     }
 
-    /// Makes so many planes of others the same, the first ones, where they have noted all that are noted here. Each that
-    /// is marked on one side is copied by itself.
+    /// Makes so many planes of others the same, the first ones, where they have noted all that are noted here. Each
+    /// that is marked on one side is copied by itself.
     #[inline(never)]
     pub fn copy_marked(&self, other: &mut Planes<W>, planes: u32)
         requires many { MANY_PLANES ≤ planes }

@@ -1,6 +1,7 @@
 //! The objects of each layer.
 
-ghost use Rattle.std.specs.Prelude.{◌≡◌, ◌++◌, ◌+◌, ◌<◌, ◌≤◌, ◌∷◌, [], IfOk, IfSome, OnOk, Some, cond, length, map, slice_get, true};
+ghost use Rattle.std.specs.Prelude.{◌≡◌, ◌++◌, ◌+◌, ◌<◌, ◌≤◌, ◌∷◌, [], IfOk, IfSome, OnOk};
+ghost use Rattle.std.specs.Prelude.{Some, cond, length, map, slice_get, true};
 ghost use Rattle.std.specs.Prelude.{slice_range, vec_len};
 ghost use Rattle.ps_model.specs.board.Movement.{is_number};
 ghost use Rattle.ps_rows.specs.Members.{AreRangesOf, on_layer, short_range};

@@ -525,7 +525,8 @@ impl<W: ColumnWords> Planes<W> {
         self.used.join(&other.used);
     }
 
-    /// Makes planes of others, from the first one up to the end, the same, where they have noted all that are noted here.
+    /// Makes planes of others, from the first one up to the end, the same, where they have noted all that are noted
+    /// here.
     pub(crate) fn copy_planes(&self, other: &mut Planes<W>, first: usize, end: usize)
         requires order { first ≤ end }
         requires height { other.old.height ≡ self.now.height }
@@ -575,8 +576,8 @@ impl<W: ColumnWords> Planes<W> {
     }
 
     /// Makes other planes, as many of the same height, the same, of which so many, the first ones, aren't known to be
-    /// so, and which have noted all that are noted here. Where they are few, all of them are copied in one go, up to the
-    /// last with a column on either side. Of very many those are copied that have a column on either side.
+    /// so, and which have noted all that are noted here. Where they are few, all of them are copied in one go, up to
+    /// the last with a column on either side. Of very many those are copied that have a column on either side.
     fn copy_noted(&self, other: &mut Planes<W>, planes: u32)
         requires height { other.old.height ≡ self.now.height }
         requires count { vec_len other.old.words ≡ vec_len self.now.words }

@@ -225,8 +225,8 @@ impl<W: ColumnWords> RowBoard<W> {
         word
     }
 
-    /// A range of a layer's objects in which the first that has a cell is the one that stands there: where the layer has
-    /// several objects, and the board many planes, that object alone, or nothing.
+    /// A range of a layer's objects in which the first that has a cell is the one that stands there: where the layer
+    /// has several objects, and the board many planes, that object alone, or nothing.
     #[inline(never)]
     fn sought_range(&self, cell: u32, layer: u32) -> MemberRange
         requires cell { cell < self.now.width * self.now.planes.height }
@@ -301,8 +301,8 @@ impl<W: ColumnWords> RowBoard<W> {
         self.members.is_on(object, layer) && self.planes.has_cell(cell, object)
     }
 
-    /// The number of the object that stands on a layer of a cell, if one does: of the planes that have a marked row, the
-    /// one of the layer that has the cell.
+    /// The number of the object that stands on a layer of a cell, if one does: of the planes that have a marked row,
+    /// the one of the layer that has the cell.
     #[inline(never)]
     fn object_of_many(&self, cell: u32, layer: u32) -> Option<u32>
         requires many { MANY_PLANES ≤ length self.now.members.table.items }

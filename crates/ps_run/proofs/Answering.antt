@@ -1,20 +1,26 @@
 -- From a run by other rules to a run on a text.
-use Rattle.std.proofs.Common.{◌≡◌, ◌∙◌, ℕ, ◌+◌, List, ◌++◌, length, take, inl, inr}
-use Rattle.std.proofs.Common.{refl, sym, ap, arith, Ok, Err}
+use Rattle.std.proofs.Common.{◌≡◌, ◌∙◌, ℕ, ◌+◌, List, [], ◌∷◌, ◌++◌, length, take, drop, inl, inr, false}
+use Rattle.std.proofs.Common.{refl, sym, ap, arith, subst, Ok, Err}
 use Rattle.std.specs.List.{concat}
 use Rattle.std.proofs.lemmas.Grind.{common_steps}
-use Rattle.std.proofs.lemmas.List.{length-append}
+use Rattle.std.proofs.lemmas.List.{length-append, take-append-drop}
+use Rattle.ps_model.specs.declared.options.Options.{Options}
 use Rattle.ps_model.specs.declared.play.Key.{Key}
 use Rattle.ps_model.specs.board.Turns.{Script}
+use Rattle.ps_model.specs.session.IgnoredKeys.{is_ignored}
+use Rattle.ps_model.specs.session.KeySteps.{key_step}
+use Rattle.ps_model.specs.session.Sessions.{Session}
 use Rattle.ps_model.specs.session.Keys.{keys_of}
 use Rattle.ps_model.specs.session.HeldKeys.{held}
 use Rattle.ps_model.specs.game.Outputs.{Output, output_of_keys, opening_step, ending_of, texts_of_keys}
-use Rattle.ps_model.specs.game.Headline.{GoesOn, ReadsInTurn, IsCutOffWriting}
+use Rattle.ps_model.specs.game.Headline.{GoesOn, ReadsInTurn, IsCutOffWriting, IsHeeded}
 use Rattle.ps_model.specs.game.Headline.{IsWholeBefore, texts_of, StopsForMemory}
 use Rattle.ps_model.specs.game.Tellings.{ReaderCalls, Unasked, Asked, Told, read, read_before}
 use Rattle.ps_laws.specs.AlikeScripts.{SameRuns}
+use Rattle.ps_laws.specs.Fronts.{session_after, session_of}
 use Rattle.ps_laws.proofs.keys.KeysInPieces.{keys_of-append}
 use Rattle.ps_devices.specs.declared.players.RunFault.TheVariants as fault
+use Rattle.ps_run.specs.Played.{HeedsFirst, HeedsNext}
 use Rattle.ps_run.specs.Runs.{StopsInPlay}
 use Rattle.ps_run.specs.Answering.{AnswersCarryOver}
 use Rattle.ps_run.proofs.Telling.{whole_is}
@@ -63,6 +69,27 @@ first_keys first second = rw (keys_of-append first second) (grind (arith, common
 all_keys : (bytes : List ℕ) → take (length (keys_of bytes)) (keys_of bytes) ≡ keys_of bytes
 all_keys bytes = grind (arith, common_steps)
 
+-- the same keys are ignored
+same_heeded : (a b : Script) → SameRuns a b → (first all : List ℕ) → HeedsNext a first all → HeedsNext b first all
+same_heeded a b same first all heeded =
+    subst (λ (session : Session). HeedsFirst b session (drop (length (keys_of first)) (keys_of all)))
+    (same.sessions first)
+    (same_first (session_of a first) (drop (length (keys_of first)) (keys_of all)) heeded)
+  where
+    same_first : (session : Session) (keys : List Key) → HeedsFirst a session keys → HeedsFirst b session keys
+    same_first session [] heeded = tt
+    same_first session (key ∷ keys) heeded =
+        subst (λ (options : Options). is_ignored options session key ≡ false) same.options heeded
+
+-- the key behind some isn't ignored where they lead
+heeds_behind : (script : Script) (session : Session) (first keys : List Key) →
+    HeedsFirst script (session_after script session first) keys →
+    IsHeeded script session (first ++ keys) (length first)
+heeds_behind script session [] [] heeded = tt
+heeds_behind script session [] (key ∷ keys) heeded = heeded
+heeds_behind script session (each ∷ first) keys heeded =
+    heeds_behind script (key_step script session each).session first keys heeded
+
 stops : (a b : Script) → SameRuns a b → (told : Told) → StopsInPlay a told → StopsForMemory b told
 stops a b same told so =
     let start = opening_step b in
@@ -70,6 +97,10 @@ stops a b same told so =
     let before : so.behind ≡ read_before told.reading ++ so.enough.0 = so.enough.1 in
     let first : take (length (keys_of so.behind)) (keys_of (read told.reading)) ≡ keys_of so.behind =
     rw split (first_keys so.behind so.within.0) in
+    let whole : keys_of so.behind ++ drop (length (keys_of so.behind)) (keys_of (read told.reading))
+    ≡ keys_of (read told.reading) =
+    ap (λ (keys : List Key). keys ++ drop (length (keys_of so.behind)) (keys_of (read told.reading))) (sym first)
+    ∙ take-append-drop (length (keys_of so.behind)) (keys_of (read told.reading)) in
     let long : length (keys_of so.behind) ≡ length (keys_of (read_before told.reading)) + length
     (keys_of (held (read_before told.reading) ++ so.enough.0)) =
     ap (λ bytes. length (keys_of bytes)) before
@@ -83,6 +114,9 @@ stops a b same told so =
       keys = length (keys_of so.behind);
       enough = omega arith;
       wanting = so.wanting;
+      heeded = subst (λ (keys : List Key). IsHeeded b start.session keys (length (keys_of so.behind))) whole
+          (heeds_behind b start.session (keys_of so.behind) (drop (length (keys_of so.behind))
+          (keys_of (read told.reading))) (same_heeded a b same so.behind (read told.reading) so.heeded));
       goes_on = ap (λ (keys : List Key). (output_of_keys b start.session (ending_of start.session) keys).ending) first
           ∙ same_going_on a b same so.behind so.goes_on;
       wrote = so.wrote ∙ (same.whole_fronts so.behind

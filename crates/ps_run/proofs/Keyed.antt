@@ -1,5 +1,5 @@
 -- Keys of a game in play.
-use Rattle.std.proofs.Common.{◌≡◌, ◌∙◌, ℕ, ◌++◌, List, true, false, None, refl, sym, subst, ap, Ok, Err}
+use Rattle.std.proofs.Common.{◌≡◌, ◌∙◌, ℕ, ◌++◌, List, Bool, true, false, None, refl, sym, subst, ap, Ok, Err}
 use Rattle.std.proofs.lemmas.Bool.{true≢false}
 use Rattle.ps_model.specs.declared.options.Options.{Options}
 use Rattle.ps_model.specs.declared.play.Key.{Key}
@@ -9,7 +9,7 @@ use Rattle.ps_model.specs.session.KeySteps.{key_step}
 use Rattle.ps_model.specs.session.Sessions.{Session, Playing, Waiting, AtMessage, Ended}
 use Rattle.ps_stage.specs.Standings.{script_for}
 use Rattle.ps_stage.specs.declared.stops.Stop.{Stop}
-use Rattle.ps_session.specs.IgnoredKeys.{is_ignored}
+use Rattle.ps_model.specs.session.IgnoredKeys.{is_ignored}
 use Rattle.ps_session.specs.Left.{IsLeft}
 use Rattle.ps_rulebook.specs.PlayedGames.{meant_of}
 use Rattle.ps_run.specs.GamesInPlay.{GameInPlay, IsKeyed, script_in}
@@ -19,13 +19,18 @@ use Rattle.ps_run.proofs.Scripts.{own_table, script_is}
 abbrev pub script_of_rows : GameInPlay → Script
 script_of_rows play = script_for own_table play.game (meant_of play.plain) (meant_of play.late)
 
+-- a key that can stop isn't ignored
+pub not_ignored : (ignored : Bool) → (ignored ≡ true → false ≡ true) → ignored ≡ false
+not_ignored true heeds = absurd (true≢false (sym (heeds refl)))
+not_ignored false heeds = refl
+
 -- a session that doesn't ignore a key hasn't ended
-pub not_ended : (options : Options) (session : Session) (key : Key) →
-    (is_ignored options session key ≡ true → false ≡ true) → ending_of session ≡ None
-not_ended options (Playing play) key heeds = refl
-not_ended options (Waiting play pending) key heeds = refl
-not_ended options (AtMessage entry) key heeds = refl
-not_ended options (Ended ending) key heeds = absurd (true≢false (sym (heeds refl)))
+pub not_ended : (options : Options) (session : Session) (key : Key) → is_ignored options session key ≡ false →
+    ending_of session ≡ None
+not_ended options (Playing play) key heeded = refl
+not_ended options (Waiting play pending) key heeded = refl
+not_ended options (AtMessage entry) key heeded = refl
+not_ended options (Ended ending) key heeded = absurd (true≢false heeded)
 
 -- a key that is played
 pub keyed_ok : {A : Type 0} (old new : GameInPlay) (key : Key) (before now : List ℕ) (value : A) →
@@ -40,20 +45,21 @@ keyed_ok old new key before now value same session text =
       session = session ∙ ap (λ (script : Script). (key_step script old.session key).session) is;
       text = text ∙ ap (λ (script : Script). before ++ (key_step script old.session key).text) is;
       left = tt;
-      unended = tt;
+      heeded = tt;
     }
 
 -- a key that stops
 pub keyed_err : {A : Type 0} (old new : GameInPlay) (key : Key) (before now : List ℕ) (stop : Stop) →
     script_in new ≡ script_in old →
     IsLeft (script_of_rows old) stop (key_step (script_of_rows old) old.session key) before now →
-    ending_of old.session ≡ None →
+    is_ignored old.game.options old.session key ≡ false →
     IsKeyed {A = A} old new key before now (Err stop)
-keyed_err old new key before now stop same left unended = record {
+keyed_err old new key before now stop same left heeded = record {
   script = same;
   session = tt;
   text = tt;
   left = subst (λ (script : Script). IsLeft script stop (key_step script old.session key) before now)
       (sym (script_is old.game old.plain old.late)) left;
-  unended = unended;
+  heeded = subst (λ (script : Script). is_ignored script.options old.session key ≡ false)
+      (sym (script_is old.game old.plain old.late)) heeded;
 }

@@ -1,4 +1,5 @@
 pub mod Playing
+pub mod Gathering
 pub mod Telling
 pub mod Running
 pub mod Answering
@@ -7,3 +8,5 @@ pub mod Scripts
 pub mod Keyed
 pub mod Opened
 pub mod Turned
+pub mod PlayedKeys
+pub mod Sources

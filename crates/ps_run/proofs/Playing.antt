@@ -1,31 +1,32 @@
 -- What bytes do, one after the other.
 use Rattle.std.proofs.Common.{◌≡◌, ◌∙◌, inl, inr, ℕ, zero, suc, ◌+◌, ◌<◌, ◌≤◌, ◌-◌, List, [], ◌∷◌, ◌++◌, length, take}
 use Rattle.std.proofs.Common.{drop}
-use Rattle.std.proofs.Common.{get_or, Option, Some, None, refl, sym, subst, ap, append_assoc, append-nil, arith, Result}
+use Rattle.std.proofs.Common.{false, get_or, Option, Some, None, refl, sym, subst, ap, append_assoc, append-nil, arith, Result}
 use Rattle.std.proofs.Common.{Ok, Err}
 use Rattle.std.specs.Prelude.{OnOk, IfErr, option_to_list}
 use Rattle.std.proofs.lemmas.Grind.{common_steps}
 use Rattle.std.proofs.lemmas.List.{take-append-drop, length-append}
+use Rattle.std.proofs.Math.Seq.{drop-append_seam}
 use Rattle.ps_model.specs.declared.held.Held.{Held}
 use Rattle.ps_model.specs.declared.play.Key.{Key}
 use Rattle.ps_model.specs.board.Turns.{Script}
 use Rattle.ps_model.specs.session.HeldKeys as keys
+use Rattle.ps_model.specs.session.IgnoredKeys.{is_ignored}
 use Rattle.ps_model.specs.session.Sessions.{Session}
-use Rattle.ps_model.specs.session.KeySteps.{key_step}
 use Rattle.ps_model.specs.session.Keys.{keys_of}
 use Rattle.ps_model.specs.game.Headline.{IsFront, IsCutOff}
-use Rattle.ps_model.specs.game.Outputs.{texts_of_keys, ending_of}
+use Rattle.ps_model.specs.game.Outputs.{texts_of_keys}
 use Rattle.ps_model.specs.game.Tellings.{WriterState}
 use Rattle.ps_laws.specs.Fronts.{session_of, whole_front}
 use Rattle.ps_laws.proofs.keys.Fronts.{front_in_pieces}
 use Rattle.ps_laws.proofs.keys.KeysInPieces.{keys_of-append, read_byte_by_byte}
-use Rattle.ps_laws.proofs.sessions.SessionSteps.{silent_bytes, keys_write}
 use Rattle.ps_devices.specs.Devices.{Grows}
 use Rattle.ps_devices.proofs.Pieces.{grows_twice}
 use Rattle.ps_run.specs.declared.faults.PieceFault.{PieceFault}
-use Rattle.ps_run.specs.declared.faults.PieceFault.TheVariants.{Memory, Write}
-use Rattle.ps_run.specs.Played.{HasCounted, HavePlayed, HasTaken, HasTakenAndFailed, IsCutOffAt, StopsAs, StopsAtText}
-use Rattle.ps_laws.proofs.common.Orders.{less_up, two_up}
+use Rattle.ps_run.specs.declared.faults.PieceFault.TheVariants.{Write}
+use Rattle.ps_run.specs.Played.{HasCounted, HasTaken, HasTakenAndFailed, IsCutOffAt, StopsAtText}
+use Rattle.ps_run.specs.Played.{HeedsFirst, HeedsNext}
+use Rattle.ps_laws.proofs.common.Orders.{two_up}
 use Rattle.std.proofs.lemmas.Bool.{cases_lt}
 
 -- of two texts one has a byte, where both together have one
@@ -133,41 +134,6 @@ no_key_more read byte kept held none =
     ∙ ap (λ (k : Option Key). keys_of read ++ option_to_list k) none
     ∙ append-nil (keys_of read))
 
--- a byte that brings no key
-pub silent_byte :
-    (script : Script) (before now : WriterState) (session : Session) (kept : Held) (read : List ℕ) (byte : ℕ) →
-    keys.key_behind kept byte ≡ None →
-    HavePlayed script before now session kept read →
-    HavePlayed script before now session (keys.held_behind kept byte) (read ++ byte ∷ [])
-silent_byte script before now session kept read byte none played =
-    let quiet = silent_bytes script read byte kept played.held none in
-    record {
-      was_well = played.was_well;
-      session = played.session ∙ sym quiet.1;
-      held = (read_byte_by_byte read byte kept played.held).1;
-      wrote = rw (quiet.0, no_key_more read byte kept played.held none) played.wrote;
-    }
-
--- a byte that brings a key
-pub key_byte :
-    (script : Script) (before now later : WriterState) (session next : Session) (kept : Held) (read : List ℕ) (byte : ℕ)
-    (key : Key) → keys.key_behind kept byte ≡ Some key →
-    next ≡ (key_step script session key).session → HasTaken now later (key_step script session key).text 1 →
-    HavePlayed script before now session kept read →
-    HavePlayed script before later next (keys.held_behind kept byte) (read ++ byte ∷ [])
-key_byte script before now later session next kept read byte key brings steps taken played =
-    let wrote = keys_write script read byte kept key played.held brings in
-    record {
-      was_well = played.was_well;
-      session = steps ∙ ap (λ (s : Session). (key_step script s key).session) played.session ∙ sym wrote.1;
-      held = (read_byte_by_byte read byte kept played.held).1;
-      wrote = rw (one_key_more read byte kept key played.held brings)
-          (taken_twice before now later (whole_front script read) (key_step script session key).text
-          (whole_front script (read ++ byte ∷ [])) (length (keys_of read) + 1) 1 played.wrote taken
-          (wrote.0 ∙ ap (λ (s : Session). whole_front script read ++ (key_step script s key).text)
-          (sym played.session)));
-    }
-
 -- what is cut off stays so behind a text
 pub cut_off_behind : (text first second whole : List ℕ) → IsCutOff first second → whole ≡ text ++ second →
     IsCutOff (text ++ first) whole
@@ -188,41 +154,38 @@ cut_off_before first second whole cut (rest, same) =
       is = same ∙ ap (λ front. front ++ rest) cut.is ∙ append_assoc first cut.rest rest;
     }
 
--- a byte whose key isn't written
-pub byte_stops :
-    (fault : PieceFault) (script : Script) (before now later : WriterState) (session : Session) (kept : Held)
-    (read : List ℕ) (byte : ℕ) (key : Key) → keys.key_behind kept byte ≡ Some key →
-    (fault ≡ Memory → ending_of session ≡ None) →
-    StopsAtText fault now later (key_step script session key).text →
-    HavePlayed script before now session kept read →
-    StopsAs fault script before later read (byte ∷ [])
-byte_stops Memory script before now later session kept read byte key brings unended stops played =
-    let same : read ++ take 0 (byte ∷ []) ≡ read = append-nil read in
-    let one : length (keys_of (read ++ byte ∷ [])) ≡ length (keys_of read) + 1 =
-    one_key_more read byte kept key played.held brings in
-    record {
-      was_well = played.was_well;
-      count = 0;
-      wrote = rw same
-          (taken_no_more before now later (whole_front script read) (length (keys_of read) + 1) played.wrote stops.0
-          stops.1 stops.2 stops.3);
-      goes_on = rw same (ap ending_of (sym played.session) ∙ unended refl);
-      wanting = rw same (omega (arith, one));
-    }
-byte_stops Write script before now later session kept read byte key brings unended stops played =
-    let wrote = keys_write script read byte kept key played.held brings in
-    let whole : whole_front script (read ++ byte ∷ []) ≡ whole_front script read ++ (key_step script session key).text =
-    wrote.0 ∙ ap (λ (s : Session). whole_front script read ++ (key_step script s key).text) (sym played.session) in
-    record {
-      was_well = played.was_well;
-      taken = whole_front script read ++ stops.taken;
-      wrote = rw (one_key_more read byte kept key played.held brings)
-          (taken_and_failed before now later (whole_front script read) stops.taken
-          (whole_front script read ++ stops.taken) (length (keys_of read) + 1) 1 played.wrote stops.wrote refl);
-      whole_before = (stops.taken, refl);
-      cut_off = cut_off_behind (whole_front script read) stops.taken (key_step script session key).text _ stops.cut_off
-          whole;
-    }
+-- a byte whose key isn't ignored
+pub heeds_key :
+    (script : Script) (session : Session) (kept : Held) (read : List ℕ) (byte : ℕ) (key : Key) →
+    keys.key_behind kept byte ≡ Some key → keys.bytes_of kept ≡ keys.held read → session ≡ session_of script read →
+    is_ignored script.options session key ≡ false → HeedsNext script read (read ++ byte ∷ [])
+heeds_key script session kept read byte key brings held same heeded =
+    let all : keys_of (read ++ byte ∷ []) ≡ keys_of read ++ key ∷ [] =
+    sym (read_byte_by_byte read byte kept held).0
+    ∙ ap (λ (k : Option Key). keys_of read ++ option_to_list k) brings in
+    let next : drop (length (keys_of read)) (keys_of (read ++ byte ∷ [])) ≡ key ∷ [] =
+    ap (drop (length (keys_of read))) all ∙ drop-append_seam (keys_of read) (key ∷ []) in
+    subst (HeedsFirst script (session_of script read)) (sym next)
+    (subst (λ (s : Session). is_ignored script.options s key ≡ false) same heeded)
+
+-- with more keys behind them the next one is the same
+heeds_more :
+    (script : Script) (session : Session) (count : ℕ) (first second : List Key) → count < length first →
+    HeedsFirst script session (drop count first) → HeedsFirst script session (drop count (first ++ second))
+heeds_more script session count [] second less heeded = absurd (omega (arith, less))
+heeds_more script session zero (key ∷ first) second less heeded = heeded
+heeds_more script session (suc count) (key ∷ first) second less heeded =
+    heeds_more script session count first second (omega (arith, less)) heeded
+
+-- so with more bytes behind them
+pub heeds_on :
+    (script : Script) (first second rest : List ℕ) → length (keys_of first) < length (keys_of second) →
+    HeedsNext script first second → HeedsNext script first (second ++ rest)
+heeds_on script first second rest less heeded =
+    subst (λ (l : List Key). HeedsFirst script (session_of script first) (drop (length (keys_of first)) l))
+    (sym (keys_of-append second rest))
+    (heeds_more script (session_of script first) (length (keys_of first)) (keys_of second)
+    (keys_of (keys.held second ++ rest)) less heeded)
 
 -- what is written for bytes is a front of what is written for more
 pub front_of_piece : (script : Script) (first second : List ℕ) →
@@ -245,20 +208,6 @@ pub piece_to : (read piece : List ℕ) (i : ℕ) → i < length piece → (read 
 piece_to read piece i within = append_assoc read (take i piece) (get_or piece i 0 ∷ [])
     ∙ ap (λ bytes. read ++ bytes) (sym (bytes_to piece i within))
 
--- a part of one more byte of a piece is a part of the piece
-part_of_piece : (read piece : List ℕ) (i count : ℕ) → i < length piece →
-    (upto : ℕ) × ((read ++ take i piece) ++ take count (get_or piece i 0 ∷ []) ≡ read ++ take upto piece)
-part_of_piece read piece i zero within = (i, append-nil (read ++ take i piece))
-part_of_piece read piece i (suc count) within = (
-  i + 1,
-  ap (λ bytes. (read ++ take i piece) ++ bytes) (one_byte count (get_or piece i 0))
-      ∙ piece_to read piece i within,
-)
-  where
-    one_byte : (count byte : ℕ) → take (suc count) (byte ∷ []) ≡ byte ∷ []
-    one_byte zero byte = refl
-    one_byte (suc count) byte = refl
-
 -- bytes bring no more keys than they do with others behind them
 fewer_keys : (first second : List ℕ) → length (keys_of first) ≤ length (keys_of (first ++ second))
 fewer_keys first second =
@@ -268,7 +217,7 @@ fewer_keys first second =
     omega (arith, parts)
 
 -- the bytes of a piece up to one bring no more keys than the piece does
-keys_to : (read piece : List ℕ) (i : ℕ) → i < length piece →
+pub keys_to : (read piece : List ℕ) (i : ℕ) → i < length piece →
     length (keys_of ((read ++ take i piece) ++ get_or piece i 0 ∷ [])) ≤ length (keys_of (read ++ piece))
 keys_to read piece i within =
     let upto : length (keys_of ((read ++ take i piece) ++ get_or piece i 0 ∷ [])) ≡ length
@@ -280,45 +229,6 @@ keys_to read piece i within =
     ap (λ bytes. length (keys_of bytes)) (append_assoc read (take (i + 1) piece) (drop (i + 1) piece)
     ∙ ap (λ bytes. read ++ bytes) (take-append-drop (i + 1) piece)) in
     omega (arith, upto, all, whole)
-
-one_up : (a b : ℕ) → a ≤ b → a + 1 ≤ b + 1
-one_up a b up = omega arith
-
--- a piece that stops at one of its bytes
-pub piece_stops :
-    (fault : PieceFault) (script : Script) (before now : WriterState) (read piece : List ℕ) (i : ℕ) → i < length piece →
-    StopsAs fault script before now (read ++ take i piece) (get_or piece i 0 ∷ []) →
-    StopsAs fault script before now read piece
-piece_stops Memory script before now read piece i within stops =
-    let part = part_of_piece read piece i stops.count within in
-    record {
-      was_well = stops.was_well;
-      count = part.0;
-      wrote = rw (← part.1) stops.wrote;
-      goes_on = rw (← part.1) stops.goes_on;
-      wanting = rw (← part.1) (less_up _ _ _ stops.wanting (keys_to read piece i within));
-    }
-piece_stops Write script before now read piece i within stops =
-    let rest : (read ++ take (i + 1) piece) ++ drop (i + 1) piece ≡ read ++ piece =
-    append_assoc read (take (i + 1) piece) (drop (i + 1) piece)
-    ∙ ap (λ bytes. read ++ bytes) (take-append-drop (i + 1) piece) in
-    let upto : IsCutOff stops.taken (whole_front script (read ++ take (i + 1) piece)) =
-    rw (← piece_to read piece i within) stops.cut_off in
-    let behind : IsFront (whole_front script (read ++ take (i + 1) piece)) (whole_front script (read ++ piece)) =
-    rw (← rest) (front_of_piece script (read ++ take (i + 1) piece) (drop (i + 1) piece)) in
-    record {
-      was_well = stops.was_well;
-      taken = stops.taken;
-      wrote = (
-        stops.wrote.0,
-        stops.wrote.1,
-        stops.wrote.2,
-        counted_of_more before now stops.taken _ (length (keys_of (read ++ piece)) + 1) stops.wrote.3
-            (one_up _ _ (keys_to read piece i within)),
-      );
-      whole_before = front_twice _ _ _ (front_of_piece script read (take i piece)) stops.whole_before;
-      cut_off = cut_off_before stops.taken _ _ upto behind;
-    }
 
 -- a writer that failed has taken some of the text, but not all
 pub written_front :
@@ -366,19 +276,3 @@ pub if_err :
     IfErr result P → IfErr result Q
 if_err (Ok value) follows p = tt
 if_err (Err error) follows p = follows error refl p
-
--- what an output has that was empty before a text was added is the text
-pub text_taken : {A E : Type 0} (result : Result A E) (before now : WriterState) (output old text : List ℕ) →
-    output ≡ old ++ text → old ≡ [] → OnOk result (HasTaken before now output 1) →
-    OnOk result (HasTaken before now text 1)
-text_taken (Ok value) before now output old text e none taken =
-    subst (λ (bytes : List ℕ). HasTaken before now bytes 1) (e ∙ ap (λ (bytes : List ℕ). bytes ++ text) none) taken
-text_taken (Err error) before now output old text e none taken = tt
-
-pub text_stopped : {A : Type 0} (result : Result A PieceFault) (before now : WriterState) (output old text : List ℕ) →
-    output ≡ old ++ text → old ≡ [] →
-    IfErr result (λ fault. StopsAtText fault before now output) →
-    IfErr result (λ fault. StopsAtText fault before now text)
-text_stopped (Ok value) before now output old text e none stops = tt
-text_stopped (Err fault) before now output old text e none stops =
-    subst (StopsAtText fault before now) (e ∙ ap (λ (bytes : List ℕ). bytes ++ text) none) stops

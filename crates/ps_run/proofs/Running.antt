@@ -1,9 +1,10 @@
 -- How the calls of a run add up to its answer.
-use Rattle.std.proofs.Common.{◌≡◌, ◌∙◌, ◌⊎◌, ℕ, ◌+◌, ◌<◌, ◌≤◌, inl, inr, false, true, List, [], ◌++◌, length, take}
-use Rattle.std.proofs.Common.{drop, Option, Some, None, refl, sym, ap, append_assoc, append-nil, arith, Ok, Err}
+use Rattle.std.proofs.Common.{◌≡◌, ◌∙◌, ◌⊎◌, ℕ, ◌+◌, ◌<◌, ◌≤◌, inl, inr, false, true, List, [], ◌++◌, length}
+use Rattle.std.proofs.Common.{drop, take, Option, Some, None, refl, sym, ap, subst, append_assoc, append-nil, arith, Ok, Err}
 use Rattle.std.specs.List.{concat}
 use Rattle.std.proofs.lemmas.Bool.{cases_lt}
 use Rattle.std.proofs.lemmas.List.{take-append-drop}
+use Rattle.std.proofs.Math.Seq.{drop-length}
 use Rattle.ps_model.specs.declared.limits.TheConstants.{READ_LIMIT, CALL_LIMIT}
 use Rattle.ps_model.specs.declared.held.Held.{Held}
 use Rattle.ps_model.specs.declared.play.Ending.{Ending}
@@ -26,7 +27,7 @@ use Rattle.ps_run.specs.Faults.{run_fault_of}
 use Rattle.ps_run.specs.declared.faults.PieceFault.{PieceFault}
 use Rattle.ps_run.specs.declared.faults.PieceFault.TheVariants as piece
 use Rattle.ps_devices.specs.declared.players.RunFault.TheVariants as fault
-use Rattle.ps_run.specs.Played.{HavePlayed, HasTaken, StopsAs, StopsAtText}
+use Rattle.ps_run.specs.Played.{HavePlayed, HasTaken, HeedsFirst, HeedsNext, StopsAs, StopsAtText}
 use Rattle.ps_run.specs.Runs.{IsAsked, Stands, Comes, call_count}
 use Rattle.ps_run.proofs.Playing.{taken_twice, taken_and_failed, taken_no_more, cut_off_behind}
 use Rattle.ps_run.proofs.Telling as tells
@@ -294,6 +295,10 @@ keys_ended script had mid has before now later session kept count was_well is_we
       };
     }
 
+-- where no key is left, none is ignored
+heeds_none : (script : Script) (bytes : List ℕ) → HeedsNext script bytes bytes
+heeds_none script bytes = subst (HeedsFirst script (session_of script bytes)) (sym (drop-length (keys_of bytes))) tt
+
 -- the keys have ended, and that isn't written
 pub keys_ended_unwritten :
     (fault : PieceFault) (script : Script) (had mid has : ReaderState) (before now later : WriterState)
@@ -340,6 +345,7 @@ keys_ended_unwritten piece.Memory script had mid has before now later session ke
         within = ([], joined ∙ sym (append-nil bytes));
         goes_on = on;
         wanting = inr refl;
+        heeded = rw joined (heeds_none script bytes);
         wrote = refl;
         few_writes = rw joined
             (tells.few_writes before later (whole_front script bytes) (length (keys_of bytes) + 1)
@@ -443,6 +449,7 @@ piece_unwritten piece.Memory script had mid has before now later session kept co
         );
         goes_on = tells.goes_on script behind stopped.goes_on;
         wanting = inl (rw same stopped.wanting);
+        heeded = rw same stopped.heeded;
         wrote = refl;
         few_writes = rw same
             (tells.few_writes before later (whole_front script behind) (length (keys_of behind) + 1)

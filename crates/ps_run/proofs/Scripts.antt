@@ -1,5 +1,6 @@
 -- Scripts of games that are played by sections of their rules.
-use Rattle.std.proofs.Common.{◌≡◌, ◌∙◌, ℕ, List, Option, Some, refl, sym}
+use Rattle.std.proofs.Common.{◌≡◌, ◌∙◌, ℕ, List, Option, Some, ap, refl, sym}
+use Rattle.ps_model.specs.board.Turns.{Script}
 use Rattle.ps_model.specs.meaning.Compiled as model
 use Rattle.ps_model.specs.names.Names.{Names}
 use Rattle.ps_model.specs.rules.SourceRules.{RuleLine}
@@ -7,7 +8,7 @@ use Rattle.ps_program.specs.declared.program.CompiledSection.{CompiledSection}
 use Rattle.ps_stage.specs.Standings.{SessionParts, script_for}
 use Rattle.ps_stage.proofs.Scripts.{same_script}
 use Rattle.ps_rulebook.specs.PlayedGames.{AreCompiled, meant_of}
-use Rattle.ps_run.specs.GamesInPlay.{script_on}
+use Rattle.ps_run.specs.GamesInPlay.{GameInPlay, script_in, script_on}
 
 -- boards of rows keep the table of their game
 abbrev pub own_table : List ℕ → Option (List ℕ)
@@ -26,6 +27,13 @@ script_same game game' plain late plain' late' g p l =
     script_is game' plain' late'
     ∙ same_script own_table game game' (meant_of plain) (meant_of late) (meant_of plain') (meant_of late') g p l
     ∙ sym (script_is game plain late)
+
+-- the names of a game in play are those of its script
+pub names_in : (play : GameInPlay) (game : SessionParts) (plain late : List CompiledSection) →
+    script_in play ≡ script_on game plain late → play.game.names ≡ game.names
+names_in play game plain late same =
+    ap (λ (script : Script). script.names) (sym (script_is play.game play.plain play.late) ∙ same
+    ∙ script_is game plain late)
 
 -- programs that are compiled of some names and rules are compiled of the same ones
 pub made_of :

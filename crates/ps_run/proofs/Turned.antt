@@ -1,9 +1,10 @@
 -- A key that is played to its end, where it may lead to a level for other boards.
 use Rattle.std.proofs.Common.{◌≡◌, ◌∙◌, ℕ, ◌++◌, List, refl, sym, ap, subst, Ok, Err, Result}
-use Rattle.std.specs.Prelude.{OnOk}
+use Rattle.std.specs.Prelude.{OnErr, OnOk, false}
 use Rattle.std.specs.Result.{IsErr}
 use Rattle.ps_model.specs.declared.play.Key.{Key}
 use Rattle.ps_model.specs.board.Turns.{Script}
+use Rattle.ps_model.specs.session.IgnoredKeys.{is_ignored}
 use Rattle.ps_model.specs.session.KeySteps.{key_step}
 use Rattle.ps_model.specs.session.StartSteps.{enter}
 use Rattle.ps_program.specs.declared.program.CompiledSection.{CompiledSection}
@@ -17,14 +18,14 @@ pub turned_here : {A B E : Type 0} (old new : GameInPlay) (key : Key) (before no
     IsKeyed old new key before now (Ok value) →
     IsTurned {A = B} {E = E} old new key before now (Ok other)
 turned_here old new key before now value other keyed =
-    record { script = keyed.script; session = keyed.session; text = keyed.text; unended = tt }
+    record { script = keyed.script; session = keyed.session; text = keyed.text; heeded = tt }
 
 -- memory was wanting
 pub turned_not : {A B E : Type 0} (old new : GameInPlay) (key : Key) (before now later : List ℕ) (stop : Stop)
     (fault : E) → IsKeyed {A = A} old new key before now (Err stop) →
     IsTurned {A = B} {E = E} old new key before later (Err fault)
 turned_not old new key before now later stop fault keyed =
-    record { script = keyed.script; session = tt; text = tt; unended = keyed.unended }
+    record { script = keyed.script; session = tt; text = tt; heeded = keyed.heeded }
 
 -- it led to an entry that begins there
 pub turned_there : {A B E : Type 0} (old left new : GameInPlay) (key : Key) (before now later : List ℕ) (entry : ℕ)
@@ -36,7 +37,7 @@ turned_there old left new key before now later entry other script same keyed beg
   script = begun.plays ∙ same;
   session = begun.session ∙ ap (λ (s : Script). (enter s entry).session) same ∙ sym keyed.left.session;
   text = begun.text ∙ ap (λ (s : Script). now ++ (enter s entry).text) same ∙ sym keyed.left.text;
-  unended = tt;
+  heeded = tt;
 }
 
 -- what is so of a game in play is so of the same game, played by sections that make the same script
@@ -51,7 +52,8 @@ turned_in game plain late old new key before now result own turned = record {
       turned.session;
   text = subst (λ (script : Script). OnOk result (now ≡ before ++ (key_step script old.session key).text)) own
       turned.text;
-  unended = turned.unended;
+  heeded = subst (λ (script : Script). OnErr result (is_ignored script.options old.session key ≡ false)) own
+      turned.heeded;
 }
 
 -- the same game, seen through what it is made of

@@ -1,8 +1,8 @@
 -- A game in play, as contracts see it: a session, and the game that it is of.
-use Rattle.std.specs.Prelude.{◌≡◌, ℕ, Some, None, List, ◌++◌, Result, OnOk, OnErr, IfErr}
+use Rattle.std.specs.Prelude.{◌≡◌, ℕ, false, Some, List, ◌++◌, Result, OnOk, OnErr, IfErr}
 use Rattle.ps_model.specs.declared.play.Key.{Key}
 use Rattle.ps_model.specs.board.Turns.{Script}
-use Rattle.ps_model.specs.game.Outputs.{ending_of}
+use Rattle.ps_model.specs.session.IgnoredKeys.{is_ignored}
 use Rattle.ps_model.specs.session.KeySteps.{key_step}
 use Rattle.ps_model.specs.session.Sessions.{Session}
 use Rattle.ps_model.specs.session.StartSteps.{enter}
@@ -33,20 +33,21 @@ pub record HasBegun (script : Script) (entry : ℕ) (play : GameInPlay) (before 
   pub session : play.session ≡ (enter script entry).session
   pub text : now ≡ before ++ (enter script entry).text
 
--- a key is played: the game is where the key leads, and what it writes is added. Where it stops, the game hadn't ended
+-- a key is played: the game is where the key leads, and what it writes is added. Where it stops, the game doesn't ignore
+-- it, so that it hadn't ended
 pub record IsKeyed {A : Type 0} (old new : GameInPlay) (key : Key) (before now : List ℕ) (result : Result A Stop) :
     Type 0 where
   pub script : script_in new ≡ script_in old
   pub session : OnOk result (new.session ≡ (key_step (script_in old) old.session key).session)
   pub text : OnOk result (now ≡ before ++ (key_step (script_in old) old.session key).text)
   pub left : IfErr result (λ stop. IsLeft (script_in old) stop (key_step (script_in old) old.session key) before now)
-  pub unended : OnErr result (ending_of old.session ≡ None)
+  pub heeded : OnErr result (is_ignored (script_in old).options old.session key ≡ false)
 
 -- a key is played to its end: the game is where the key leads, and what it writes is added. Where memory was wanting,
--- the game hadn't ended
+-- the game doesn't ignore it, so that it hadn't ended
 pub record IsTurned {A E : Type 0} (old new : GameInPlay) (key : Key) (before now : List ℕ) (result : Result A E) :
     Type 0 where
   pub script : script_in new ≡ script_in old
   pub session : OnOk result (new.session ≡ (key_step (script_in old) old.session key).session)
   pub text : OnOk result (now ≡ before ++ (key_step (script_in old) old.session key).text)
-  pub unended : OnErr result (ending_of old.session ≡ None)
+  pub heeded : OnErr result (is_ignored (script_in old).options old.session key ≡ false)

@@ -15,7 +15,7 @@ use Rattle.ps_laws.specs.Fronts.{whole_front}
 use Rattle.ps_devices.specs.Devices.{Loses}
 use Rattle.ps_devices.specs.declared.players.RunFault.{RunFault}
 use Rattle.ps_devices.specs.declared.players.RunFault.TheVariants as fault
-use Rattle.ps_run.specs.Played.{HavePlayed}
+use Rattle.ps_run.specs.Played.{HavePlayed, HeedsNext}
 
 -- a call gave a piece, and the game had gone on behind what the calls before it gave
 pub record HasAsked (script : Script) (earlier : List (List ℕ)) (piece : List ℕ) : Type 0 where
@@ -49,8 +49,8 @@ pub record Stands (script : Script) (had has : ReaderState) (before now : Writer
   pub played : HavePlayed script before now session kept (read reading)
 
 -- memory was refused in play: the texts of the keys of some bytes are written, whole; of all that were read before the
--- last call, and perhaps of some that it gave. The game went on behind them, and more keys were read, or the last call
--- gave nothing
+-- last call, and perhaps of some that it gave. The game went on behind them, and more keys were read, of which it
+-- doesn't ignore the first, or the last call gave nothing
 pub record StopsInPlay (script : Script) (told : Told) : Type 0 where
   pub reads : ReadsInTurn script told.reading told.left
   pub reader_is_well : ReaderIsWell told
@@ -60,6 +60,7 @@ pub record StopsInPlay (script : Script) (told : Told) : Type 0 where
   pub within : IsFront behind (read told.reading)
   pub goes_on : GoesOn script behind
   pub wanting : (length (keys_of behind) < length (keys_of (read told.reading))) ⊎ GaveNothing told.reading
+  pub heeded : HeedsNext script behind (read told.reading)
   pub wrote : told.wrote ≡ whole_front script behind
   pub few_writes : HasFewWrites told
 

@@ -5,8 +5,9 @@ ghost use Rattle.ps_model.specs.declared.limits.TheConstants.{SIDE_LIMIT};
 ghost use Rattle.ps_model.specs.game.Outputs.{ending_of, opening_step};
 ghost use Rattle.ps_stage.specs.Playable.{EntriesFit};
 ghost use Rattle.ps_run.specs.GamesInPlay.{HasBegun, IsTurned, script_in, script_on};
-ghost use Rattle.ps_run.specs.SizedPlays.{play_in};
+ghost use Rattle.ps_run.specs.SizedPlays.{play_in, rested_in};
 
+use crate::rested_play::RestedPlay;
 use crate::sized_play::SizedPlay;
 use ps_model::{Ending, Key, Memory};
 use ps_program::CompiledSection;
@@ -104,11 +105,53 @@ impl<'g> GamePlay<'g> {
         })
     }
 
+    /// Goes on with a game that was at rest and has the same names.
+    ///
+    /// # Errors
+    ///
+    /// `Memory`, and the game at rest is lost.
+    pub fn resume(
+        alloc: Global,
+        game: SessionGame<'g>,
+        plain: &'g [CompiledSection<'g>],
+        late: &'g [CompiledSection<'g>],
+        rested: RestedPlay,
+    ) -> Result<GamePlay<'g>, Memory>
+        requires fit { EntriesFit SIDE_LIMIT game.entries }
+        requires names { game.names ≡ (rested_in rested).names }
+        ensures script { IfOk result (λ play. script_in play ≡ script_on game.entry plain.entry.now late.entry.now) }
+        ensures session { IfOk result (λ play. play.session ≡ (rested_in rested).session) }
+    {
+        let play = SizedPlay::resume(alloc, game.copied(), plain, late, rested)?;
+        Ok(GamePlay {
+            alloc,
+            game,
+            plain,
+            late,
+            play,
+        })
+    }
+
+    /// The game at rest: where the player is, without the game and its rules. It takes no memory.
+    pub fn rest(self) -> RestedPlay
+        ensures names { (rested_in result).names ≡ self.entry.game.names }
+        ensures session { (rested_in result).session ≡ self.entry.session }
+    {
+        let GamePlay {
+            alloc: _alloc,
+            game: _game,
+            plain: _plain,
+            late: _late,
+            play,
+        } = self;
+        play.rest()
+    }
+
     /// Does what a key does, and adds its text to the output.
     ///
     /// # Errors
     ///
-    /// `Memory`, and a part of the text may have been added. The game hasn't ended before.
+    /// `Memory`, and a part of the text may have been added. A key that is ignored takes none.
     pub fn key(&mut self, key: Key, output: &mut OutputText) -> Result<(), Memory>
         ensures { IsTurned self.old self.new key output.old output.new result }
     {

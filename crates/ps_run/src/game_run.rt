@@ -8,7 +8,7 @@ ghost use Rattle.ps_run.specs.Runs.{ComesOrStops};
 
 use crate::game_play::GamePlay;
 use crate::play::Play;
-use crate::writing::write_output;
+use crate::writing::{room_for_texts, write_output};
 use ps_devices::{ByteReader, ByteWriter, RunFault};
 use ps_keys::Keys;
 use ps_model::{Ending, Memory};
@@ -47,13 +47,18 @@ pub fn run_game<'g, I: ByteReader, W: ByteWriter>(
         game.end();
         return Err(RunFault::Write);
     }
-    let keys = Keys::new();
-    let mut play = Play { game, keys, output };
+    let mut play = Play {
+        game,
+        keys: Keys::new(),
+        output,
+        gathered: room_for_texts(alloc),
+    };
     let answer = play.play(reader, writer);
     let Play {
         game,
         keys: _keys,
         output: _output,
+        gathered: _gathered,
     } = play;
     game.end();
     answer

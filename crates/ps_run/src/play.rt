@@ -1,51 +1,60 @@
 //! A game in play: its keys byte by byte, and piece by piece.
 
-ghost use Rattle.std.specs.Prelude.{◌≡◌, ◌++◌, ◌∷◌, [], IfErr, OnOk, None, List, ℕ, Err, false, true, ◌≢◌};
+ghost use Rattle.std.specs.Prelude.{◌≡◌, ◌<◌, ◌++◌, ◌∷◌, [], IfErr, OnOk, None, List, ℕ, Err, false, true, ◌≢◌};
+ghost use Rattle.std.specs.Prelude.{get_or, length, take};
+ghost use Rattle.ps_model.specs.session.IgnoredKeys.{is_ignored};
 ghost use Rattle.ps_model.specs.session.KeySteps.{key_step};
-ghost use Rattle.ps_model.specs.game.Outputs.{ending_of, end_of_keys_line};
+ghost use Rattle.ps_model.specs.game.Outputs.{end_of_keys_line};
 ghost use Rattle.ps_model.specs.game.Tellings.{WriterState};
 ghost use Rattle.ps_run.specs.GamesInPlay.{script_in};
 ghost use Rattle.ps_run.specs.Runs.{Comes};
-ghost use Rattle.ps_run.specs.Played.{HasTaken, HavePlayed, StopsAs, StopsAtText};
+ghost use Rattle.ps_run.specs.Played.{HasTaken, HaveGathered, HavePlayed, IsGathered, StopsAs, StopsAtKey};
+ghost use Rattle.ps_run.specs.Played.{StopsAtText};
 
 use crate::faults::{PieceFault, fault_of_piece};
 use crate::game_play::GamePlay;
-use crate::writing::write_output;
+use crate::writing::{flush, gather, write_output};
 use ps_devices::{ByteReader, ByteWriter, RunFault};
 use ps_keys::Keys;
 use ps_model::{CALL_LIMIT, Ending, Key, Memory, READ_LIMIT};
 use ps_screen::OutputText;
 
-/// A game in play, what is held of an arrow that has begun, and the text that is made next.
+/// A game in play, what is held of an arrow that has begun, the text that is made next, and those that are gathered to
+/// be written.
 pub struct Play<'g> {
     pub game: GamePlay<'g>,
     pub keys: Keys,
     pub output: OutputText,
+    pub gathered: Vec<u8>,
 }
 
 impl<'g> Play<'g> {
-    /// Plays a key: makes its text whole, and then writes it.
+    /// Plays a key: makes its text whole, and then gathers or writes it.
     fn play_key<W: ByteWriter>(&mut self, key: Key, writer: &mut W) -> Result<(), PieceFault>
         requires { (W.state writer.old).has_failed ≡ false }
         ensures script { script_in self.new.game ≡ script_in self.old.game }
         ensures keys { self.new.keys ≡ self.old.keys }
         ensures session { let script = script_in self.old.game in
             OnOk result (self.new.game.session ≡ (key_step script self.old.game.session key).session) }
-        ensures written { let script = script_in self.old.game in
-            let text = (key_step script self.old.game.session key).text in
-            OnOk result (HasTaken (W.state writer.old) (W.state writer.new) text 1) }
-        ensures stops { let script = script_in self.old.game in
-            let text = (key_step script self.old.game.session key).text in
-            IfErr result (λ fault. StopsAtText fault (W.state writer.old) (W.state writer.new) text) }
-        ensures unended { result ≡ Err PieceFault.Memory → ending_of self.old.game.session ≡ None }
+        ensures gathered { let text = (key_step (script_in self.old.game) self.old.game.session key).text in
+            OnOk result
+            (IsGathered (W.state writer.old) (W.state writer.new) self.old.gathered.items self.new.gathered.items text) }
+        ensures stops { let text = (key_step (script_in self.old.game) self.old.game.session key).text in
+            IfErr result (λ fault.
+            StopsAtKey fault (W.state writer.old) (W.state writer.new) self.old.gathered.items text) }
+        ensures heeded { let script = script_in self.old.game in
+            result ≡ Err PieceFault.Memory → is_ignored script.options self.old.game.session key ≡ false }
         ensures well { result ≢ Err PieceFault.Write → (W.state writer.new).has_failed ≡ false }
         ensures told { result ≡ Err PieceFault.Write → (W.state writer.new).has_failed ≡ true }
     {
         self.output.clear();
-        match self.game.key(key, &mut self.output) {
-            Ok(()) => write_output(&self.output, writer),
-            Err(Memory) => Err(PieceFault::Memory),
+        if let Err(Memory) = self.game.key(key, &mut self.output) {
+            if let Err(fault) = flush(&mut self.gathered, writer) {
+                return Err(fault);
+            }
+            return Err(PieceFault::Memory);
         }
+        gather(&mut self.gathered, &self.output, writer)
     }
 
     /// Plays the key of a byte, if it brings one after what is held.
@@ -53,14 +62,17 @@ impl<'g> Play<'g> {
         requires { (W.state writer.old).has_failed ≡ false }
         ensures script { script_in self.new.game ≡ script_in self.old.game }
         ensures played { let script = script_in self.old.game in
-            OnOk result ((before : WriterState) (read : List ℕ)
-            → HavePlayed script before (W.state writer.old) self.old.game.session self.old.keys read
-            → HavePlayed script before (W.state writer.new) self.new.game.session self.new.keys
-            (read ++ byte ∷ [])) }
+            OnOk result ((before : WriterState) (first read : List ℕ)
+            → HaveGathered script before (W.state writer.old) self.old.game.session self.old.keys
+            self.old.gathered.items first read
+            → HaveGathered script before (W.state writer.new) self.new.game.session self.new.keys
+            self.new.gathered.items first (read ++ byte ∷ [])) }
         ensures stops { let script = script_in self.old.game in
-            IfErr result (λ fault. (before : WriterState) (read : List ℕ)
-            → HavePlayed script before (W.state writer.old) self.old.game.session self.old.keys read
-            → StopsAs fault script before (W.state writer.new) read (byte ∷ [])) }
+            IfErr result (λ fault. (before : WriterState) (first piece : List ℕ) (i : ℕ) → i < length piece
+            → get_or piece i 0 ≡ byte
+            → HaveGathered script before (W.state writer.old) self.old.game.session self.old.keys
+            self.old.gathered.items first (first ++ take i piece)
+            → StopsAs fault script before (W.state writer.new) first piece) }
         ensures well { result ≢ Err PieceFault.Write → (W.state writer.new).has_failed ≡ false }
         ensures told { result ≡ Err PieceFault.Write → (W.state writer.new).has_failed ≡ true }
     {
@@ -70,7 +82,8 @@ impl<'g> Play<'g> {
         }
     }
 
-    /// Plays the keys of a piece of bytes. Behind the end of the game they do nothing.
+    /// Plays the keys of a piece of bytes, and writes their texts: together, as far as they have few bytes. Behind the
+    /// end of the game they do nothing.
     ///
     /// # Errors
     ///
@@ -95,12 +108,13 @@ impl<'g> Play<'g> {
         ensures well { result ≢ Err PieceFault.Write → (W.state writer.new).has_failed ≡ false }
         ensures told { result ≡ Err PieceFault.Write → (W.state writer.new).has_failed ≡ true }
     {
+        self.gathered.clear();
         for byte in piece {
             if let Err(fault) = self.play_byte(*byte, writer) {
                 return Err(fault);
             }
         }
-        Ok(())
+        flush(&mut self.gathered, writer)
     }
 
     /// Writes that the keys have ended.

@@ -3,14 +3,16 @@
 ghost use Rattle.std.specs.Prelude.{◌≡◌, ◌≤◌, IfOk};
 ghost use Rattle.ps_model.specs.game.Outputs.{ending_of};
 ghost use Rattle.ps_stage.specs.Sides.{side_at};
-ghost use Rattle.ps_run.specs.GamesInPlay.{HasBegun, IsKeyed, script_on};
+ghost use Rattle.ps_session.specs.RestedSessions.{without_history};
+ghost use Rattle.ps_run.specs.GamesInPlay.{HasBegun, IsKeyed, script_in, script_on};
 
 use ps_board::ColumnWords;
 use ps_model::{Ending, Key, Memory};
 use ps_program::CompiledSection;
 use ps_rulebook::{GameRules, RowBoard, RowHistory, rules_of_sections};
 use ps_screen::OutputText;
-use ps_session::{BoardSides, Session, SessionGame, Stop};
+use ps_session::{BoardSides, Rested, Session, SessionGame, Stop};
+use ps_stage::Stage;
 use ps_turn::TurnRules;
 use std::alloc::Global;
 use std::marker::Model;
@@ -19,6 +21,32 @@ use std::marker::Model;
 pub struct RowPlay<'g, V: ColumnWords> {
     session: Session<'g, RowBoard<V>, RowHistory<V>>,
     rules: TurnRules<GameRules<'g, 'g, RowBoard<V>>>,
+}
+
+/// A session at rest on boards whose rows are kept by words of this kind.
+pub type RestedRows<V> = Rested<RowBoard<V>, RowHistory<V>>;
+
+/// A copy of a session at rest, without the boards that undo goes back to, in a game of the same names. Its boards are
+/// for levels with such sides.
+///
+/// # Errors
+///
+/// `Memory`.
+pub fn copied_rows<V: ColumnWords>(
+    alloc: Global,
+    game: SessionGame<'_>,
+    sides: BoardSides,
+    rested: &mut RestedRows<V>,
+) -> Result<RestedRows<V>, Memory>
+    requires sides { sides.most ≤ V.limit }
+    requires names { game.names ≡ rested.old.names }
+    ensures same { rested.new ≡ rested.old }
+    ensures names { IfOk result (λ copy. copy.names ≡ rested.old.names) }
+    ensures session { IfOk result (λ copy. copy.session ≡ without_history rested.old.session) }
+{
+    let mut stage = Stage::new(alloc, game, sides)?;
+    let copy = rested.copied(alloc, &mut stage)?;
+    Ok(copy)
 }
 
 /// Written out, so that a function that owns a game in play calls this where it returns, instead of dropping its parts.
@@ -70,12 +98,49 @@ impl<'g, V: ColumnWords> RowPlay<'g, V> {
         Ok(RowPlay { session, rules })
     }
 
+    /// Goes on with a session that was at rest in a game of the same names, with the sections of its rules. Its boards
+    /// are for levels with such sides.
+    ///
+    /// # Errors
+    ///
+    /// `Memory`, and the session at rest is lost.
+    pub fn resume(
+        alloc: Global,
+        game: SessionGame<'g>,
+        plain: &'g [CompiledSection<'g>],
+        late: &'g [CompiledSection<'g>],
+        sides: BoardSides,
+        rested: RestedRows<V>,
+    ) -> Result<RowPlay<'g, V>, Memory>
+        requires sides { sides.most ≤ V.limit }
+        requires names { game.names ≡ rested.names }
+        ensures script { IfOk result (λ play. script_in play ≡ script_on game.entry plain.entry.now late.entry.now) }
+        ensures session { IfOk result (λ play. play.session ≡ rested.session) }
+    {
+        let rules = rules_of_sections(alloc, plain, late)?;
+        let stage = Stage::new(alloc, game, sides)?;
+        let session = Session::resume(alloc, stage, rested)?;
+        Ok(RowPlay { session, rules })
+    }
+
+    /// The session at rest. Its rules are given up.
+    pub fn rest(self) -> RestedRows<V>
+        ensures names { result.names ≡ self.entry.game.names }
+        ensures session { result.session ≡ self.entry.session }
+    {
+        let RowPlay {
+            session,
+            rules: _rules,
+        } = self;
+        session.rest()
+    }
+
     /// Does what a key does, and adds its text to the output.
     ///
     /// # Errors
     ///
     /// `Memory`, and the output is as before; `Elsewhere` where the key leads to an entry that is a level for other
-    /// boards, and the output has what comes before that. The game hasn't ended before.
+    /// boards, and the output has what comes before that. A key that is ignored has neither.
     pub fn key(&mut self, key: Key, output: &mut OutputText) -> Result<(), Stop>
         ensures { IsKeyed self.old self.new key output.old output.new result }
     {

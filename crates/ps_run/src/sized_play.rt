@@ -4,9 +4,10 @@ ghost use Rattle.std.specs.Prelude.{◌≡◌, ◌*◌, ◌-◌, ◌≤◌, IfOk
 ghost use Rattle.ps_model.specs.declared.limits.TheConstants.{SIDE_LIMIT};
 ghost use Rattle.ps_model.specs.game.Outputs.{ending_of};
 ghost use Rattle.ps_stage.specs.Sides.{side_at};
-ghost use Rattle.ps_run.specs.GamesInPlay.{HasBegun, IsKeyed, script_on};
-ghost use Rattle.ps_run.specs.SizedPlays.{play_in};
+ghost use Rattle.ps_run.specs.GamesInPlay.{HasBegun, IsKeyed, script_in, script_on};
+ghost use Rattle.ps_run.specs.SizedPlays.{play_in, rested_in};
 
+use crate::rested_play::RestedPlay;
 use crate::row_play::RowPlay;
 use ps_board::{ManyWords, OneWord, WORD_BITS};
 use ps_model::{Ending, Key, Memory};
@@ -25,7 +26,7 @@ pub enum SizedPlay<'g> {
 }
 
 /// The longer sides of levels whose rows are kept by a number of words, and by no fewer.
-fn sides_of(words: u32) -> BoardSides
+pub fn sides_of(words: u32) -> BoardSides
     requires { words ≤ 4 }
     ensures above { result.above ≡ words * WORD_BITS - WORD_BITS }
     ensures most { result.most ≡ words * WORD_BITS }
@@ -72,12 +73,62 @@ impl<'g> SizedPlay<'g> {
         Ok(SizedPlay::Four(play))
     }
 
+    /// Goes on with a game that was at rest and has the same names, on boards of the kind that it was on.
+    ///
+    /// # Errors
+    ///
+    /// `Memory`, and the game at rest is lost.
+    pub fn resume(
+        alloc: Global,
+        game: SessionGame<'g>,
+        plain: &'g [CompiledSection<'g>],
+        late: &'g [CompiledSection<'g>],
+        rested: RestedPlay,
+    ) -> Result<SizedPlay<'g>, Memory>
+        requires { game.names ≡ (rested_in rested).names }
+        ensures script { IfOk result (λ play.
+            script_in (play_in play) ≡ script_on game.entry plain.entry.now late.entry.now) }
+        ensures session { IfOk result (λ play. (play_in play).session ≡ (rested_in rested).session) }
+    {
+        match rested {
+            RestedPlay::One(rows) => {
+                let play = RowPlay::resume(alloc, game, plain, late, sides_of(1), rows)?;
+                Ok(SizedPlay::One(play))
+            }
+            RestedPlay::Two(rows) => {
+                let play = RowPlay::resume(alloc, game, plain, late, sides_of(2), rows)?;
+                Ok(SizedPlay::Two(play))
+            }
+            RestedPlay::Three(rows) => {
+                let play = RowPlay::resume(alloc, game, plain, late, sides_of(3), rows)?;
+                Ok(SizedPlay::Three(play))
+            }
+            RestedPlay::Four(rows) => {
+                let play = RowPlay::resume(alloc, game, plain, late, sides_of(4), rows)?;
+                Ok(SizedPlay::Four(play))
+            }
+        }
+    }
+
+    /// The game at rest.
+    pub fn rest(self) -> RestedPlay
+        ensures names { (rested_in result).names ≡ (play_in self.entry).game.names }
+        ensures session { (rested_in result).session ≡ (play_in self.entry).session }
+    {
+        match self {
+            SizedPlay::One(play) => RestedPlay::One(play.rest()),
+            SizedPlay::Two(play) => RestedPlay::Two(play.rest()),
+            SizedPlay::Three(play) => RestedPlay::Three(play.rest()),
+            SizedPlay::Four(play) => RestedPlay::Four(play.rest()),
+        }
+    }
+
     /// Does what a key does, and adds its text to the output.
     ///
     /// # Errors
     ///
     /// `Memory`, and the output is as before; `Elsewhere` where the key leads to an entry that is a level for other
-    /// boards, and the output has what comes before that. The game hasn't ended before.
+    /// boards, and the output has what comes before that. A key that is ignored has neither.
     pub fn key(&mut self, key: Key, output: &mut OutputText) -> Result<(), Stop>
         ensures { IsKeyed (play_in self.old) (play_in self.new) key output.old output.new result }
     {

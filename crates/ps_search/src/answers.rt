@@ -11,9 +11,9 @@ pub enum Found<I, F> {
     Never {
         states: u32,
     },
-    /// No list of at most `depth` inputs leads past. `states` keys were kept when the search stopped: they stand for all
-    /// places that such lists lead to, and besides them only for such as one input more leads to. None were kept where
-    /// it couldn't begin.
+    /// No list of at most `depth` inputs leads past. `states` keys were kept when the search stopped: they stand for
+    /// all places that such lists lead to, and besides them only for such as one input more leads to. None were kept
+    /// where it couldn't begin.
     Unknown {
         states: u32,
         depth: u32,

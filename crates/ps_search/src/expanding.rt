@@ -23,21 +23,22 @@ fn advance<M: Moves>(
     layer: Layer,
     input: M::Input,
 ) -> Result<bool, Why<M::Fault>>
-    requires work { UnderWork (M.next moves.old) (M.start moves.old) inputs.now (M.is_key moves.old) (M.place
-        moves.old) (M.here moves.old) visited.old.keys.keys (links_of visited.old.parents.items visited.old.inputs.items) layer.at layer.end layer.depth }
+    requires work { let v = visited.old in let links = links_of v.parents.items v.inputs.items in
+        UnderWork (M.next moves.old) (M.start moves.old) inputs.now (M.is_key moves.old) (M.place moves.old) (M.here
+        moves.old) v.keys.keys links layer.at layer.end layer.depth }
     requires given { Contains inputs.now input }
     requires within { length visited.old.keys.keys ≤ visited.old.limit }
-    ensures work { OnOk result (UnderWork (M.next moves.old) (M.start moves.old) inputs.now (M.is_key moves.new)
-        (M.place moves.new) (M.here moves.old) visited.new.keys.keys (links_of visited.new.parents.items visited.new.inputs.items) layer.at layer.end
-        layer.depth) }
+    ensures work { let v = visited.new in let links = links_of v.parents.items v.inputs.items in
+        OnOk result (UnderWork (M.next moves.old) (M.start moves.old) inputs.now (M.is_key moves.new) (M.place
+        moves.new) (M.here moves.old) v.keys.keys links layer.at layer.end layer.depth) }
     ensures numbered { OnOk result ((place : Option M.Place) → IsNumbered (map (M.place moves.old)
         visited.old.keys.keys) place → IsNumbered (map (M.place moves.new) visited.new.keys.keys) place) }
     ensures led { IfOk result (IsLed (map (M.place moves.new) visited.new.keys.keys) (M.next moves.old (M.here
         moves.old) input)) }
     ensures here { OnOk result (M.here moves.new ≡ M.here moves.old) }
-    ensures kept { OnErr result (Kept (M.next moves.old) (M.start moves.old) inputs.now (M.is_key moves.new) (M.place
-        moves.new) visited.new.keys.keys (links_of visited.new.parents.items visited.new.inputs.items) layer.at
-        layer.end layer.depth) }
+    ensures kept { let v = visited.new in let links = links_of v.parents.items v.inputs.items in
+        OnErr result (Kept (M.next moves.old) (M.start moves.old) inputs.now (M.is_key moves.new) (M.place
+        moves.new) v.keys.keys links layer.at layer.end layer.depth) }
     ensures next { M.next moves.new ≡ M.next moves.old }
     ensures start { M.start moves.new ≡ M.start moves.old }
     ensures within { length visited.new.keys.keys ≤ visited.new.limit }
@@ -73,15 +74,16 @@ fn enter<M: Moves>(
     visited: &Visited<M::Key, M::Input>,
     layer: Layer,
 ) -> Result<(), M::Fault>
-    requires kept { Kept (M.next moves.old) (M.start moves.old) inputs.now (M.is_key moves.old) (M.place moves.old)
-        visited.now.keys.keys (links_of visited.now.parents.items visited.now.inputs.items) layer.at layer.end layer.depth }
+    requires kept { let v = visited.now in let links = links_of v.parents.items v.inputs.items in
+        Kept (M.next moves.old) (M.start moves.old) inputs.now (M.is_key moves.old) (M.place moves.old) v.keys.keys
+        links layer.at layer.end layer.depth }
     requires below { layer.at < layer.end }
-    ensures work { OnOk result (UnderWork (M.next moves.old) (M.start moves.old) inputs.now (M.is_key moves.new)
-        (M.place moves.new) (M.here moves.new) visited.now.keys.keys (links_of visited.now.parents.items visited.now.inputs.items) layer.at layer.end
-        layer.depth) }
-    ensures kept { OnErr result (Kept (M.next moves.old) (M.start moves.old) inputs.now (M.is_key moves.new) (M.place
-        moves.new) visited.now.keys.keys (links_of visited.now.parents.items visited.now.inputs.items) layer.at
-        layer.end layer.depth) }
+    ensures work { let v = visited.now in let links = links_of v.parents.items v.inputs.items in
+        OnOk result (UnderWork (M.next moves.old) (M.start moves.old) inputs.now (M.is_key moves.new) (M.place
+        moves.new) (M.here moves.new) v.keys.keys links layer.at layer.end layer.depth) }
+    ensures kept { let v = visited.now in let links = links_of v.parents.items v.inputs.items in
+        OnErr result (Kept (M.next moves.old) (M.start moves.old) inputs.now (M.is_key moves.new) (M.place
+        moves.new) v.keys.keys links layer.at layer.end layer.depth) }
     ensures next { M.next moves.new ≡ M.next moves.old }
     ensures start { M.start moves.new ≡ M.start moves.old }
 {
@@ -106,15 +108,17 @@ pub(crate) fn expand<M: Moves>(
     visited: &mut Visited<M::Key, M::Input>,
     layer: Layer,
 ) -> Result<Option<M::Input>, Why<M::Fault>>
-    requires kept { Kept (M.next moves.old) (M.start moves.old) inputs.now (M.is_key moves.old) (M.place moves.old)
-        visited.old.keys.keys (links_of visited.old.parents.items visited.old.inputs.items) layer.at layer.end layer.depth }
+    requires kept { let v = visited.old in let links = links_of v.parents.items v.inputs.items in
+        Kept (M.next moves.old) (M.start moves.old) inputs.now (M.is_key moves.old) (M.place moves.old) v.keys.keys
+        links layer.at layer.end layer.depth }
     requires below { layer.at < layer.end }
     requires within { length visited.old.keys.keys ≤ visited.old.limit }
-    ensures done { IfOk result (IsDone (M.next moves.old) (M.start moves.old) inputs.now (M.is_key moves.new)
-        (M.place moves.new) visited.new.keys.keys (links_of visited.new.parents.items visited.new.inputs.items) layer.at layer.end layer.depth) }
-    ensures kept { OnErr result (Kept (M.next moves.old) (M.start moves.old) inputs.now (M.is_key moves.new) (M.place
-        moves.new) visited.new.keys.keys (links_of visited.new.parents.items visited.new.inputs.items) layer.at
-        layer.end layer.depth) }
+    ensures done { let v = visited.new in let links = links_of v.parents.items v.inputs.items in
+        IfOk result (IsDone (M.next moves.old) (M.start moves.old) inputs.now (M.is_key moves.new) (M.place
+        moves.new) v.keys.keys links layer.at layer.end layer.depth) }
+    ensures kept { let v = visited.new in let links = links_of v.parents.items v.inputs.items in
+        OnErr result (Kept (M.next moves.old) (M.start moves.old) inputs.now (M.is_key moves.new) (M.place
+        moves.new) v.keys.keys links layer.at layer.end layer.depth) }
     ensures next { M.next moves.new ≡ M.next moves.old }
     ensures start { M.start moves.new ≡ M.start moves.old }
     ensures within { length visited.new.keys.keys ≤ visited.new.limit }

@@ -56,11 +56,13 @@ fn won<K: Eq + Hash + Drop, I: Copy, F: Drop>(
     layer: Layer,
     input: I,
 ) -> Found<I, F>
-    requires ordered { AreOrdered (links_of visited.now.parents.items visited.now.inputs.items) }
-    requires below { layer.at < length (links_of visited.now.parents.items visited.now.inputs.items) }
+    requires ordered { let v = visited.now in let links = links_of v.parents.items v.inputs.items in
+        AreOrdered links }
+    requires below { let v = visited.now in let links = links_of v.parents.items v.inputs.items in
+        layer.at < length links }
     requires within { length visited.now.keys.keys ≤ visited.now.limit }
-    ensures { IsWon (way (links_of visited.now.parents.items visited.now.inputs.items) layer.at ++ input ∷ []) layer.depth (length visited.now.keys.keys)
-        result }
+    ensures { let v = visited.now in let links = links_of v.parents.items v.inputs.items in
+        IsWon (way links layer.at ++ input ∷ []) layer.depth (length v.keys.keys) result }
 {
     match visited.spell(alloc, layer.at, input) {
         Ok(inputs) => Found::Won { inputs },

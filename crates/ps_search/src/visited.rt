@@ -1,6 +1,7 @@
 //! The places that a search has met, numbered as they are met.
 
-ghost use Rattle.std.specs.Prelude.{◌≡◌, ◌<◌, ◌≤◌, ◌∷◌, ◌++◌, [], length, vec_capacity, vec_len, IfErr, OnErr, IfOk, OnOk};
+ghost use Rattle.std.specs.Prelude.{◌≡◌, ◌<◌, ◌≤◌, ◌∷◌, ◌++◌, [], IfErr, IfOk, OnErr, OnOk};
+ghost use Rattle.std.specs.Prelude.{length, vec_capacity, vec_len};
 ghost use Rattle.ps_search.specs.Ways.{links_of, way, AreOrdered};
 ghost use Rattle.ps_search.specs.Noted.{IsNoted, IsRefusal};
 

@@ -8,7 +8,7 @@ use Rattle.ps_model.specs.board.Turns.{Script}
 use Rattle.ps_model.specs.session.Sessions.{Play, Pending}
 use Rattle.ps_model.specs.session.StartSteps.{enter}
 use Rattle.ps_model.specs.session.KeySteps.{gone_on, key_at_entry, key_at_level_message}
-use Rattle.ps_session.specs.IgnoredKeys.{is_ignored_at_message}
+use Rattle.ps_model.specs.session.IgnoredKeys.{is_ignored_at_message}
 
 -- a key that is neither ignored nor `q` dismisses it
 pub dismissed : (script : Script) (play : Play) (pending : Pending) (key : Key) → is_ignored_at_message key ≡ false →

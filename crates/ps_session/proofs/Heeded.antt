@@ -11,7 +11,7 @@ use Rattle.ps_model.specs.session.Sessions.{Play, Step, with_board_in_history}
 use Rattle.ps_model.specs.session.StartSteps.{restarted}
 use Rattle.ps_model.specs.session.KeySteps.{input_taken, key_in_level, undone, unless_ignored}
 use Rattle.ps_stage.specs.Standings.{SessionParts}
-use Rattle.ps_session.specs.IgnoredKeys.{is_ignored_in_level}
+use Rattle.ps_model.specs.session.IgnoredKeys.{is_ignored_in_level}
 
 heeded : (ignored : Bool) (play : Play) (key : Play → Step) → ignored ≡ false →
     unless_ignored ignored play key ≡ key play

@@ -10,7 +10,8 @@ use Rattle.ps_model.specs.session.Sessions.{with_board_in_history}
 use Rattle.ps_model.specs.session.StartSteps.{restarted}
 use Rattle.ps_model.specs.session.KeySteps.{input_taken, key_at_entry, key_at_level_message, key_in_level, undone}
 use Rattle.ps_model.specs.session.KeySteps.{unless_ignored}
-use Rattle.ps_session.specs.IgnoredKeys.{is_ignored_at_message, is_ignored_in_level, IgnoredKeysDoNothing}
+use Rattle.ps_model.specs.session.IgnoredKeys.{is_ignored_at_message, is_ignored_in_level}
+use Rattle.ps_session.specs.IgnoredKeys.{IgnoredKeysDoNothing}
 
 dropped : (ignored : Bool) (play : Play) (key : Play → Step) → ignored ≡ true →
     unless_ignored ignored play key ≡ quietly (Playing play)

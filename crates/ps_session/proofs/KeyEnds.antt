@@ -13,7 +13,7 @@ use Rattle.ps_stage.specs.StepsShown.{came}
 use Rattle.ps_stage.specs.declared.locations.Location.{Location}
 use Rattle.ps_stage.specs.declared.stops.Stop.{Stop}
 use Rattle.ps_session.specs.Histories.{grids_of}
-use Rattle.ps_session.specs.IgnoredKeys.{is_ignored}
+use Rattle.ps_model.specs.session.IgnoredKeys.{is_ignored}
 use Rattle.ps_session.specs.Left.{IsLeft}
 
 -- the game of the value

@@ -4,5 +4,6 @@ mod Heeded
 mod HistoryBoards
 mod IgnoredSteps
 mod KeyEnds
+mod Rests
 mod Starts
 mod UndoneSteps

@@ -5,3 +5,4 @@ pub mod IgnoredKeys
 pub mod Left
 pub mod Nexts
 pub mod Phases
+pub mod RestedSessions

@@ -1,7 +1,8 @@
 //! The keys that are ignored.
 
 ghost use Rattle.std.specs.Prelude.{◌≡◌};
-ghost use Rattle.ps_session.specs.IgnoredKeys.{is_ignored_at_message, is_ignored_in_level, IgnoredKeysDoNothing};
+ghost use Rattle.ps_model.specs.session.IgnoredKeys.{is_ignored_at_message, is_ignored_in_level};
+ghost use Rattle.ps_session.specs.IgnoredKeys.{IgnoredKeysDoNothing};
 
 use ps_model::{Input, Key, Options};
 

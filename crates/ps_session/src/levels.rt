@@ -12,7 +12,7 @@ ghost use Rattle.ps_stage.specs.StepsShown.{IsStopped};
 ghost use Rattle.ps_stage.specs.declared.locations.Location.{Location as MeantLocation};
 ghost use Rattle.ps_stage.specs.declared.locations.Location.TheVariants.{Playing};
 ghost use Rattle.ps_session.specs.Histories.{AreOnTable, grids_of};
-ghost use Rattle.ps_session.specs.IgnoredKeys.{is_ignored_in_level};
+ghost use Rattle.ps_model.specs.session.IgnoredKeys.{is_ignored_in_level};
 ghost use Rattle.ps_session.specs.Nexts.{next_step};
 ghost use Rattle.ps_session.specs.Behind.{AnswersFrom, ComesAnew, ComesFrom};
 ghost use Rattle.ps_session.specs.Bases.{AnswersOnBasis, ComesOnBasis};

@@ -7,7 +7,7 @@ ghost use Rattle.ps_stage.specs.Locations.{location_shown, IsOnBasis};
 ghost use Rattle.ps_stage.specs.Standings.{basis_of};
 ghost use Rattle.ps_stage.specs.StepsShown.{IsStopped};
 ghost use Rattle.ps_session.specs.Histories.{AreOnTable, grids_of};
-ghost use Rattle.ps_session.specs.IgnoredKeys.{is_ignored};
+ghost use Rattle.ps_model.specs.session.IgnoredKeys.{is_ignored};
 ghost use Rattle.ps_session.specs.Nexts.{next_step};
 ghost use Rattle.ps_session.specs.Behind.{AnswersFrom};
 ghost use Rattle.ps_session.specs.Bases.{AnswersOnBasis};

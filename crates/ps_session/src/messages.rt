@@ -7,7 +7,7 @@ ghost use Rattle.ps_stage.specs.Meanings.{meaning_of, script_by};
 ghost use Rattle.ps_stage.specs.Standings.{basis_of, play_of};
 ghost use Rattle.ps_stage.specs.StepsShown.{IsStopped, pending_shown};
 ghost use Rattle.ps_stage.specs.declared.locations.Location.TheVariants.{AtMessage, Waiting};
-ghost use Rattle.ps_session.specs.IgnoredKeys.{is_ignored_at_message};
+ghost use Rattle.ps_model.specs.session.IgnoredKeys.{is_ignored_at_message};
 ghost use Rattle.ps_session.specs.Nexts.{next_step};
 ghost use Rattle.ps_session.specs.Behind.{AnswersFrom};
 ghost use Rattle.ps_session.specs.Bases.{AnswersOnBasis};

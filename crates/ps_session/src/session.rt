@@ -9,7 +9,7 @@ ghost use Rattle.ps_model.specs.board.Grid.{Grid};
 ghost use Rattle.ps_stage.specs.Sides.{side_at};
 ghost use Rattle.ps_stage.specs.Standings.{basis_of, play_of, script_for};
 ghost use Rattle.ps_stage.specs.StepsShown.{stands};
-ghost use Rattle.ps_session.specs.IgnoredKeys.{is_ignored};
+ghost use Rattle.ps_model.specs.session.IgnoredKeys.{is_ignored};
 ghost use Rattle.ps_session.specs.Left.{IsLeft};
 ghost use Rattle.ps_session.specs.Phases.{phase_of};
 
@@ -17,6 +17,7 @@ use crate::commit::{commit, give_up};
 use crate::locations::next_at;
 use crate::phase::Phase;
 use crate::ready::{begin, prepare, tell_stop};
+use crate::rested::{Rested, history_or_new};
 use ps_board::{Board, Columns, History};
 use ps_model::{Ending, Key, Memory};
 use ps_screen::OutputText;
@@ -24,6 +25,7 @@ use ps_stage::{BoardSides, Location, Pending, PlayedLevel, SessionGame, Stage, S
 use ps_turn::{Rules, TurnRules};
 use std::alloc::Global;
 use std::marker::Model;
+use std::snapshot::Snapshot;
 
 /// Where a player is in a game: in a level with the boards that undo goes back to, at a message, or at the end.
 pub struct Session<'g, B: Board, H: History<B>> {
@@ -171,6 +173,50 @@ impl<'g, B: Board, H: History<B>> Session<'g, B, H> {
         Ok(self.phase())
     }
 
+    /// The session at rest: what it has apart from its game. Boards that it keeps to be used again are given up.
+    pub fn rest(self) -> Rested<B, H>
+        ensures names { result.names ≡ self.entry.game.names }
+        ensures session { result.session ≡ self.entry.session }
+    {
+        let names = Snapshot::of(self.stage.game().names());
+        let Session {
+            stage: _stage,
+            location,
+            history,
+            behind,
+        } = self;
+        Rested {
+            location,
+            history: Some(history),
+            behind,
+            names,
+        }
+    }
+
+    /// Goes on with a session that was at rest, in the game of a stage, which has the same names.
+    ///
+    /// # Errors
+    ///
+    /// `Memory`, where boards that undo goes back to were left out. The session at rest is lost.
+    pub fn resume(
+        alloc: Global,
+        stage: Stage<'g, B>,
+        rested: Rested<B, H>,
+    ) -> Result<Session<'g, B, H>, Memory>
+        requires { stage.game.names ≡ rested.names }
+        ensures game { IfOk result (λ session. session.game ≡ stage.entry.game) }
+        ensures session { IfOk result (λ session. session.session ≡ rested.session) }
+    {
+        let (location, history, behind) = rested.into_parts();
+        let history = history_or_new::<B, H>(alloc, history)?;
+        Ok(Session {
+            stage,
+            location,
+            history,
+            behind,
+        })
+    }
+
     /// The game.
     pub fn game(&self) -> &SessionGame<'g>
         ensures { result.now ≡ self.now.game }
@@ -178,8 +224,8 @@ impl<'g, B: Board, H: History<B>> Session<'g, B, H> {
         self.stage.game()
     }
 
-    /// The level in which the player is, with what its message goes on with, if one waits. At a message entry and at the
-    /// end there is no level.
+    /// The level in which the player is, with what its message goes on with, if one waits. At a message entry and at
+    /// the end there is no level.
     pub fn level(&self) -> Option<(&PlayedLevel<B>, Option<Pending>)>
         ensures level { IfSome result (λ here. (history : List Grid)
             × (self.now.session ≡ stands here.1 (play_of history here.0.now))) }

@@ -89,8 +89,3 @@ key_stands keys situations words own number situation same at =
 pub step_told : {Place Key : Type 0} (is_key : Key → Type 0) (place : Key → Place) (here : Place) (led : Option Place)
     (step known : Step Key) → IsStep is_key place here led step → step ≡ known → IsStep is_key place here led known
 step_told is_key place here led step known is same = subst (IsStep is_key place here led) same is
-
--- what follows from what is so where all is well, is so then
-pub told_if_well : {A E P Q : Type 0} → (result : Result A E) → (P → Q) → OnOk result P → OnOk result Q
-told_if_well (Ok value) so is = so is
-told_if_well (Err fault) so is = tt

@@ -18,7 +18,7 @@ use Rattle.ps_solve.specs.SolvedLevels.{IsSolvedAfter}
 use Rattle.ps_solve.specs.declared.solved.NotSearched.{NotSearched}
 use Rattle.ps_solve.specs.declared.solved.NotSearched.TheVariants as not_searched
 use Rattle.ps_solve.specs.declared.solved.SolvedHere.{SolvedHere}
-use Rattle.ps_solve.proofs.PlayedKeys.{played}
+use Rattle.ps_run.proofs.PlayedKeys.{played}
 use Rattle.ps_solve.proofs.ReadLevels.{Opened}
 
 -- what is so of each session, where something is found in it, is said of it

@@ -11,5 +11,4 @@ mod AlikeLevels
 mod SourceLevels
 mod BegunLevels
 mod ReadLevels
-mod KeyBytes
 mod LedLevels

@@ -11,29 +11,21 @@ use Rattle.ps_laws.specs.AlikeScripts.{SameRuns}
 use Rattle.ps_program.specs.ProgramShown.{sections_shown}
 use Rattle.ps_program.specs.declared.program.CompiledSection.{CompiledSection}
 use Rattle.ps_rulebook.specs.PlayedGames.{AreCompiled, meant_of, parts_at}
-use Rattle.ps_rulebook.proofs.PlayedGames.{games-play_as_written}
-use Rattle.ps_rulebook.proofs.RowRooms.{rows_give_room}
 use Rattle.ps_run.specs.GamesInPlay.{GameInPlay, script_in, script_on}
 use Rattle.ps_run.specs.SizedPlays.{play_in}
 use Rattle.ps_run.specs.declared.sized_play.SizedPlay.{SizedPlay}
 use Rattle.ps_stage.specs.Standings.{SessionParts, script_for}
 use Rattle.ps_trial.specs.Scripts.{PlaysAs}
-use Rattle.ps_run.proofs.Scripts.{own_table, script_is}
+use Rattle.ps_run.proofs.Scripts.{own_table}
+use Rattle.ps_run.proofs.Sources.{runs_as_written}
 use Rattle.ps_solve.specs.declared.solved.NotSearched.{NotSearched}
 use Rattle.ps_solve.specs.declared.solved.NotSearched.TheVariants.{NoLevel}
 use Rattle.ps_solve.specs.declared.solved.NotSearched.TheVariants as not_searched
 use Rattle.ps_solve.specs.declared.solved.SolvedHere.{SolvedHere}
 use Rattle.ps_solve.specs.SolvedLevels.{IsSolvedAfter, IsSolvedAt, IsSolvedHere, IsIn}
 use Rattle.ps_solve.proofs.AlikeLevels.{here_alike, in_one_level}
-use Rattle.ps_solve.proofs.PlayedKeys.{played, same_inputs}
-
--- a game that is played by its compiled programs has the runs of the game as it is written
-pub runs_as_written : (text : List ℕ) (read : Game) (entry : ℕ) (plain late : List CompiledSection) (script : Script) →
-    game text ≡ Some read → AreCompiled read.names read.rules (sections_shown plain) (sections_shown late) →
-    script ≡ script_on (parts_at read entry) plain late → SameRuns script (script_at read entry)
-runs_as_written text read entry plain late script is made own =
-    subst (λ (s : Script). SameRuns s (script_at read entry)) (sym (own ∙ script_is (parts_at read entry) plain late))
-    (games-play_as_written text read is entry plain late made own_table rows_give_room)
+use Rattle.ps_run.proofs.PlayedKeys.{played}
+use Rattle.ps_solve.proofs.PlayedKeys.{same_inputs}
 
 -- what is found from a session that keys lead to is so of the source, where scripts have the same runs
 pub found_after : (script source : Script) (session : Session) (keys : List Key) (limit : ℕ) (found : Option SolvedHere) →
@@ -55,15 +47,9 @@ pub played_as_written :
     IsSolvedHere (script_at read entry) (played (script_at read entry) keys) limit found
 played_as_written text read entry keys limit parts plain late plain_made late_made play found is made p l own plays came
     solved =
-    let plain_is : AreCompiled read.names read.rules (sections_shown plain) late_made =
-    subst (λ (s : List model.CompiledSection). AreCompiled read.names read.rules s late_made) (sym p) made in
-    let both : AreCompiled read.names read.rules (sections_shown plain) (sections_shown late) =
-    subst (λ (s : List model.CompiledSection). AreCompiled read.names read.rules (sections_shown plain) s) (sym l)
-    plain_is in
-    let script : script_in play ≡ script_on (parts_at read entry) plain late =
-    plays ∙ ap (λ (s : SessionParts). script_on s plain late) own in
     found_after (script_in play) (script_at read entry) play.session keys limit found
-    (runs_as_written text read entry plain late (script_in play) is both script) came solved
+    (runs_as_written text read entry parts plain late plain_made late_made (script_in play) is made p l own plays) came
+    solved
 
 -- where there is no answer about any level, there is none about that of an entry
 pub nothing_at : (script : Script) (session : Session) (limit entry : ℕ) (fault : NotSearched) →

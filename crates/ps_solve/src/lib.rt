@@ -6,7 +6,6 @@
 //! level, as inputs lead, and keeps each spot as a key.
 #![tactic(auto)]
 
-mod key_bytes;
 mod level_search;
 mod numbered_search;
 mod own_boards;

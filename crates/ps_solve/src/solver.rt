@@ -7,11 +7,11 @@ ghost use Rattle.ps_model.specs.board.Turns.{Script, script_at};
 ghost use Rattle.ps_model.specs.session.Sessions.{Session, is_level};
 ghost use Rattle.ps_solve.specs.SolvedLevels.{IsSolvedAfter};
 
-use crate::key_bytes::keys_of_bytes;
 use crate::solved::{NotSearched, SolvedHere};
 use crate::solving::{KeysPlayed, solve_after, solve_level};
 use ps_answers::{LevelSolver, RunSoFar, SolvableGame, Solved, SolvedAfter};
 use ps_game::{Game, read_game};
+use ps_keys::keys_of_bytes;
 use ps_levels::Entry;
 use ps_model::{Memory, Refusal};
 use ps_search::Watcher;

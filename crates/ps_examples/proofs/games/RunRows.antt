@@ -180,6 +180,7 @@ behind_a_frame = inr (
     enough = omega arith;
     goes_on = refl;
     wanting = inl (let fewer : 1 < 2 = omega arith in fewer);
+    heeded = refl;
     wrote = refl;
     few_writes = (let few : 2 ≤ 3 = omega arith in few);
   },

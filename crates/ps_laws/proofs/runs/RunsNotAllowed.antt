@@ -4,20 +4,21 @@ use Rattle.std.proofs.Common.{List, [], ◌∷◌, ◌++◌, length, refl, sym, 
 use Rattle.std.specs.List.{All}
 use Rattle.std.proofs.lemmas.List.{length-append, append-nil}
 use Rattle.std.proofs.lemmas.List.Elements.{All-head, All-tail}
-use Rattle.std.proofs.lemmas.Bool.{both_ways}
+use Rattle.std.proofs.lemmas.Bool.{both_ways, true≢false}
 use Rattle.ps_model.specs.board.Turns.{Script}
-use Rattle.ps_model.specs.game.Outputs.{output, front}
+use Rattle.ps_model.specs.game.Outputs.{opening_step, output, front}
 use Rattle.ps_model.specs.game.Tellings.{Call, Gives, Fails, ReaderCalls, Unasked, Asked, Told, read, all_bytes}
 use Rattle.ps_model.specs.game.Tellings.{Tells, idle_writes, bytes_of_call, has_failing_call, last_behind, empty_pieces}
 use Rattle.ps_model.specs.game.Tellings.{empty_reads}
 use Rattle.ps_model.specs.game.Headline.{Answer, Ends, Refuses, WantsMemory, CannotRead, CannotWrite, Answers, IsFront}
 use Rattle.ps_model.specs.game.Headline.{IsCutOff, IsPiece, AsksInTurn, ReadsInTurn, GaveNothing, IsTrueOfText}
-use Rattle.ps_model.specs.game.Headline.{script_of_text, texts_of, text_count}
+use Rattle.ps_model.specs.game.Headline.{IsHeeded, script_of_text, texts_of, text_count}
 use Rattle.ps_model.specs.declared.limits.TheConstants.{CALL_LIMIT}
 use Rattle.ps_laws.specs.Fronts.{whole_front}
 use Rattle.ps_model.specs.declared.play.Key.{Key}
+use Rattle.ps_model.specs.session.IgnoredKeys.{is_ignored}
 use Rattle.ps_model.specs.session.Keys.{keys_of}
-use Rattle.ps_laws.specs.RunsNotAllowed.{NoWantBehindAllKeys, NoWantWithoutKey}
+use Rattle.ps_laws.specs.RunsNotAllowed.{NoWantAtIgnoredKey, NoWantBehindAllKeys, NoWantWithoutKey}
 use Rattle.ps_laws.specs.RunsNotAllowed.{NoCallBehindEnding, NoReadFaultBehindEnding, NoWantBehindEnding, NoMoreCalls}
 use Rattle.ps_laws.specs.RunsNotAllowed.{NoLongCall, NoCallBehindEnd, NoOddSizedCall, NoSecondEmptyCall}
 use Rattle.ps_laws.specs.RunsNotAllowed.{NoEndingUnwritten, NoWriteUncounted, NoTextInPieces}
@@ -350,6 +351,28 @@ no_want_behind_all_keys text told script found some whole each last (inr (own, o
         let same = one (script_of_text text) own script own_found found in
         each right.keys less
         (ap (λ (s : Script). front s (read told.reading) right.keys) (sym same) ∙ sym right.wrote ∙ whole)
+    by_cases (inr nothing) = last nothing
+
+-- an only key that is ignored isn't heeded
+only_key : (script : Script) (key : Key) (keys : List Key) (count : ℕ) → keys ≡ key ∷ [] → count < length keys →
+    is_ignored script.options (opening_step script).session key ≡ true →
+    IsHeeded script (opening_step script).session keys count → ⊥
+only_key script key keys count only less ignored heeded =
+    let long : length keys ≡ 1 = ap length only in
+    let first : count ≡ 0 = omega (arith, less, long) in
+    let here = rw (only, first) at heeded in
+    true≢false (sym ignored ∙ here)
+
+pub no_want_at_ignored_key : NoWantAtIgnoredKey
+no_want_at_ignored_key text told script key found some only ignored last (inl right) = some right.wrote_nothing
+no_want_at_ignored_key text told script key found some only ignored last (inr (own, own_found, right)) =
+    by_cases right.wanting
+  where
+    by_cases : (right.keys < length (keys_of (read told.reading))) ⊎ GaveNothing told.reading → ⊥
+    by_cases (inl less) =
+        let same = one (script_of_text text) own script own_found found in
+        only_key own key (keys_of (read told.reading)) right.keys only less
+        (rw same ignored) right.heeded
     by_cases (inr nothing) = last nothing
 
 -- texts ---------------------------------------------------------------------------------------------------------------

@@ -100,6 +100,7 @@ module _ (IsSuch : Grid → Type 0) (a : Script) (plain late : List Section)
 
   pub runs-equal : SameRuns a b
   runs-equal = record {
+    options = refl;
     outputs = output-equal;
     fronts = front-equal;
     whole_fronts = whole_front-equal;

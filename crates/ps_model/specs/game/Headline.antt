@@ -2,15 +2,18 @@
 -- with the first fault that the text has, or writes exactly the output of the text's game on the keys. Where memory is
 -- refused, keys can't be read or the output can't be written, it stops and says so. Then it has written a front of the
 -- output, as said below. Whatever it answers, it asks for no more keys once those that it has read have ended the game.
-use Rattle.std.specs.Prelude.{◌≡◌, ◌≢◌, ℕ, ◌+◌, ◌<◌, ◌≤◌, true, false, ⊤, ◌⊎◌, Option, Some, option_map, List, [], ◌++◌}
-use Rattle.std.specs.Prelude.{◌∷◌, length, take}
+use Rattle.std.specs.Prelude.{◌≡◌, ◌≢◌, ℕ, zero, suc, ◌+◌, ◌<◌, ◌≤◌, true, false, ⊤, ◌⊎◌, Option, Some, option_map}
+use Rattle.std.specs.Prelude.{List, [], ◌++◌, ◌∷◌, length, take}
 use Rattle.std.specs.List.{All, concat}
 use Rattle.ps_model.specs.declared.faults.Fault.{Fault}
 use Rattle.ps_model.specs.declared.play.Ending.{Ending}
 use Rattle.ps_model.specs.declared.play.Ending.TheVariants.{EndOfKeys}
 use Rattle.ps_model.specs.declared.limits.TheConstants.{READ_LIMIT, CALL_LIMIT}
+use Rattle.ps_model.specs.declared.play.Key.{Key}
 use Rattle.ps_model.specs.session.Keys.{keys_of}
-use Rattle.ps_model.specs.session.Sessions.{Step}
+use Rattle.ps_model.specs.session.IgnoredKeys.{is_ignored}
+use Rattle.ps_model.specs.session.KeySteps.{key_step}
+use Rattle.ps_model.specs.session.Sessions.{Session, Step}
 use Rattle.ps_model.specs.text.Faults.{first_fault}
 use Rattle.ps_model.specs.game.Games.{faults, game}
 use Rattle.ps_model.specs.board.Turns.{Script, script_of}
@@ -138,9 +141,15 @@ pub record StopsAtOnce (told : Told) : Type 0 where
   pub wrote_nothing : told.wrote ≡ []
   pub writer_is_well : WriterIsWell told
 
+-- of the keys in a session the one after the first `count`, if there is one, isn't ignored where these lead
+abbrev pub IsHeeded : Script → Session → List Key → ℕ → Type 0
+IsHeeded script session [] count = ⊤
+IsHeeded script session (key ∷ keys) zero = is_ignored script.options session key ≡ false
+IsHeeded script session (key ∷ keys) (suc count) = IsHeeded script (key_step script session key).session keys count
+
 -- memory was refused in play: what was written is the opening and the texts of some keys, whole, and not fewer than
--- were read before the last call; the game went on after them. More was to be made: the text of a key that was read,
--- or, where the last call gave nothing, the line that says so
+-- were read before the last call; the game went on after them. More was to be made: what a key does that was read and
+-- isn't ignored, or, where the last call gave nothing, the line that says so
 pub record StopsForMemory (script : Script) (told : Told) : Type 0 where
   pub reads : ReadsInTurn script told.reading told.left
   pub reader_is_well : ReaderIsWell told
@@ -149,6 +158,7 @@ pub record StopsForMemory (script : Script) (told : Told) : Type 0 where
   pub enough : length (keys_of (read_before told.reading)) ≤ keys
   pub goes_on : ending_behind script (read told.reading) keys ≡ EndOfKeys
   pub wanting : (keys < length (keys_of (read told.reading))) ⊎ GaveNothing told.reading
+  pub heeded : IsHeeded script (opening_step script).session (keys_of (read told.reading)) keys
   pub wrote : told.wrote ≡ front script (read told.reading) keys
   pub few_writes : HasFewWrites told
 

@@ -4,7 +4,7 @@ use Rattle.ps_laws.proofs.runs.RunsNotAllowed.{no_odd_sized_call, no_second_empt
 use Rattle.ps_laws.proofs.runs.RunsNotAllowed.{no_empty_write, reads_what_was_there, read_fault_is_told}
 use Rattle.ps_laws.proofs.runs.RunsNotAllowed.{write_fault_is_told, no_read_fault_unasked, no_write_fault_unfailed}
 use Rattle.ps_laws.proofs.runs.RunsNotAllowed.{no_run_on_failed_devices, no_writing_unasked, writes_fronts}
-use Rattle.ps_laws.proofs.runs.RunsNotAllowed.{no_want_behind_all_keys, no_want_without_key}
+use Rattle.ps_laws.proofs.runs.RunsNotAllowed.{no_want_at_ignored_key, no_want_behind_all_keys, no_want_without_key}
 use Rattle.ps_laws.proofs.runs.RunsNotAllowed.{no_ending_unwritten, no_write_uncounted, no_text_in_pieces}
 use Rattle.ps_laws.proofs.laws_of_runs.runs_not_allowed.Goals as goal
 
@@ -15,6 +15,7 @@ returns c = record {
   no_want_behind_ending = no_want_behind_ending;
   no_want_without_key = no_want_without_key;
   no_want_behind_all_keys = no_want_behind_all_keys;
+  no_want_at_ignored_key = no_want_at_ignored_key;
   no_more_calls = no_more_calls;
   no_long_call = no_long_call;
   no_call_behind_end = no_call_behind_end;

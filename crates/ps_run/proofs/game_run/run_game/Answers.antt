@@ -20,7 +20,7 @@ returns g c =
     let script : Script = script_on c.args.game c.args.plain.now c.args.late.now in
     let written = rw c.in-Ok.ensures.script at c.in-Ok.ensures.written in
     let session = rw c.in-Ok.ensures.script at c.in-Ok.ensures.session in
-    let comes = rw (c.in-Ok.ensures.script, c.new-keys.ensures) at c.play-answer.ensures.answers in
+    let comes = rw (c.in-Ok.ensures.script, c.new.ensures) at c.play-answer.ensures.answers in
     record {
       answers = inr (comes _ (runs.opened script _ _ _ _ _ c.requires.well c.new-output.ensures written session
           c.in_default.ensures.written));

@@ -9,7 +9,7 @@ use Rattle.ps_stage.specs.Standings.{play_of, script_for}
 use Rattle.ps_stage.specs.StepsShown.{IsStopped}
 use Rattle.ps_stage.specs.declared.locations.Location.TheVariants.{Playing}
 use Rattle.ps_session.specs.Histories.{grids_of}
-use Rattle.ps_session.specs.IgnoredKeys.{is_ignored_in_level}
+use Rattle.ps_model.specs.session.IgnoredKeys.{is_ignored_in_level}
 use Rattle.ps_session.proofs.Heeded.{moved_by, restarted_by, told_ignored, undone_by}
 use Rattle.ps_session.proofs.IgnoredSteps.{in_level}
 use Rattle.ps_session.proofs.levels.key_in_level.Goals as goal

@@ -4,7 +4,7 @@ use Rattle.ps_model.specs.board.Turns.{Script}
 use Rattle.ps_model.specs.session.Sessions.{after}
 use Rattle.ps_model.specs.session.StartSteps.{enter}
 use Rattle.ps_stage.specs.Standings.{script_for}
-use Rattle.ps_session.specs.IgnoredKeys.{is_ignored_at_message}
+use Rattle.ps_model.specs.session.IgnoredKeys.{is_ignored_at_message}
 use Rattle.ps_session.proofs.Dismissed.{entry_dismissed}
 use Rattle.ps_session.proofs.IgnoredSteps.{at_entry}
 use Rattle.ps_session.proofs.messages.key_at_entry.Goals as goal

@@ -5,7 +5,7 @@ use Rattle.ps_model.specs.session.KeySteps.{gone_on}
 use Rattle.ps_model.specs.session.Sessions.{Play, Session, after}
 use Rattle.ps_stage.specs.Standings.{play_of, script_for}
 use Rattle.ps_stage.specs.StepsShown.{came, pending_shown}
-use Rattle.ps_session.specs.IgnoredKeys.{is_ignored_at_message}
+use Rattle.ps_model.specs.session.IgnoredKeys.{is_ignored_at_message}
 use Rattle.ps_session.proofs.Dismissed.{dismissed}
 use Rattle.ps_session.proofs.messages.key_at_level_message.Goals as goal
 

@@ -3,7 +3,7 @@ use Rattle.ps_model.specs.board.Turns.{Script, script_at}
 use Rattle.ps_model.specs.game.Games.{Game}
 use Rattle.ps_rulebook.specs.PlayedGames.{AreCompiled}
 use Rattle.ps_run.proofs.Scripts.{made_of}
-use Rattle.ps_solve.proofs.PlayedKeys.{played}
+use Rattle.ps_run.proofs.PlayedKeys.{played}
 use Rattle.ps_solve.proofs.SourceLevels.{played_as_written}
 use Rattle.ps_solve.proofs.solving.solve_after.Goals as goal
 

@@ -1,6 +1,7 @@
 use Rattle.std.proofs.Common.{◌≡◌, Ok, Err, subst}
+use Rattle.ps_model.specs.session.IgnoredKeys.{is_ignored}
 use Rattle.ps_run.specs.GamesInPlay.{GameInPlay, IsKeyed, script_in}
-use Rattle.ps_run.proofs.Keyed.{keyed_err, keyed_ok, not_ended}
+use Rattle.ps_run.proofs.Keyed.{keyed_err, keyed_ok, not_ignored}
 use Rattle.ps_run.proofs.Scripts.{script_same}
 use Rattle.ps_run.proofs.row_play.RowPlay.key.Goals as goal
 
@@ -26,7 +27,7 @@ returns-in-Err g c =
     subst (λ (old : GameInPlay). IsKeyed old next c.args.key c.args.output.now c.key.new.output (Err c.in-Err.stop))
     c.self.view_is
     (keyed_err lent next c.args.key c.args.output.now c.key.new.output c.in-Err.stop same c.in-Err.ensures.left
-    (not_ended lent.game.options lent.session c.args.key c.in-Err.ensures.ignored))
+    (not_ignored (is_ignored lent.game.options lent.session c.args.key) c.in-Err.ensures.ignored))
 
 pub returns : goal.returns
 returns g c =

@@ -1,8 +1,9 @@
 use Rattle.std.proofs.Common.{◌∙◌, ap, refl, rules}
+use Rattle.std.proofs.lemmas.Result.{on_ok_weaker}
 use Rattle.ps_solve.specs.Situations.{situation_of}
 use Rattle.ps_solve.specs.declared.spot_keys.SpotKey.{SpotKey}
 use Rattle.ps_solve.proofs.KeyRooms.{spot_key_room}
-use Rattle.ps_solve.proofs.KeptSituations.{key_known, key_stands, kept_on, number_within, same_situations, told_if_well}
+use Rattle.ps_solve.proofs.KeptSituations.{key_known, key_stands, kept_on, number_within, same_situations}
 use Rattle.ps_solve.proofs.numbered_search.NumberedSearchMoves.go.Goals as goal
 
 pub spot_key-key-requires : goal.spot_key-key-requires
@@ -31,7 +32,7 @@ go-requires g c = (
 
 pub returns-clause-here : goal.returns-clause-here
 returns-clause-here g c =
-    told_if_well c.go.result
+    on_ok_weaker c.go.result
     (λ here. here
     ∙ key_stands c.args.self.now.search.keys c.args.self.now.situations c.args.key.now.board.words
     c.spot_key-key.result.board.words c.args.key.now.situation (situation_of c.spot_key-key.result)

@@ -3,7 +3,7 @@
 ghost use Rattle.std.specs.Prelude.{◌≡◌, ◌++◌, IfOk, OnOk, option_to_list};
 ghost use Rattle.ps_model.specs.session.Keys.{keys_of};
 
-use ps_keys::Keys;
+use crate::keys::Keys;
 use ps_model::{Key, Memory};
 use std::alloc::Global;
 
@@ -22,7 +22,7 @@ fn push_some(keys: &mut Vec<Key>, key: Option<Key>) -> Result<(), Memory>
 /// # Errors
 ///
 /// `Memory`.
-pub(crate) fn keys_of_bytes(alloc: Global, bytes: &[u8]) -> Result<Vec<Key>, Memory>
+pub fn keys_of_bytes(alloc: Global, bytes: &[u8]) -> Result<Vec<Key>, Memory>
     ensures { IfOk result (λ keys. keys.items ≡ keys_of bytes.now) }
 {
     let mut reader = Keys::new();

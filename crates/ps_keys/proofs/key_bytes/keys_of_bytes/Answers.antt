@@ -1,5 +1,5 @@
-use Rattle.ps_replay.proofs.KeyBytes.{read_one_more}
-use Rattle.ps_replay.proofs.key_bytes.keys_of_bytes.Goals as goal
+use Rattle.ps_keys.proofs.KeyBytes.{read_one_more}
+use Rattle.ps_keys.proofs.key_bytes.keys_of_bytes.Goals as goal
 
 pub loop-byte-preserved : goal.loop-byte-preserved
 loop-byte-preserved c =

@@ -1,5 +1,5 @@
-use Rattle.ps_replay.proofs.KeyBytes.{HaveRead}
-use Rattle.ps_replay.proofs.key_bytes.keys_of_bytes.Given as goal
+use Rattle.ps_keys.proofs.KeyBytes.{HaveRead}
+use Rattle.ps_keys.proofs.key_bytes.keys_of_bytes.Given as goal
 
 -- the bytes passed by are read
 abbrev pub invariant-loop-byte : goal.invariant-loop-byte

@@ -1,0 +1,15 @@
+use Rattle.std.proofs.Common.{◌∙◌, ap}
+use Rattle.ps_rulebook.specs.PlayedGames.{meant_of}
+use Rattle.ps_stage.specs.Standings.{SessionParts}
+use Rattle.ps_run.proofs.Scripts.{script_same}
+use Rattle.ps_run.proofs.row_play.RowPlay.resume.Goals as goal
+
+pub resume-requires : goal.resume-requires
+resume-requires g c =
+    ap (λ (game : SessionParts). game.names) c.in_ok-stage.ensures.game ∙ c.requires.names
+
+pub returns-clause-script : goal.returns-clause-script
+returns-clause-script g c =
+    script_same c.args.game c.in_ok-session.session.game c.args.plain.now c.args.late.now c.in_ok-rules.rules.plain
+    c.in_ok-rules.rules.late (c.in_ok-session.ensures.game ∙ c.in_ok-stage.ensures.game)
+    (ap meant_of c.in_ok-rules.ensures.plain) (ap meant_of c.in_ok-rules.ensures.late)
