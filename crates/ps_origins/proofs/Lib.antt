@@ -1,0 +1,2 @@
+mod OriginsMade
+mod ProgramsInOrder
