@@ -16,7 +16,8 @@
    with threads.
 
    Memory is taken by malloc and realloc, and given back by free: a run takes that of its game, and up to twice its output. A game keeps its
-   text and what was read of it. A session keeps that, too, which it shares, and a byte for each key. */
+   text and what was read of it. A session keeps that, too, which it shares, and a byte for each key. After a look it also
+   keeps the boards of its level, and those that undo goes back to; a copy keeps only the former. */
 #ifndef LIZHAKOVEN_H
 #define LIZHAKOVEN_H
 
@@ -174,8 +175,8 @@ void lzk_close(lzk_game *game);
    But for LZK_DONE the session is as before. */
 uint32_t lzk_start(lzk_game *game, size_t level, lzk_session *session);
 
-/* Gives keys to a session, which come after those that it has. They are played where it is asked what they lead to. An arrow of three
-   bytes may come in parts.
+/* Gives keys to a session, which come after those that it has. They are played when a call asks where they lead. Looks play each of them
+   once. An arrow of three bytes may come in parts.
 
    LZK_DONE    the session has the keys
    LZK_MEMORY  out of memory: the session is as before, and the same keys may be given again

@@ -298,8 +298,8 @@ class Session:
     """A session, which is given keys one after the other. It is made by `start` or `copy`, and ended by `end`, by the end of a `with`, or
     once nobody has it any more.
 
-    It keeps its keys. `look` and `text` play them from the start, which takes some microseconds a key. Whatever a call raises, the session
-    is as before, and the same may be asked again.
+    It keeps its keys, and where they led at the last look. `look` plays those that are new; `text` plays all of them, which takes about a
+    microsecond a key. Whatever a call raises, the session is as before, and the same may be asked again.
     """
 
     def __init__(self):

@@ -149,14 +149,40 @@ def wrong_by_one(engine, text, keys, place, made):
         halves, texts = [one.copy()], [one.text()]
         for at in range(len(keys)):
             one.play(keys[at:at + 1])
+            if at % 3:
+                one.look()
             halves.append(one.copy())
             texts.append(one.text())
         if one.look() != place or b"".join(texts) != made.output.removesuffix(b"* end of keys\n"):
             return "comes elsewhere key by key, or writes something else"
     for at, half in enumerate(halves):
-        half.play(keys[at:])
+        if at % 5 == 0 and (wrong := wrong_taken_back(engine, text, keys[:at], half.copy())):
+            return wrong
+        half.play(keys[at:at + 1])
+        half.look()
+        half = half.copy()
+        half.play(keys[at + 1:])
         if half.look() != place or half.text() != b"".join(texts[at:]):
             return "comes elsewhere by a copy, or writes something else"
+    return None
+
+
+def wrong_taken_back(engine, text, keys, copy):
+    """What is wrong with a copy of a session with these keys, from which keys are taken back that were played before; or nothing."""
+    with engine.start(text) as wanted:
+        for key in (b"d", b"z", b"zz", b"r", b"x", b"z"):
+            copy.play(key)
+            keys += key
+        wanted.play(keys)
+        if copy.look() != wanted.look():
+            return "comes elsewhere where a copy takes back"
+    for key in (b"z", b"a", b"z"):
+        copy.play(key)
+        keys += key
+        with engine.start(text) as wanted:
+            wanted.play(keys)
+            if copy.look() != wanted.look():
+                return "comes elsewhere where a copy takes back key by key"
     return None
 
 
@@ -310,12 +336,13 @@ class Held:
         self.room = len(place.cells) // 4
 
     def look(self, session, is_there=True):
-        """The status of a look; another number where cells or place aren't as the status says."""
+        """The status of a look; another number where cells or place aren't as the status says. Whether the session is there isn't looked
+        at where that is nothing."""
         cells, place = (ctypes.c_uint32 * self.room)(*[AFTER] * self.room), self.engine._Place(9, 9, 9, 9, 9)
         status = self.library.lzk_look(session, cells, self.room, place)
         if status != DONE:
             return status if all(cell == AFTER for cell in cells) and place.phase == 0 else -1
-        return status if (bytes(cells) == self.wanted.cells) == is_there else -1
+        return status if is_there is None or (bytes(cells) == self.wanted.cells) == is_there else -1
 
     def tell(self, session, first, room):
         """The status of a text from a byte on; another number where the output or its length aren't as the status says."""
@@ -352,12 +379,33 @@ def wrong_held(engine, library, text, keys):
         yield "a copy isn't where its session is, or isn't apart from it"
     if library.lzk_start(game, 99, session) != NO_LEVEL or not session.is_open:
         yield "a start at no level ends a session"
+    yield from wrong_rested(engine, library, game, text, keys)
     if library.lzk_open(b"", 0, game, fault) != REFUSED or fault.line != 1 or not game.is_open:
         yield "an opening of no game closes one"
     yield from wrong_held_rooms(held, session)
     yield from wrong_names(engine, library, game)
     yield from wrong_ends(held, game, session, copy)
     yield from wrong_rounds(library, text, game, session, fault)
+
+
+def wrong_rested(engine, library, game, text, keys):
+    """What is wrong with a session that goes on from where its last look left it, and with its copy, of which each growth is refused in
+    turn. The copy plays a key more, or takes one back."""
+    half = len(keys) // 2
+    for last in (b"", b"a", b"z"):
+        with engine.start(text) as own:
+            own.play(keys + last)
+            held = Held(engine, library, own.look(), own.text())
+        session, copy = engine._Handle(), engine._Handle()
+        made = [lambda: library.lzk_start(game, 1, session), lambda: library.lzk_keys(session, keys, half),
+                lambda: held.look(session, None), lambda: library.lzk_keys(session, keys[half:], len(keys) - half),
+                lambda: held.look(session, None), lambda: library.lzk_copy(session, copy),
+                lambda: library.lzk_keys(copy, last, len(last)), lambda: held.look(copy), lambda: held.tell(copy, 0, len(held.text)),
+                lambda: library.lzk_keys(session, last, len(last)), lambda: held.look(session)]
+        if not all(is_refused_in_turn(library, call) for call in made):
+            yield f"a session that goes on from its last look by {last} comes to something else than it is out of memory, or elsewhere"
+        library.lzk_end(session)
+        library.lzk_end(copy)
 
 
 def wrong_ends(held, game, session, copy):
@@ -416,6 +464,22 @@ def wrong_held_rooms(held, session):
 def blocks_of(kind):
     """The blocks of a kind of text on the page."""
     return re.findall(rf"^```{kind}\n(.*?)^```", PAGE.read_text(), re.M | re.S)
+
+
+def wrong_installs(room):
+    """What is wrong with what is put below a folder: the library by two words of ./play, and the player by one of them."""
+    for word, has_player in (("--install", True), ("--library", False)):
+        prefix = room / word.strip("-")
+        done = subprocess.run([TOP / "play", word, prefix], capture_output=True, text=True)
+        if done.returncode != 0:
+            yield f"./play {word} fails: {done.stderr}"
+            continue
+        names = ("include/lizhakoven.h", "lib/liblizhakoven.a", "lib/liblizhakoven.so", "lib/pkgconfig/lizhakoven.pc")
+        lacking = [name for name in names if not (prefix / name).exists()]
+        if lacking or len([*prefix.glob("lib/python3*/site-packages/lizhakoven.py")]) != 1:
+            yield f"./play {word} leaves out a part of the library: {' '.join(lacking) or 'the module'}"
+        if (prefix / "bin/ps_play").exists() != has_player:
+            yield f"./play {word} {'leaves out the player' if has_player else 'puts a player'}"
 
 
 def wrong_examples(room):

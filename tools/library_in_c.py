@@ -93,7 +93,7 @@ static void play_levels(const uint8_t *text, size_t text_length, const uint8_t *
     MUST(lzk_check(text, text_length, &finding), LZK_DONE);
     for (size_t level = 1; level <= finding.size.levels; level++) {
         lzk_game game = LZK_NO_GAME;
-        lzk_session session = LZK_NO_SESSION, copy = LZK_NO_SESSION;
+        lzk_session session = LZK_NO_SESSION, copy = LZK_NO_SESSION, further = LZK_NO_SESSION;
         MUST(lzk_open(text, text_length, &game, &fault), LZK_DONE);
         if (level == 1) name_all(&game, finding.size.objects);
         MUST(lzk_start(&game, level, &session), LZK_DONE);
@@ -103,6 +103,10 @@ static void play_levels(const uint8_t *text, size_t text_length, const uint8_t *
         if (level % 2) lzk_end(&session);
         MUST(lzk_keys(&copy, keys, keys_length), LZK_DONE);
         look_around(&copy);
+        MUST(lzk_copy(&copy, &further), LZK_DONE);
+        MUST(lzk_keys(&further, (const uint8_t *)"dzz", level % 3), LZK_DONE);
+        look_around(&further);
+        lzk_end(&further);
         MUST(lzk_look(&session, &(uint32_t){0}, 0, &(lzk_place){0}), level % 2 ? LZK_CLOSED : LZK_NO_ROOM);
         MUST(lzk_open((const uint8_t *)"", 0, &game, &fault), LZK_REFUSED);
         lzk_end(&copy);

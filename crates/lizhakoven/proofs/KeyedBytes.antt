@@ -62,19 +62,7 @@ key_written script session next kept read byte key output now brings steps text 
 pub opened : (script : Script) → whole_front script [] ≡ (opening_step script).text
 opened script = whole_front-is script [] ∙ append-nil (opening_step script).text
 
--- one more byte of several
-pub read_more :
-    (script own : Script) (session next : Session) (kept left : Held) (bytes : List ℕ) (i : ℕ) → i < length bytes →
-    own ≡ script → HasRead script session kept (take i bytes) →
-    ((read : List ℕ) → HasRead own session kept read → HasRead own next left (read ++ get_or bytes i 0 ∷ [])) →
-    HasRead script next left (take (i + 1) bytes)
-read_more script own session next kept left bytes i within same had goes =
-    let there : HasRead script next left (take i bytes ++ get_or bytes i 0 ∷ []) =
-    subst (λ (s : Script). HasRead s next left (take i bytes ++ get_or bytes i 0 ∷ [])) same
-    (goes (take i bytes) (subst (λ (s : Script). HasRead s session kept (take i bytes)) (sym same) had)) in
-    subst (λ (read : List ℕ). HasRead script next left read) (sym (bytes_to bytes i within)) there
-
--- and what it writes
+-- one more byte of several, and what it writes
 pub written_more :
     (script own : Script) (session next : Session) (kept left : Held) (bytes : List ℕ) (i : ℕ) (output now : List ℕ) →
     i < length bytes → own ≡ script → HasWritten script session kept (take i bytes) output →

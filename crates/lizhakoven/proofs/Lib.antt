@@ -1,7 +1,10 @@
 pub mod Boxes
+pub mod Goings
 pub mod Handles
 pub mod HeldCalls
+pub mod HistoriesLeftOut
 pub mod InMemory
 pub mod KeyedBytes
+pub mod PlayedOn
 pub mod SeenPlaces
 pub mod ToldCells

@@ -4,21 +4,9 @@ use Rattle.std.proofs.Common.{Result, arith}
 use Rattle.std.specs.Prelude.{IfOk}
 use Rattle.std.proofs.lemmas.Bool.Decides.{nat_tests}
 use Rattle.ps_model.specs.declared.play.Ending.TheVariants.{TheEnd, Quit, EndOfKeys}
-use Rattle.ps_model.specs.board.Turns.{Script, script_at}
-use Rattle.ps_model.specs.game.Games.{Game, game}
-use Rattle.ps_model.specs.meaning.Compiled as model
 use Rattle.ps_model.specs.session.LevelLines.{Entry}
 use Rattle.ps_model.specs.session.Sessions.{Pending, Play, Session, Playing, Waiting, AtMessage, Ended}
 use Rattle.ps_model.specs.session.Solving.{spot, spot_of}
-use Rattle.ps_laws.specs.AlikeScripts.{SameRuns}
-use Rattle.ps_program.specs.ProgramShown.{sections_shown}
-use Rattle.ps_program.specs.declared.program.CompiledSection.{CompiledSection}
-use Rattle.ps_rulebook.specs.PlayedGames.{AreCompiled, parts_at}
-use Rattle.ps_rulebook.proofs.PlayedGames.{games-play_as_written}
-use Rattle.ps_rulebook.proofs.RowRooms.{rows_give_room}
-use Rattle.ps_run.specs.GamesInPlay.{script_on}
-use Rattle.ps_run.proofs.Scripts.{own_table, script_is}
-use Rattle.ps_stage.specs.Standings.{SessionParts}
 use Rattle.ps_stage.specs.StepsShown.{stands}
 use Rattle.ps_stage.specs.declared.locations.Pending as staged
 use Rattle.ps_session.specs.Phases.{phase_of}
@@ -109,21 +97,3 @@ seen_there entries session other before after answer same is =
 pub text_there : {E : Type 0} (answer : Result (List ℕ) E) (text other : List ℕ) → text ≡ other →
     IfOk answer (λ wrote. wrote ≡ text) → IfOk answer (λ wrote. wrote ≡ other)
 text_there answer text other same is = subst (λ (t : List ℕ). IfOk answer (λ wrote. wrote ≡ t)) same is
-
--- a game in play by its compiled programs has the runs of the game as it is written
-pub runs_as_written :
-    (text : List ℕ) (read : Game) (entry : ℕ) (parts : SessionParts) (plain late : List CompiledSection)
-    (plain_made late_made : List model.CompiledSection) (script : Script) → game text ≡ Some read →
-    AreCompiled read.names read.rules plain_made late_made → sections_shown plain ≡ plain_made →
-    sections_shown late ≡ late_made → parts ≡ parts_at read entry → script ≡ script_on parts plain late →
-    SameRuns script (script_at read entry)
-runs_as_written text read entry parts plain late plain_made late_made script is made p l own plays =
-    let plain_is : AreCompiled read.names read.rules (sections_shown plain) late_made =
-    subst (λ (s : List model.CompiledSection). AreCompiled read.names read.rules s late_made) (sym p) made in
-    let both : AreCompiled read.names read.rules (sections_shown plain) (sections_shown late) =
-    subst (λ (s : List model.CompiledSection). AreCompiled read.names read.rules (sections_shown plain) s) (sym l)
-    plain_is in
-    let same : script ≡ script_on (parts_at read entry) plain late =
-    plays ∙ ap (λ (s : SessionParts). script_on s plain late) own in
-    subst (λ (s : Script). SameRuns s (script_at read entry)) (sym (same ∙ script_is (parts_at read entry) plain late))
-    (games-play_as_written text read is entry plain late both own_table rows_give_room)

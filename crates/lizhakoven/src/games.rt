@@ -77,9 +77,10 @@ fn name_in(
 /// numbered from 0 in the order of OBJECTS. Answers the number of a status. The length is written anew, whatever stood
 /// there.
 ///
-/// `Done`: `length` bytes are written, and the rest of `name` is as it was. `NoRoom`: the name has `length` bytes, which
-/// is more than there is room for; `name` is as it was. `NoObject`: the game has no object of that number. `Memory`,
-/// `Closed`: the handle is closed. In these three `name` is as it was, and the length is 0. The game stays open.
+/// `Done`: `length` bytes are written, and the rest of `name` is as it was. `NoRoom`: the name has `length` bytes,
+/// which is more than there is room for; `name` is as it was. `NoObject`: the game has no object of that number.
+/// `Memory`, `Closed`: the handle is closed. In these three `name` is as it was, and the length is 0. The game stays
+/// open.
 #[unsafe(no_mangle)]
 pub extern "C" fn lzk_object_name(
     alloc: Global,

@@ -6,6 +6,7 @@ ghost use Rattle.ps_stage.specs.Playable.{ArePlayable};
 ghost use Rattle.lizhakoven.specs.HeldSessions.{HasText, IsAt, with_keys};
 
 use crate::looking::{look_from, text_from};
+use crate::played_keys::{PlayedKeys, copied_if};
 use crate::seeing::Seen;
 use ps_game::Game;
 use ps_model::Memory;
@@ -15,11 +16,13 @@ use std::marker::Model;
 use std::rc::Rc;
 
 /// A session: its game, which it shares with its copies and with others that began there, the entry at which it began,
-/// and all its keys. What it has come to is what these keys lead to.
+/// and all its keys. What it has come to is what these keys lead to. What the first of them have led to is kept, if
+/// they were played.
 pub struct HeldSession {
     game: Rc<Game>,
     entry: usize,
     keys: Vec<u8>,
+    played: Option<PlayedKeys>,
 }
 
 /// Written out, so that a function that owns a session calls this where it returns, instead of dropping its parts.
@@ -29,6 +32,7 @@ impl Drop for HeldSession {
             game: _game,
             entry: _,
             keys: _keys,
+            played: _played,
         } = self;
     }
 }
@@ -37,12 +41,16 @@ impl Model for HeldSession {
     ghost use Rattle.ps_model.specs.session.RoomSizes.{HasRoomSize};
     ghost use Rattle.ps_stage.specs.Playable.{ArePlayable};
     ghost use Rattle.lizhakoven.specs.HeldSessions.{HeldValue};
+    ghost use Rattle.lizhakoven.specs.PlayedKeys.{ArePlayed, IsOfKeysIf};
 
     ghost Value = { HeldValue };
 
     ghost view = { λ s. record { read = s.game.value; entry = s.entry; keys = s.keys.items } };
 
-    ghost invariant = { λ s. ArePlayable s.game.value.names s.game.value.entries × HasRoomSize s.game.value.options };
+    ghost invariant = { λ s. ArePlayable s.game.value.names s.game.value.entries
+        × (HasRoomSize s.game.value.options
+        × (IsOfKeysIf s.game.value.names s.keys.items s.played
+        × ArePlayed s.game.value s.entry s.keys.items s.played)) };
 }
 
 impl HeldSession {
@@ -61,6 +69,7 @@ impl HeldSession {
             game,
             entry,
             keys: Vec::new(alloc),
+            played: None,
         })
     }
 
@@ -69,15 +78,18 @@ impl HeldSession {
     /// # Errors
     ///
     /// `Memory`.
-    pub fn copied(&self, alloc: Global) -> Result<HeldSession, Memory>
-        ensures { IfOk result (λ session. session ≡ self.now) }
+    pub fn copied(&mut self, alloc: Global) -> Result<HeldSession, Memory>
+        ensures same { self.new ≡ self.old }
+        ensures copy { IfOk result (λ session. session ≡ self.old) }
     {
         let keys = Vec::from_slice(alloc, &self.keys)?;
         let game = self.game.clone()?;
+        let played = copied_if(alloc, &self.game, self.entry, &mut self.played)?;
         Ok(HeldSession {
             game,
             entry: self.entry,
             keys,
+            played,
         })
     }
 
@@ -94,16 +106,25 @@ impl HeldSession {
         Ok(())
     }
 
-    /// Plays its keys, and tells where they lead, with the cells at the front of `cells`.
+    /// Plays its keys, but for those that are played already, and tells where they lead, with the cells at the front of
+    /// `cells`.
     ///
     /// # Errors
     ///
-    /// `Memory`, and the cells are as before.
-    pub fn look(&self, alloc: Global, cells: &mut [u32]) -> Result<Seen, Memory>
-        ensures seen { IfOk result (λ seen. IsAt self.now cells.old cells.new seen) }
+    /// `Memory`, and the cells are as before. The next look may play all keys.
+    pub fn look(&mut self, alloc: Global, cells: &mut [u32]) -> Result<Seen, Memory>
+        ensures same { self.new ≡ self.old }
+        ensures seen { IfOk result (λ seen. IsAt self.old cells.old cells.new seen) }
         ensures kept { OnErr result (cells.new ≡ cells.old) }
     {
-        look_from(alloc, &self.game, self.entry, &self.keys, cells)
+        look_from(
+            alloc,
+            &self.game,
+            self.entry,
+            &self.keys,
+            &mut self.played,
+            cells,
+        )
     }
 
     /// Plays its keys, and tells all that is written since its start.

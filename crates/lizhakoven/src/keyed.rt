@@ -1,12 +1,14 @@
 //! A game in play after the keys of bytes.
 
-ghost use Rattle.std.specs.Prelude.{◌≡◌, ◌++◌, ◌∷◌, [], ℕ, IfOk, List, OnOk};
+ghost use Rattle.std.specs.Prelude.{◌≡◌, ◌++◌, ◌∷◌, [], ℕ, Bool, IfOk, List, OnOk, drop};
 ghost use Rattle.ps_laws.specs.Fronts.{session_of, whole_front};
 ghost use Rattle.ps_model.specs.declared.limits.TheConstants.{SIDE_LIMIT};
 ghost use Rattle.ps_run.specs.GamesInPlay.{script_in, script_on};
 ghost use Rattle.ps_stage.specs.Playable.{EntriesFit};
-ghost use Rattle.lizhakoven.specs.PlayedKeys.{HasRead, HasWritten};
+ghost use Rattle.lizhakoven.specs.PlayedKeys.{AreLedTo, AreLedToIf, CanGoOn, CanPlay, CanPlayByte, HasPlayed};
+ghost use Rattle.lizhakoven.specs.PlayedKeys.{HasWritten, IsOfKeys, IsOfKeysIf};
 
+use crate::played_keys::PlayedKeys;
 use ps_keys::Keys;
 use ps_model::Memory;
 use ps_program::CompiledSection;
@@ -27,8 +29,9 @@ fn play_byte(
     output: &mut OutputText,
 ) -> Result<(), Memory>
     ensures script { script_in play.new ≡ script_in play.old }
-    ensures read { OnOk result ((read : List ℕ) → HasRead (script_in play.old) play.old.session keys.old read
-        → HasRead (script_in play.old) play.new.session keys.new (read ++ byte ∷ [])) }
+    ensures played { OnOk result ((is_whole : Bool) (read : List ℕ) → CanPlayByte is_whole byte
+        → HasPlayed is_whole (script_in play.old) play.old.session keys.old read
+        → HasPlayed is_whole (script_in play.old) play.new.session keys.new (read ++ byte ∷ [])) }
     ensures wrote { OnOk result ((read : List ℕ)
         → HasWritten (script_in play.old) play.old.session keys.old read output.old
         → HasWritten (script_in play.old) play.new.session keys.new (read ++ byte ∷ []) output.new) }
@@ -44,15 +47,20 @@ fn play_byte(
 /// # Errors
 ///
 /// `Memory`.
-fn play_bytes(play: &mut GamePlay<'_>, bytes: &[u8], output: &mut OutputText) -> Result<(), Memory>
+fn play_bytes(
+    play: &mut GamePlay<'_>,
+    keys: &mut Keys,
+    bytes: &[u8],
+    output: &mut OutputText,
+) -> Result<(), Memory>
     ensures script { script_in play.new ≡ script_in play.old }
-    ensures session { OnOk result (play.old.session ≡ session_of (script_in play.old) []
-        → play.new.session ≡ session_of (script_in play.old) bytes.now) }
+    ensures played { OnOk result ((is_whole : Bool) (read : List ℕ) → CanPlay is_whole bytes.now
+        → HasPlayed is_whole (script_in play.old) play.old.session keys.old read
+        → HasPlayed is_whole (script_in play.old) play.new.session keys.new (read ++ bytes.now)) }
 {
-    let mut keys = Keys::new();
     for byte in bytes {
         output.clear();
-        play_byte(play, &mut keys, *byte, output)?;
+        play_byte(play, keys, *byte, output)?;
     }
     Ok(())
 }
@@ -74,7 +82,105 @@ fn write_texts(play: &mut GamePlay<'_>, bytes: &[u8], output: &mut OutputText) -
     Ok(())
 }
 
-/// A game in play, by these sections of its rules, after the keys of bytes from where it begins. It is to be ended.
+/// A game in play, and what is held of an arrow. It has all boards that undo goes back to, or may lack some. The play
+/// is to be ended.
+pub struct Going<'g> {
+    pub play: GamePlay<'g>,
+    pub keys: Keys,
+    pub is_whole: bool,
+}
+
+/// A game in play goes on by the keys of bytes. What they write is thrown away.
+///
+/// # Errors
+///
+/// `Memory`.
+fn play_on<'g>(
+    play: GamePlay<'g>,
+    keys: Keys,
+    is_whole: bool,
+    bytes: &[u8],
+    output: &mut OutputText,
+) -> Result<Going<'g>, Memory>
+    ensures script { IfOk result (λ going. script_in going.play ≡ script_in play.entry) }
+    ensures whole { IfOk result (λ going. going.is_whole ≡ is_whole) }
+    ensures played { IfOk result (λ going. (read : List ℕ) → CanPlay is_whole bytes.now
+        → HasPlayed is_whole (script_in play.entry) play.entry.session keys read
+        → HasPlayed is_whole (script_in play.entry) going.play.session going.keys (read ++ bytes.now)) }
+{
+    let (mut play, mut keys) = (play, keys);
+    if let Err(Memory) = play_bytes(&mut play, &mut keys, bytes, output) {
+        play.end();
+        return Err(Memory);
+    }
+    Ok(Going {
+        play,
+        keys,
+        is_whole,
+    })
+}
+
+/// A game in play, by these sections of its rules, after the keys of bytes from where it begins.
+///
+/// # Errors
+///
+/// `Memory`.
+fn play_all<'g>(
+    alloc: Global,
+    game: SessionGame<'g>,
+    plain: &'g [CompiledSection<'g>],
+    late: &'g [CompiledSection<'g>],
+    bytes: &[u8],
+) -> Result<Going<'g>, Memory>
+    requires { EntriesFit SIDE_LIMIT game.entries }
+    ensures script { IfOk result (λ going.
+        script_in going.play ≡ script_on game.entry plain.entry.now late.entry.now) }
+    ensures played { IfOk result (λ going. HasPlayed going.is_whole
+        (script_on game.entry plain.entry.now late.entry.now) going.play.session going.keys bytes.now) }
+{
+    let mut output = OutputText::new(alloc);
+    let play = GamePlay::start(alloc, game, plain, late, &mut output)?;
+    let going = play_on(play, Keys::new(), true, bytes, &mut output)?;
+    Ok(going)
+}
+
+/// A game in play, by these sections of its rules, after the keys of bytes, of which what is kept has played the first.
+///
+/// # Errors
+///
+/// `Memory`.
+fn play_others<'g>(
+    alloc: Global,
+    game: SessionGame<'g>,
+    plain: &'g [CompiledSection<'g>],
+    late: &'g [CompiledSection<'g>],
+    bytes: &[u8],
+    before: PlayedKeys,
+) -> Result<Going<'g>, Memory>
+    requires fit { EntriesFit SIDE_LIMIT game.entries }
+    requires of_keys { IsOfKeys game.names bytes.now before }
+    requires goes_on { CanPlay before.is_whole (drop before.count bytes.now) }
+    ensures script { IfOk result (λ going.
+        script_in going.play ≡ script_on game.entry plain.entry.now late.entry.now) }
+    ensures played { let script = script_on game.entry plain.entry.now late.entry.now in
+        AreLedTo script bytes.now before
+        → IfOk result (λ going. HasPlayed going.is_whole script going.play.session going.keys bytes.now) }
+{
+    let PlayedKeys {
+        rested,
+        keys,
+        count,
+        is_whole,
+    } = before;
+    let (_, more) = bytes.split_at(count);
+    let mut output = OutputText::new(alloc);
+    let play = GamePlay::resume(alloc, game, plain, late, rested)?;
+    let going = play_on(play, keys, is_whole, more, &mut output)?;
+    Ok(going)
+}
+
+/// A game in play, by these sections of its rules, after the keys of bytes from where it begins. Where something is
+/// kept of the first of them, only the others are played.
 ///
 /// # Errors
 ///
@@ -85,18 +191,21 @@ pub fn play_keys<'g>(
     plain: &'g [CompiledSection<'g>],
     late: &'g [CompiledSection<'g>],
     bytes: &[u8],
-) -> Result<GamePlay<'g>, Memory>
-    requires { EntriesFit SIDE_LIMIT game.entries }
-    ensures script { IfOk result (λ play. script_in play ≡ script_on game.entry plain.entry.now late.entry.now) }
-    ensures session { IfOk result (λ play. play.session ≡ session_of (script_in play) bytes.now) }
+    before: Option<PlayedKeys>,
+) -> Result<Going<'g>, Memory>
+    requires fit { EntriesFit SIDE_LIMIT game.entries }
+    requires of_keys { IsOfKeysIf game.names bytes.now before }
+    requires goes_on { CanGoOn bytes.now before }
+    ensures script { IfOk result (λ going.
+        script_in going.play ≡ script_on game.entry plain.entry.now late.entry.now) }
+    ensures played { let script = script_on game.entry plain.entry.now late.entry.now in
+        AreLedToIf script bytes.now before
+        → IfOk result (λ going. HasPlayed going.is_whole script going.play.session going.keys bytes.now) }
 {
-    let mut output = OutputText::new(alloc);
-    let mut play = GamePlay::start(alloc, game, plain, late, &mut output)?;
-    if let Err(Memory) = play_bytes(&mut play, bytes, &mut output) {
-        play.end();
-        return Err(Memory);
+    match before {
+        None => play_all(alloc, game, plain, late, bytes),
+        Some(before) => play_others(alloc, game, plain, late, bytes, before),
     }
-    Ok(play)
 }
 
 /// What a game writes that is played by these sections of its rules: its opening, and the texts of the keys of bytes.

@@ -9,9 +9,11 @@ ghost use Rattle.ps_model.specs.game.Games.{Game as GameRead, game as game_in};
 ghost use Rattle.ps_model.specs.session.RoomSizes.{HasRoomSize};
 ghost use Rattle.ps_rulebook.specs.PlayedGames.{AreCompiled, parts_at};
 ghost use Rattle.ps_stage.specs.Playable.{ArePlayable, EntriesFit};
+ghost use Rattle.lizhakoven.specs.PlayedKeys.{AreLedToIf, ArePlayed, IsOfKeysIf};
 ghost use Rattle.lizhakoven.specs.Places.{IsSeen};
 
-use crate::keyed::{play_keys, text_of_keys};
+use crate::keyed::{Going, play_keys, text_of_keys};
+use crate::played_keys::{PlayedKeys, usable};
 use crate::seeing::{Seen, see};
 use ps_compile::{CompiledPrograms, compile};
 use ps_game::Game;
@@ -22,56 +24,77 @@ use ps_screen::OutputText;
 use ps_stage::SessionGame;
 use std::alloc::Global;
 
-/// Plays keys in a game by the programs that its rules compile to, and tells where they lead.
+/// Plays keys in a game by the programs that its rules compile to, but for those that are played already, and tells
+/// where they lead. What they lead to is kept.
 ///
 /// # Errors
 ///
-/// `Memory`, and the cells are as before.
+/// `Memory`: the cells are as before, and nothing may be kept.
 fn look_compiled(
     alloc: Global,
     parts: SessionGame<'_>,
     compiled: &CompiledPrograms<'_>,
     entries: &[Entry],
     keys: &[u8],
+    played: &mut Option<PlayedKeys>,
     cells: &mut [u32],
 ) -> Result<Seen, Memory>
     requires fit { EntriesFit SIDE_LIMIT parts.entries }
+    requires of_keys { IsOfKeysIf parts.names keys.now played.old }
+    ensures of_keys { IsOfKeysIf parts.entry.names keys.now played.new }
+    ensures led_to { (text : List ℕ) (game : GameRead) (entry : ℕ) → game_in text ≡ Some game
+        → parts.entry ≡ parts_at game entry
+        → AreCompiled game.names game.rules compiled.now.plain compiled.now.late
+        → AreLedToIf (script_at game entry) keys.now played.old
+        → AreLedToIf (script_at game entry) keys.now played.new }
     ensures seen { (text : List ℕ) (game : GameRead) (entry : ℕ) → game_in text ≡ Some game
         → parts.entry ≡ parts_at game entry
         → AreCompiled game.names game.rules compiled.now.plain compiled.now.late
+        → AreLedToIf (script_at game entry) keys.now played.old
         → IfOk result (λ seen. IsSeen (entries_shown entries.now) (session_of (script_at game entry) keys.now)
         cells.old cells.new seen) }
     ensures kept { OnErr result (cells.new ≡ cells.old) }
 {
     let (plain, late) = (compiled.plain.sections(), compiled.late.sections());
-    let play = play_keys(alloc, parts, plain, late, keys)?;
+    let before = usable(played.take(), keys);
+    let going = play_keys(alloc, parts, plain, late, keys, before)?;
+    let Going {
+        play,
+        keys: held,
+        is_whole,
+    } = going;
     let seen = see(alloc, entries, &play, cells);
-    play.end();
+    *played = Some(PlayedKeys::of(play, held, keys.len(), is_whole));
     seen
 }
 
-/// Plays keys in a game that is begun at an entry, and tells where they lead.
+/// Plays keys in a game that is begun at an entry, but for those that are played already, and tells where they lead.
+/// What they lead to is kept.
 ///
 /// # Errors
 ///
-/// `Memory`, and the cells are as before.
+/// `Memory`: the cells are as before, and nothing may be kept.
 pub fn look_from(
     alloc: Global,
     game: &Game,
     entry: usize,
     keys: &[u8],
+    played: &mut Option<PlayedKeys>,
     cells: &mut [u32],
 ) -> Result<Seen, Memory>
     requires playable { ArePlayable game.now.names game.now.entries }
     requires rooms { HasRoomSize game.now.options }
-    ensures seen { (text : List ℕ) → game_in text ≡ Some game.now
+    requires of_keys { IsOfKeysIf game.now.names keys.now played.old }
+    ensures of_keys { IsOfKeysIf game.now.names keys.now played.new }
+    ensures led_to { ArePlayed game.now entry keys.now played.old → ArePlayed game.now entry keys.now played.new }
+    ensures seen { ArePlayed game.now entry keys.now played.old → (text : List ℕ) → game_in text ≡ Some game.now
         → IfOk result (λ seen. IsSeen game.now.entries (session_of (script_at game.now entry) keys.now)
         cells.old cells.new seen) }
     ensures kept { OnErr result (cells.new ≡ cells.old) }
 {
     let compiled = compile(alloc, &game.names, &game.rules)?;
     let parts = parts_of_game(game, entry);
-    look_compiled(alloc, parts, &compiled, &game.entries, keys, cells)
+    look_compiled(alloc, parts, &compiled, &game.entries, keys, played, cells)
 }
 
 /// What a game writes that plays keys by the programs that its rules compile to.

@@ -35,8 +35,8 @@ fn start_of(alloc: Global, game: &mut GameHandle, level: usize) -> Result<Box<He
 }
 
 /// Starts a session at the level of that number in a game: levels alone are counted, from 1. Answers the number of a
-/// status. `Done`: the handle owns the session, in place of what it owned, which is ended. Else the handle is as before.
-/// The game stays open, and may be closed before the session ends.
+/// status. `Done`: the handle owns the session, in place of what it owned, which is ended. Else the handle is as
+/// before. The game stays open, and may be closed before the session ends.
 #[unsafe(no_mangle)]
 pub extern "C" fn lzk_start(
     alloc: Global,
@@ -63,7 +63,7 @@ fn copy_of(alloc: Global, session: &mut SessionHandle) -> Result<Box<HeldSession
     ensures same { session.new.value ≡ session.old.value }
     ensures copy { IsCopy session.old.value result }
 {
-    let Some(held) = session.take(alloc) else {
+    let Some(mut held) = session.take(alloc) else {
         return Err(Status::Closed);
     };
     let made = held.copied(alloc);
@@ -135,7 +135,7 @@ fn look_in(
     ensures looked { IsLook cells.old cells.new session.old.value place.new result }
 {
     *place = Place::nowhere(0);
-    let Some(held) = session.take(alloc) else {
+    let Some(mut held) = session.take(alloc) else {
         return Status::Closed;
     };
     let looked = held.look(alloc, cells);

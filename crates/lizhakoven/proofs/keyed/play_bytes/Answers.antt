@@ -1,15 +1,16 @@
-use Rattle.std.proofs.Common.{◌∙◌, ap, refl}
+use Rattle.std.proofs.Common.{◌++◌, ◌∙◌, List, ℕ, append-nil, refl, subst, sym}
 use Rattle.std.proofs.lemmas.List.{take_all}
-use Rattle.ps_laws.specs.Fronts.{session_of}
-use Rattle.ps_model.specs.session.HeldKeys as keys
 use Rattle.ps_run.specs.GamesInPlay.{script_in}
-use Rattle.lizhakoven.proofs.KeyedBytes.{read_more}
+use Rattle.lizhakoven.specs.PlayedKeys.{HasPlayed}
+use Rattle.lizhakoven.proofs.PlayedOn.{played_more}
 use Rattle.lizhakoven.proofs.keyed.play_bytes.Goals as goal
 
 pub loop-byte-init : goal.loop-byte-init
 loop-byte-init c = record {
   script = refl;
-  read = λ is. record { session_is = is; held = ap keys.bytes_of c.new-keys.ensures };
+  played = λ is_whole read can had. subst (λ (all : List ℕ).
+      HasPlayed is_whole (script_in c.args.play.now) c.args.play.now.session c.args.keys.now all)
+      (sym (append-nil read)) had;
 }
 
 pub loop-byte-preserved : goal.loop-byte-preserved
@@ -17,12 +18,14 @@ loop-byte-preserved c =
     let before = c.loop-byte.invariant in
     record {
       script = c.in_ok-play_byte.ensures.script ∙ before.script;
-      read = λ is. read_more _ _ _ _ _ _ c.args.bytes.now c.loop-byte.byte-index c.loop-byte-test.true before.script
-          (before.read is) c.in_ok-play_byte.ensures.read;
+      played = λ is_whole read can had. played_more is_whole _ _ _ _ _ _ read c.args.bytes.now c.loop-byte.byte-index
+          c.loop-byte-test.true before.script can (before.played is_whole read can had)
+          c.in_ok-play_byte.ensures.played;
     }
 
-pub returns-clause-session : goal.returns-clause-session
-returns-clause-session c = λ is.
-    (c.loop-byte.invariant.read is).session_is
-    ∙ ap (session_of (script_in c.args.play.now))
+pub returns-clause-played : goal.returns-clause-played
+returns-clause-played c = λ is_whole read can had.
+    subst (λ (all : List ℕ).
+    HasPlayed is_whole (script_in c.args.play.now) c.loop-byte.play.session c.loop-byte.keys (read ++ all))
     (take_all c.loop-byte.byte-index c.args.bytes.now c.loop-byte-test.false)
+    (c.loop-byte.invariant.played is_whole read can had)

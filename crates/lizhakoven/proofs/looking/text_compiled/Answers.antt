@@ -1,6 +1,7 @@
 use Rattle.std.proofs.Common.{refl}
 use Rattle.ps_run.specs.GamesInPlay.{script_on}
-use Rattle.lizhakoven.proofs.SeenPlaces.{runs_as_written, text_there}
+use Rattle.lizhakoven.proofs.SeenPlaces.{text_there}
+use Rattle.ps_run.proofs.Sources.{runs_as_written}
 use Rattle.lizhakoven.proofs.looking.text_compiled.Goals as goal
 
 pub returns : goal.returns

@@ -7,7 +7,7 @@ pub returns-in-Ok-clause-looked : goal.returns-in-Ok-clause-looked
 returns-in-Ok-clause-looked c =
     look_told c.args.cells.now c.look-looked.new.cells c.args.session.now.value c.in-Ok.seen.place
     c.in-Ok.seen.is_told c.of_told.result c.of_told.ensures (
-      c.deref.result.now,
-      sym c.in-Some.ensures.taken ∙ ap (λ (held : HeldValue). Some held) (sym c.deref.ensures),
+      c.deref_mut.result.now,
+      sym c.in-Some.ensures.taken ∙ ap (λ (held : HeldValue). Some held) (sym c.deref_mut.ensures.value),
       c.in-Ok.ensures.seen,
     )
