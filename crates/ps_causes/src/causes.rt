@@ -238,6 +238,11 @@ pub enum WholeCause<'a> {
         word: Word<'a>,
         first: Named<'a>,
     },
+    /// A line of LEGEND makes the word any of several objects.
+    AnyOfThem {
+        word: Word<'a>,
+        first: Named<'a>,
+    },
     /// Two words stand in two lines of COLLISIONLAYERS.
     OnTwoLayers {
         word: Word<'a>,

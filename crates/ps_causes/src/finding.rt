@@ -11,7 +11,7 @@ use crate::glyphs::glyph_cause;
 use crate::going_on::going_on_cause;
 use crate::headers::{late_cause, like_header_cause, missing_cause};
 use crate::hidden_headers::legend_cause;
-use crate::looked_for::{LIKE_COMMENTS, LONG_ARROW, MISPLACED, slips_of};
+use crate::looked_for::{LONG_ARROW, MISPLACED, OTHER_LINES, slips_of};
 use crate::loops::loop_cause;
 use crate::object_causes::{object_cause, row_name_cause};
 use crate::only_commas::commas_cause;
@@ -25,7 +25,7 @@ use crate::twice::twice_cause;
 use crate::unbound::unbound_cause;
 use crate::undeclared::undeclared_cause;
 use crate::unlayered::unlayered_cause;
-use crate::wholes::{one_layer_cause, whole_cause};
+use crate::wholes::{aggregate_cause, one_layer_cause, property_cause, whole_cause};
 use ps_facts::{declared_names, is_among};
 use ps_model::{Fault, FaultKind, Memory};
 use ps_text::Source;
@@ -67,8 +67,8 @@ fn name_again_cause<'a>(alloc: Global, source: &'a Source, line: u32) -> Result<
     slip_cause(alloc, source, line, slips_of(FaultKind::Twice))
 }
 
-/// The front of an arrow that is too long, or else a word of a rule that means nothing. If there is none, one that can't
-/// stand where it stands.
+/// The front of an arrow that is too long, or else a word of a rule that means nothing. If there is none, one that
+/// can't stand where it stands.
 fn unknown_word_cause<'a>(alloc: Global, source: &'a Source, line: u32) -> Result<Cause<'a>, Memory>
     requires { HasLine source.now line }
     ensures { IfOk result (IsToldAt source.now line) }
@@ -100,8 +100,8 @@ fn no_layer_cause<'a>(alloc: Global, source: &'a Source, line: u32) -> Result<Ca
     unlayered_cause(alloc, source, line)
 }
 
-/// A comment of a row that begins as elsewhere, where `/` is no name; or else a word that is meant as `message`. If there
-/// is none, a character of the row that is no name.
+/// A comment of a row that begins as elsewhere, where `/` is no name; or else a word that is meant as `message`. If
+/// there is none, a character of the row that is no name.
 fn row_cause<'a>(
     alloc: Global,
     text: &[u8],
@@ -156,7 +156,7 @@ fn shape_cause<'a>(alloc: Global, source: &'a Source, fault: Fault) -> Result<Ca
     slip_cause(alloc, source, fault.line, slips_of(fault.kind))
 }
 
-/// Whether a line with that fault may be meant as a comment or as a header.
+/// Whether a line with that fault may be meant as a comment, as a header, or for another section.
 fn may_be_another(kind: FaultKind) -> bool {
     match kind {
         FaultKind::BadObject
@@ -170,7 +170,8 @@ fn may_be_another(kind: FaultKind) -> bool {
     }
 }
 
-/// A comment that begins as elsewhere, or a line that is written much like a header, where a line may be either.
+/// That a line begins as a comment does elsewhere, belongs to another section, or is written much like a header. It is
+/// told of a line with a fault that may come of that.
 fn other_line_cause<'a>(
     alloc: Global,
     source: &'a Source,
@@ -189,7 +190,7 @@ fn other_line_cause<'a>(
     if fault.kind == FaultKind::BadObject {
         return legend_cause(alloc, source, fault.line);
     }
-    let cause = slip_cause(alloc, source, fault.line, &LIKE_COMMENTS)?;
+    let cause = slip_cause(alloc, source, fault.line, &OTHER_LINES)?;
     if cause.is_told() {
         return Ok(cause);
     }
@@ -219,6 +220,10 @@ fn own_cause<'a>(
         FaultKind::UnknownGlyph => row_cause(alloc, text, source, fault.line),
         FaultKind::PropertyGlyph => open_glyph_cause(alloc, source, fault.line),
         FaultKind::SameLayerAggregate => one_layer_cause(alloc, source, fault.line),
+        FaultKind::AggregateInProperty | FaultKind::AggregateInLayer => aggregate_cause(
+            alloc, source, fault.line,
+        ),
+        FaultKind::PropertyInAggregate => property_cause(alloc, source, fault.line),
         FaultKind::NameTwice => name_twice_cause(alloc, source, fault.line),
         FaultKind::Impossible => impossible_cause(alloc, source, fault.line),
         FaultKind::BadLine => bad_line_cause(alloc, text, source, fault.line),

@@ -57,6 +57,19 @@ fn hint_by_key_words<'a>(word: &str) -> Hint<'a>
     }
 }
 
+/// What is said about a word of a rule outside brackets, where no name stands: a key word that is written much like it, or
+/// else what is said of it among these names.
+pub fn hint_outside<'a>(alloc: Global, names: &[Named<'a>], word: &str) -> Result<Hint<'a>, Memory>
+    ensures { (text : List ℕ) → names_shown names.now ≡ declared text →
+        IfOk result (λ hint. IsHint text word.now hint) }
+{
+    let hint = hint_by_key_words(word);
+    if let Hint::Nothing = hint {
+        return hint_of(alloc, names, word);
+    }
+    Ok(hint)
+}
+
 /// What is said about a word of a rule among these names: the same, or else a key word that is written much like it.
 pub fn hint_in_rule<'a>(alloc: Global, names: &[Named<'a>], word: &str) -> Result<Hint<'a>, Memory>
     ensures { (text : List ℕ) → names_shown names.now ≡ declared text →

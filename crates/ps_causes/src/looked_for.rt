@@ -4,14 +4,16 @@ use ps_facts::{FormSlip, PlaceSlip, RuleSlip, ShapeSlip, Slip};
 use ps_model::FaultKind;
 
 /// Those of a rule whose brackets, bars and arrow make none, the ones first that bring others with them.
-const BROKEN_RULE: [Slip; 13] = [
+const BROKEN_RULE: [Slip; 15] = [
     Slip::Shape(ShapeSlip::LikeBracket),
     Slip::Rule(RuleSlip::MessageAlone),
     Slip::Rule(RuleSlip::LoopWords),
+    Slip::Rule(RuleSlip::LikeLoop),
     Slip::Shape(ShapeSlip::LikeArrow),
     Slip::Shape(ShapeSlip::NoArrow),
     Slip::Shape(ShapeSlip::SecondArrow),
     Slip::Shape(ShapeSlip::Nested),
+    Slip::Place(PlaceSlip::CommandInCell),
     Slip::Shape(ShapeSlip::Unclosed),
     Slip::Shape(ShapeSlip::LoneClosing),
     Slip::Shape(ShapeSlip::NothingLeft),
@@ -53,10 +55,20 @@ pub const MISPLACED: [Slip; 7] = [
 /// That of a rule whose arrow is too long, so that its front is a word without a meaning.
 pub const LONG_ARROW: [Slip; 1] = [Slip::Shape(ShapeSlip::LongArrow)];
 
-/// Those of a line that is meant as a comment.
-pub const LIKE_COMMENTS: [Slip; 2] = [
+/// Those of a line that is meant as a comment, or for another section.
+pub const OTHER_LINES: [Slip; 4] = [
     Slip::Rule(RuleSlip::RuleComment),
     Slip::Form(FormSlip::WinComment),
+    Slip::Form(FormSlip::RuleLine),
+    Slip::Rule(RuleSlip::WinLine),
+];
+
+/// Those of a rule with an ellipsis.
+const ELLIPSES: [Slip; 4] = [
+    Slip::Rule(RuleSlip::EllipsisBeside),
+    Slip::Rule(RuleSlip::FirstEllipsis),
+    Slip::Rule(RuleSlip::LastEllipsis),
+    Slip::Rule(RuleSlip::EllipsisAgain),
 ];
 
 /// The slips that are looked for at a fault, in this order.
@@ -76,6 +88,7 @@ pub fn slips_of(kind: FaultKind) -> &'static [Slip] {
             Slip::Form(FormSlip::NoRoomSize),
         ],
         FaultKind::UnknownGlyph => &[Slip::Form(FormSlip::LikeMessage)],
+        FaultKind::Ellipsis => &ELLIPSES,
         _ => &[],
     }
 }

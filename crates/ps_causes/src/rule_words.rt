@@ -1,16 +1,16 @@
 //! Words of a rule that mean nothing.
 
-ghost use Rattle.std.specs.Prelude.{◌≡◌, true, false, IfOk, IfSome};
+ghost use Rattle.std.specs.Prelude.{◌≡◌, ℕ, List, true, false, IfOk, IfSome};
 ghost use Rattle.std.specs.List.{IsAmong};
 ghost use Rattle.ps_model.specs.text.LineNumbers.{HasLine};
-ghost use Rattle.ps_causes.specs.Causes.{IsToldAt};
+ghost use Rattle.ps_causes.specs.Causes.{IsHint, IsToldAt};
 ghost use Rattle.ps_facts.specs.KeyWords.{is_key_word};
-ghost use Rattle.ps_facts.specs.Declarations.{is_one_of};
+ghost use Rattle.ps_facts.specs.Declarations.{declared, is_one_of};
 ghost use Rattle.ps_facts.specs.NamesShown.{names_shown};
 
-use crate::causes::Cause;
-use crate::hints::hint_in_rule;
-use ps_facts::{MOST_WORDS, Named, declared_names, is_among, is_key_word, words_of};
+use crate::causes::{Cause, Hint};
+use crate::hints::{hint_in_rule, hint_outside};
+use ps_facts::{MOST_WORDS, Named, declared_names, is_among, is_inside, is_key_word, words_of};
 use ps_model::Memory;
 use ps_text::{Source, Word};
 use std::alloc::Global;
@@ -48,6 +48,32 @@ fn first_meaningless<'a>(
     Ok(None)
 }
 
+/// Whether a word of a line of RULES, which has these words, stands outside brackets.
+fn stands_outside(words: &[Word<'_>], word: Word<'_>) -> bool {
+    for at in 0..words.len() {
+        if words[at].span().start == word.span().start {
+            return !is_inside(&words[..at]);
+        }
+    }
+    false
+}
+
+/// What is said about a word of a line of RULES, which has these words, among these names.
+fn hint_for<'a>(
+    alloc: Global,
+    names: &[Named<'a>],
+    words: &[Word<'_>],
+    word: Word<'_>,
+) -> Result<Hint<'a>, Memory>
+    ensures { (text : List ℕ) → names_shown names.now ≡ declared text →
+        IfOk result (λ hint. IsHint text word.entry.text.now hint) }
+{
+    if stands_outside(words, word) {
+        return hint_outside(alloc, names, word.text());
+    }
+    hint_in_rule(alloc, names, word.text())
+}
+
 /// The word of a line of RULES that is no key word and that nothing declares.
 pub fn meaningless_cause<'a>(
     alloc: Global,
@@ -62,6 +88,6 @@ pub fn meaningless_cause<'a>(
     let Some(word) = first_meaningless(alloc, &names, &words)? else {
         return Ok(Cause::Untold);
     };
-    let hint = hint_in_rule(alloc, &names, word.text())?;
+    let hint = hint_for(alloc, &names, &words, word)?;
     Ok(Cause::Meaningless { word, hint })
 }

@@ -14,6 +14,9 @@ use ps_model::Memory;
 use ps_text::{Source, Word, same_name};
 use std::alloc::Global;
 
+/// How many words of a line are looked up at most among all names, so that no text takes long.
+const MOST_LOOKED_UP: usize = 128;
+
 /// That a word at a place stands for several objects at once, if a line of LEGEND makes it so.
 fn joined_at<'a>(
     alloc: Global,
@@ -35,6 +38,90 @@ fn joined_at<'a>(
         return Ok(Cause::Untold);
     };
     Ok(Cause::InWhole(WholeCause::AllAtOnce { word, first }))
+}
+
+/// That a word stands for any of several objects, if a line of LEGEND makes it so.
+fn choice_at<'a>(
+    alloc: Global,
+    source: &Source,
+    line: u32,
+    names: &[Named<'a>],
+    word: Word<'a>,
+) -> Result<Cause<'a>, Memory>
+    requires names { names_shown names.now ≡ declared source.now }
+    requires word { IsWordOf source.now line word }
+    ensures { IfOk result (IsToldAt source.now line) }
+{
+    let Some(first) = joined_by(alloc, source, names, word.text(), Sign::Or)? else {
+        return Ok(Cause::Untold);
+    };
+    Ok(Cause::InWhole(WholeCause::AnyOfThem { word, first }))
+}
+
+/// The first of the words of a line that stands for several objects at once.
+fn first_joined<'a>(
+    alloc: Global,
+    source: &Source,
+    line: u32,
+    names: &[Named<'a>],
+    words: &[Word<'a>],
+) -> Result<Cause<'a>, Memory>
+    requires names { names_shown names.now ≡ declared source.now }
+    requires words { All (IsWordOf source.now line) words.now }
+    ensures { IfOk result (IsToldAt source.now line) }
+{
+    for at in 0..words.len().min(MOST_LOOKED_UP) {
+        let cause = joined_at(alloc, source, line, names, words, at)?;
+        if cause.is_told() {
+            return Ok(cause);
+        }
+    }
+    Ok(Cause::Untold)
+}
+
+/// The first of the words of a line that stands for any of several objects.
+fn first_choice<'a>(
+    alloc: Global,
+    source: &Source,
+    line: u32,
+    names: &[Named<'a>],
+    words: &[Word<'a>],
+) -> Result<Cause<'a>, Memory>
+    requires names { names_shown names.now ≡ declared source.now }
+    requires words { All (IsWordOf source.now line) words.now }
+    ensures { IfOk result (IsToldAt source.now line) }
+{
+    for at in 0..words.len().min(MOST_LOOKED_UP) {
+        let cause = choice_at(alloc, source, line, names, words[at])?;
+        if cause.is_told() {
+            return Ok(cause);
+        }
+    }
+    Ok(Cause::Untold)
+}
+
+/// The name of a line of LEGEND or COLLISIONLAYERS that stands for several objects at once, where none may.
+pub fn aggregate_cause<'a>(
+    alloc: Global,
+    source: &'a Source,
+    line: u32,
+) -> Result<Cause<'a>, Memory>
+    requires { HasLine source.now line }
+    ensures { IfOk result (IsToldAt source.now line) }
+{
+    let names = declared_names(alloc, source)?;
+    let words = words_of(alloc, source, line)?;
+    first_joined(alloc, source, line, &names, &words)
+}
+
+/// The name of a line of LEGEND that stands for any of several objects, where none may.
+pub fn property_cause<'a>(alloc: Global, source: &'a Source, line: u32) -> Result<Cause<'a>, Memory>
+    requires { HasLine source.now line }
+    ensures { IfOk result (IsToldAt source.now line) }
+{
+    let names = declared_names(alloc, source)?;
+    let words = words_of(alloc, source, line)?;
+    first_choice(alloc, source, line, &names, &words)
 }
 
 /// That the name of a line of LEGEND stands for several objects at once, or the one that it is another name for.

@@ -1,5 +1,5 @@
 -- Where a word of a rule stands: in brackets or not, and in which cell.
-use Rattle.std.specs.Prelude.{ℕ, Bool, false, ◌||◌, if◌then◌else◌, List, [], ◌∷◌, fold}
+use Rattle.std.specs.Prelude.{ℕ, Bool, true, false, ◌||◌, if◌then◌else◌, List, [], ◌∷◌, fold}
 use Rattle.ps_facts.specs.declared.signs.Sign.{Sign}
 use Rattle.std.specs.List.{list_any}
 use Rattle.ps_facts.specs.declared.signs.Sign.TheVariants.{Opening, Bar, Without}
@@ -37,3 +37,11 @@ are_parted words = list_any parts_cells words
 -- `no` stands right before what follows these words
 abbrev pub is_barred : List (List ℕ) → Bool
 is_barred before = fold (λ last word. is_sign Without word) false before
+
+-- that sign stands right before what follows these words
+abbrev pub ends_in : Sign → List (List ℕ) → Bool
+ends_in sign before = fold (λ last word. is_sign sign word) false before
+
+-- what stands right before what follows these words parts cells, if something does
+abbrev pub ends_parted : List (List ℕ) → Bool
+ends_parted before = fold (λ last word. parts_cells word) true before

@@ -78,3 +78,7 @@ is_command word =
 -- the word begins with `;` or `#`, as comments of other languages do
 abbrev pub begins_comment : List ℕ → Bool
 begins_comment word = starts_with nat_eq word (59 ∷ []) || starts_with nat_eq word (35 ∷ [])
+
+-- the word begins with `[`, as a row of a rule does
+abbrev pub begins_row : List ℕ → Bool
+begins_row word = starts_with nat_eq word (91 ∷ [])

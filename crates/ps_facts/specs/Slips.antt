@@ -1,7 +1,8 @@
 -- What may be wrong with a word of a line, by the words before it and after it.
-use Rattle.std.specs.Prelude.{ℕ, ◌%◌, nat_eq, Bool, true, false, ◌&&◌, ◌||◌, not, List, [], ◌∷◌, length}
+use Rattle.std.specs.Prelude.{ℕ, ◌%◌, nat_eq, Bool, true, false, ◌&&◌, ◌||◌, not, List, [], ◌∷◌, drop, length}
 use Rattle.ps_model.specs.declared.texts.Section.{Section}
-use Rattle.ps_model.specs.declared.texts.Section.TheVariants.{Prelude, Objects, Legend, Rules, Wins, Levels}
+use Rattle.ps_model.specs.declared.texts.Section.TheVariants.{Prelude, Objects, Legend, Layers, Rules, Wins}
+use Rattle.ps_model.specs.declared.texts.Section.TheVariants.{Levels}
 use Rattle.ps_facts.specs.declared.signs.Sign.{Sign}
 use Rattle.ps_facts.specs.declared.signs.Sign.TheVariants as sign
 use Rattle.ps_facts.specs.declared.slips.ShapeSlip.{ShapeSlip}
@@ -12,7 +13,9 @@ use Rattle.ps_facts.specs.declared.slips.ShapeSlip.TheVariants.{DirectionOutside
 use Rattle.ps_facts.specs.declared.slips.RuleSlip.{RuleSlip}
 use Rattle.ps_facts.specs.declared.slips.RuleSlip.TheVariants.{LoopWords, MessageAlone, LateMove, Chance}
 use Rattle.ps_facts.specs.declared.slips.RuleSlip.TheVariants.{Rigid}
-use Rattle.ps_facts.specs.declared.slips.RuleSlip.TheVariants.{TwiceInCell, RuleComment}
+use Rattle.ps_facts.specs.declared.slips.RuleSlip.TheVariants.{TwiceInCell, RuleComment, LikeLoop, WinLine}
+use Rattle.ps_facts.specs.declared.slips.RuleSlip.TheVariants.{FirstEllipsis, LastEllipsis, EllipsisBeside}
+use Rattle.ps_facts.specs.declared.slips.RuleSlip.TheVariants.{EllipsisAgain}
 use Rattle.ps_facts.specs.declared.slips.PlaceSlip.{PlaceSlip}
 use Rattle.ps_facts.specs.declared.slips.PlaceSlip.TheVariants.{Ahead, CommandInCell, KeyWordInCell, Nameless}
 use Rattle.ps_facts.specs.declared.slips.PlaceSlip.TheVariants.{OutsideLeft, BeforeRow, NoCommand}
@@ -22,11 +25,12 @@ use Rattle.ps_facts.specs.declared.slips.FormSlip.TheVariants.{NoQuantifier}
 use Rattle.ps_facts.specs.declared.slips.FormSlip.TheVariants.{NoOn, FurtherWord, WinEnds, SecondName, ThirdName}
 use Rattle.ps_facts.specs.declared.slips.FormSlip.TheVariants.{NameAgain, RealTime, WinComment}
 use Rattle.ps_facts.specs.declared.slips.FormSlip.TheVariants.{RoomSize, NoRoomSize, LikeMessage, LegendLine}
+use Rattle.ps_facts.specs.declared.slips.FormSlip.TheVariants.{RuleLine}
 use Rattle.ps_facts.specs.declared.slips.Slip.{Slip}
 use Rattle.ps_facts.specs.declared.slips.Slip.TheVariants.{Shape, Rule, Place, Form}
-use Rattle.ps_facts.specs.Places.{is_inside, comes_first, is_in_cell, parts_cells}
+use Rattle.ps_facts.specs.Places.{is_inside, comes_first, is_in_cell, parts_cells, ends_in, ends_parted}
 use Rattle.ps_facts.specs.Signs.{is_sign, has_sign, is_edge, is_direction, is_movement, is_quantifier, is_by_chance}
-use Rattle.ps_facts.specs.Signs.{is_any, is_command, begins_comment}
+use Rattle.ps_facts.specs.Signs.{is_any, is_command, begins_comment, begins_row}
 
 -- the section whose lines have the slip
 abbrev pub section_of : Slip → Section
@@ -50,6 +54,7 @@ section_of (Form RealTime) = Prelude
 section_of (Form RoomSize) = Prelude
 section_of (Form NoRoomSize) = Prelude
 section_of (Form LikeMessage) = Levels
+section_of (Form RuleLine) = Layers
 
 -- there are `count` words
 abbrev pub are_so_many : ℕ → List (List ℕ) → Bool
@@ -63,15 +68,20 @@ are_odd words = nat_eq (length words % 2) 1
 abbrev pub lacks : Sign → List (List ℕ) → List ℕ → List (List ℕ) → Bool
 lacks sign before word behind = not (has_sign sign before) && (not (is_sign sign word) && not (has_sign sign behind))
 
--- the first of the words is the arrow
-abbrev pub begins_with_arrow : List (List ℕ) → Bool
-begins_with_arrow [] = false
-begins_with_arrow (word ∷ words) = is_sign sign.Arrow word
+-- the first of the words is that sign
+abbrev pub begins_with : Sign → List (List ℕ) → Bool
+begins_with sign [] = false
+begins_with sign (word ∷ words) = is_sign sign word
+
+-- the first of the words parts cells, if there is one
+abbrev pub begins_parted : List (List ℕ) → Bool
+begins_parted [] = true
+begins_parted (word ∷ words) = parts_cells word
 
 -- what is wrong with brackets, bars and arrow
 abbrev pub has_shape_slip : ShapeSlip → List (List ℕ) → List ℕ → List (List ℕ) → Bool
 has_shape_slip LikeArrow before word behind = lacks sign.Arrow before word behind
-has_shape_slip LongArrow before word behind = not (is_edge word) && begins_with_arrow behind
+has_shape_slip LongArrow before word behind = not (is_edge word) && begins_with sign.Arrow behind
 has_shape_slip LikeBracket before word behind = not (is_edge word)
 has_shape_slip NoArrow before word behind = lacks sign.Arrow before word behind && are_so_many 0 behind
 has_shape_slip SecondArrow before word behind = is_sign sign.Arrow word && has_sign sign.Arrow before
@@ -100,6 +110,17 @@ has_rule_slip Chance before word behind = is_by_chance word
 has_rule_slip Rigid before word behind = is_sign sign.Rigid word
 has_rule_slip TwiceInCell before word behind = is_in_cell word before && is_inside before
 has_rule_slip RuleComment before word behind = are_so_many 0 before && begins_comment word
+has_rule_slip LikeLoop before word behind =
+    are_so_many 0 before && (not (is_loop_word word) && lacks sign.Arrow before word behind)
+has_rule_slip WinLine before word behind =
+    are_so_many 0 before && (is_quantifier word && (lacks sign.Arrow before word behind &&
+    lacks sign.Opening before word behind))
+has_rule_slip FirstEllipsis before word behind = is_sign sign.Ellipsis word && ends_in sign.Opening before
+has_rule_slip LastEllipsis before word behind = is_sign sign.Ellipsis word && begins_with sign.Closing behind
+has_rule_slip EllipsisBeside before word behind =
+    is_sign sign.Ellipsis word && not (ends_parted before && begins_parted behind)
+has_rule_slip EllipsisAgain before word behind =
+    is_sign sign.Ellipsis word && (begins_with sign.Bar behind && begins_with sign.Ellipsis (drop 1 behind))
 
 -- among these words, which stand after a movement word or `no`, no name comes first
 abbrev pub begins_nameless : List (List ℕ) → Bool
@@ -154,6 +175,7 @@ has_form_slip WinComment before word behind = are_so_many 0 before && begins_com
 has_form_slip RoomSize before word behind = are_so_many 1 before && has_sign sign.Rooms before
 has_form_slip NoRoomSize before word behind = are_so_many 0 behind && is_sign sign.Rooms word
 has_form_slip LikeMessage before word behind = are_so_many 0 before && not (is_sign sign.Message word)
+has_form_slip RuleLine before word behind = begins_row word
 
 -- what is wrong with a word, with these words before it and after it in its line
 abbrev pub has_slip : Slip → List (List ℕ) → List ℕ → List (List ℕ) → Bool

@@ -19,6 +19,18 @@ const LIKE_ARROWS: [&str; 12] = [
     "\u{2014}>",
 ];
 
+/// What is written for `startloop` and `endloop`, alone or before another word.
+const LIKE_LOOPS: [&str; 8] = [
+    "loop",
+    "start",
+    "end",
+    "begin",
+    "start_loop",
+    "end_loop",
+    "loopstart",
+    "loopend",
+];
+
 /// What is written before `->` where an arrow is too long.
 const BEFORE_ARROWS: [&str; 6] = ["-", "--", "---", "=", "<", "<-"];
 
@@ -58,6 +70,11 @@ fn begins_message(word: &[u8]) -> bool {
 /// Whether a word is written much like `message`, or goes on after that.
 pub fn is_like_message(word: &str) -> bool {
     is_near(word, MESSAGE) || begins_message(word.as_bytes())
+}
+
+/// Whether a word is written much like `startloop` or `endloop`, or in place of one of them.
+pub fn is_like_loop(word: &str) -> bool {
+    is_near(word, "startloop") || is_near(word, "endloop") || is_one_of(&LIKE_LOOPS, word)
 }
 
 /// Whether a word is written in place of `->`.

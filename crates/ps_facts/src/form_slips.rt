@@ -5,7 +5,7 @@ ghost use Rattle.ps_text.specs.WordViews.{text_of};
 ghost use Rattle.ps_facts.specs.Slips.{are_odd, has_form_slip};
 
 use crate::alike::is_like_message;
-use crate::signs::{Sign, begins_comment, has_sign, is_any, is_quantifier, is_sign};
+use crate::signs::{Sign, begins_comment, begins_row, has_sign, is_any, is_quantifier, is_sign};
 use crate::slips::FormSlip;
 use ps_text::Word;
 
@@ -32,7 +32,7 @@ fn has_legend_slip(slip: FormSlip, before: &[Word<'_>], word: &str, behind: &[Wo
     }
 }
 
-/// Whether a word of a line of the prelude or of LEVELS has that slip, with these words before it and after it.
+/// Whether a word of a line of the prelude, of COLLISIONLAYERS or of LEVELS has that slip, with these words before it and after it.
 fn has_end_slip(slip: FormSlip, before: &[Word<'_>], word: &str, behind: &[Word<'_>]) -> bool
     ensures { result ≡ true → has_form_slip slip (map text_of before.now) word.now (map text_of behind.now) ≡ true }
 {
@@ -43,6 +43,7 @@ fn has_end_slip(slip: FormSlip, before: &[Word<'_>], word: &str, behind: &[Word<
         FormSlip::LikeMessage => before.is_empty()
             && !is_sign(Sign::Message, word)
             && is_like_message(word),
+        FormSlip::RuleLine => begins_row(word),
         _ => has_legend_slip(slip, before, word, behind),
     }
 }

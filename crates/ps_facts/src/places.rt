@@ -3,7 +3,7 @@
 ghost use Rattle.std.specs.Prelude.{◌≡◌, ◌||◌, map};
 ghost use Rattle.ps_text.specs.WordViews.{text_of};
 ghost use Rattle.ps_facts.specs.Places.{inside_behind, is_inside, comes_first, seen_behind, is_in_cell, parts_cells};
-ghost use Rattle.ps_facts.specs.Places.{are_parted, is_barred};
+ghost use Rattle.ps_facts.specs.Places.{are_parted, ends_in, ends_parted, is_barred};
 
 use crate::signs::{Sign, is_edge, is_sign};
 use ps_text::{Word, same_name};
@@ -90,4 +90,26 @@ pub fn is_barred(before: &[Word<'_>]) -> bool
         barred = is_sign(Sign::Without, word.text());
     }
     barred
+}
+
+/// Whether that word stands right before what follows these words.
+pub fn ends_in(sign: Sign, before: &[Word<'_>]) -> bool
+    ensures { result ≡ ends_in sign (map text_of before.now) }
+{
+    let mut ends = false;
+    for word in before {
+        ends = is_sign(sign, word.text());
+    }
+    ends
+}
+
+/// Whether what stands right before what follows these words parts cells, if something does.
+pub fn ends_parted(before: &[Word<'_>]) -> bool
+    ensures { result ≡ ends_parted (map text_of before.now) }
+{
+    let mut parted = true;
+    for word in before {
+        parted = parts_cells(word.text());
+    }
+    parted
 }

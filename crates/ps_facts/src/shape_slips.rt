@@ -2,7 +2,7 @@
 
 ghost use Rattle.std.specs.Prelude.{◌≡◌, true, map};
 ghost use Rattle.ps_text.specs.WordViews.{text_of};
-ghost use Rattle.ps_facts.specs.Slips.{begins_with_arrow, lacks, has_shape_slip};
+ghost use Rattle.ps_facts.specs.Slips.{begins_with, lacks, has_shape_slip};
 
 use crate::alike::{is_before_arrow, is_like_arrow, is_like_bracket, stands_in_cells};
 use crate::places::{comes_first, is_inside};
@@ -17,14 +17,14 @@ pub fn lacks(sign: Sign, before: &[Word<'_>], word: &str, behind: &[Word<'_>]) -
     !has_sign(sign, before) && !is_sign(sign, word) && !has_sign(sign, behind)
 }
 
-/// Whether the first of the words is the arrow.
-fn begins_with_arrow(words: &[Word<'_>]) -> bool
-    ensures { result ≡ begins_with_arrow (map text_of words.now) }
+/// Whether the first of the words is that one.
+pub fn begins_with(sign: Sign, words: &[Word<'_>]) -> bool
+    ensures { result ≡ begins_with sign (map text_of words.now) }
 {
     let Some(first) = words.first() else {
         return false;
     };
-    is_sign(Sign::Arrow, first.text())
+    is_sign(sign, first.text())
 }
 
 /// Whether a bracket or an arrow, the word, has that slip, with these words before it and after it in its line.
@@ -52,7 +52,7 @@ pub fn has_shape_slip(slip: ShapeSlip, before: &[Word<'_>], word: &str, behind: 
         ShapeSlip::LikeArrow => is_like_arrow(word) && lacks(Sign::Arrow, before, word, behind),
         ShapeSlip::LongArrow => is_before_arrow(word)
             && !is_edge(word)
-            && begins_with_arrow(behind),
+            && begins_with(Sign::Arrow, behind),
         ShapeSlip::LikeBracket => is_like_bracket(word) && !is_edge(word),
         ShapeSlip::NoArrow => behind.is_empty() && lacks(Sign::Arrow, before, word, behind),
         ShapeSlip::BarOutside => is_sign(Sign::Bar, word) && !is_inside(before),

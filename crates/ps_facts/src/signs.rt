@@ -5,7 +5,7 @@ ghost use Rattle.std.specs.List.{list_any};
 ghost use Rattle.ps_text.specs.WordViews.{text_of};
 ghost use Rattle.ps_facts.specs.Signs.{sign_text, is_sign, has_sign, is_direction, is_movement, is_quantifier};
 ghost use Rattle.ps_facts.specs.Signs.{is_by_chance, is_command, is_edge, is_any, is_same};
-ghost use Rattle.ps_facts.specs.Signs.{begins_comment};
+ghost use Rattle.ps_facts.specs.Signs.{begins_comment, begins_row};
 
 use ps_text::{Word, same_name};
 
@@ -229,4 +229,11 @@ pub fn begins_comment(word: &str) -> bool
     ensures { result ≡ begins_comment word.now }
 {
     word.as_bytes().starts_with(b";") || word.as_bytes().starts_with(b"#")
+}
+
+/// Whether a word begins with `[`, as a row of a rule does.
+pub fn begins_row(word: &str) -> bool
+    ensures { result ≡ begins_row word.now }
+{
+    word.as_bytes().starts_with(b"[")
 }

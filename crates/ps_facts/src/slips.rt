@@ -53,6 +53,18 @@ pub enum RuleSlip {
     TwiceInCell,
     /// The first word begins with `;` or `#`, as comments do elsewhere.
     RuleComment,
+    /// The first word of a line without `->` is written much like `startloop` or `endloop`.
+    LikeLoop,
+    /// The first word of a line without `->` and `[` begins a win condition.
+    WinLine,
+    /// `...` right after a `[`.
+    FirstEllipsis,
+    /// `...` right before a `]`.
+    LastEllipsis,
+    /// `...` beside another word of its cell.
+    EllipsisBeside,
+    /// `...` in the cell before one with another `...`.
+    EllipsisAgain,
 }
 
 /// Where a word of a rule may stand that can't stand there.
@@ -111,6 +123,8 @@ pub enum FormSlip {
     NoRoomSize,
     /// The first word of a line of LEVELS is written much like `message`.
     LikeMessage,
+    /// A word of a line of COLLISIONLAYERS that begins with `[`, as a row of a rule does.
+    RuleLine,
 }
 
 /// What may be wrong with a word by its place in its line.
@@ -144,6 +158,7 @@ pub fn section_of(slip: Slip) -> Section
             | FormSlip::NameAgain => Section::Objects,
             FormSlip::RealTime | FormSlip::RoomSize | FormSlip::NoRoomSize => Section::Prelude,
             FormSlip::LikeMessage => Section::Levels,
+            FormSlip::RuleLine => Section::Layers,
         },
     }
 }

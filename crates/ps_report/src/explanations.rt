@@ -12,11 +12,11 @@ const EXPLANATIONS: [(FaultKind, &str); 45] = [
     ),
     (
         FaultKind::SectionOrder,
-        "A header stands a second time, or below that of a later section.",
+        "A header appears a second time, or below that of a later section.",
     ),
     (
         FaultKind::NoSection,
-        "OBJECTS, COLLISIONLAYERS or LEVELS isn't there.",
+        "OBJECTS, COLLISIONLAYERS or LEVELS is missing.",
     ),
     (
         FaultKind::Realtime,
@@ -32,7 +32,7 @@ const EXPLANATIONS: [(FaultKind, &str); 45] = [
     ),
     (
         FaultKind::BadFlickscreen,
-        "A line of the prelude begins with `flickscreen`, but its second word is no size of rooms.",
+        "A line of the prelude begins with `flickscreen`, but its second word isn't the size of a room.",
     ),
     (
         FaultKind::BadObject,
@@ -40,7 +40,7 @@ const EXPLANATIONS: [(FaultKind, &str); 45] = [
     ),
     (
         FaultKind::Twice,
-        "A name that there is already is declared, in OBJECTS or LEGEND.",
+        "OBJECTS or LEGEND declares a name that exists already.",
     ),
     (
         FaultKind::MixedAndOr,
@@ -48,11 +48,11 @@ const EXPLANATIONS: [(FaultKind, &str); 45] = [
     ),
     (
         FaultKind::UnknownName,
-        "A line of LEGEND or COLLISIONLAYERS names what nothing declares.",
+        "A line of LEGEND or COLLISIONLAYERS uses a name that nothing declares.",
     ),
     (
         FaultKind::Cycle,
-        "A name of LEGEND stands for itself, by way of other names or at once.",
+        "A name of LEGEND stands for itself, directly or through other names.",
     ),
     (
         FaultKind::AggregateInProperty,
@@ -94,11 +94,11 @@ const EXPLANATIONS: [(FaultKind, &str); 45] = [
     ),
     (
         FaultKind::BadBracket,
-        "Brackets, bars and arrow don't make a rule.",
+        "The brackets, bars and arrow don't form a rule.",
     ),
     (
         FaultKind::UnknownWord,
-        "A word is neither a name nor a key word, or a name or key word stands where it can't.",
+        "A word is neither a name nor a key word, or a name or key word is where it can't be.",
     ),
     (
         FaultKind::RowsDiffer,
@@ -114,19 +114,19 @@ const EXPLANATIONS: [(FaultKind, &str); 45] = [
     ),
     (
         FaultKind::NoAggregate,
-        "`no` stands before an aggregate, a name for several objects at once.",
+        "`no` comes before an aggregate, a name for several objects at once.",
     ),
     (
         FaultKind::Unbound,
-        "Nothing on the left decides which is meant by a property, or by a word of several moves, on the right.",
+        "The right has a property, or a word of several moves, and nothing on the left decides which one it means.",
     ),
     (
         FaultKind::LateMove,
-        "A movement word stands in the brackets of a `late` rule, which moves nothing; `stationary` is one too.",
+        "A movement word is in the brackets of a `late` rule, which moves nothing; `stationary` is one too.",
     ),
     (
         FaultKind::PlusAlone,
-        "A rule begins with `+`, but no rule stands above it, or none since the last loop line.",
+        "A rule begins with `+`, but there is no rule above it, or none since the last loop line.",
     ),
     (
         FaultKind::PlusLate,
@@ -138,20 +138,20 @@ const EXPLANATIONS: [(FaultKind, &str); 45] = [
     ),
     (
         FaultKind::Ellipsis,
-        "`...` stands first, last or right behind another one, a third time, beside other words, or on one side alone.",
+        "`...` is first, last or right after another one, a third one, beside other words, or on one side only.",
     ),
     (
         FaultKind::NotInProfile,
-        "`random`, `randomdir` or `rigid` stands in the rule: words of PuzzleScript that are left out here.",
+        "The rule has `random`, `randomdir` or `rigid`: words of PuzzleScript that aren't supported here.",
     ),
     (FaultKind::TooManyRules, "There are more than 1,024 rules."),
     (
         FaultKind::UnknownGlyph,
-        "A character of a row, within the width of its level, is no name of one character.",
+        "A character of a row, within the width of its level, isn't a name of one character.",
     ),
     (
         FaultKind::PropertyGlyph,
-        "A character of a row, within the width of its level, is a property: which of its objects is meant isn't said.",
+        "A character of a row, within the width of its level, is a property: it doesn't say which object is meant.",
     ),
     (
         FaultKind::TooLarge,
@@ -159,7 +159,7 @@ const EXPLANATIONS: [(FaultKind, &str); 45] = [
     ),
     (
         FaultKind::NoLevel,
-        "LEVELS has no level; messages are none.",
+        "LEVELS has no level; messages don't count.",
     ),
     (
         FaultKind::TooManyEntries,
@@ -171,7 +171,7 @@ const EXPLANATIONS: [(FaultKind, &str); 45] = [
     ),
     (
         FaultKind::UnknownWinName,
-        "A win condition names what nothing declares.",
+        "A win condition uses a name that nothing declares.",
     ),
 ];
 

@@ -199,8 +199,8 @@ fn with_warnings(
 }
 
 /// What a check tells of a text: of a game the line of a check, and of any other text the faults that are told
-/// together, with their number; in lines for people, in lines that editors read, or in an object of JSON. Below it stands
-/// a line on each of the warnings, if they are asked for.
+/// together, with their number; in lines for people, in lines that editors read, or in an object of JSON. Below it
+/// stands a line on each of the warnings, if they are asked for.
 ///
 /// # Errors
 ///

@@ -7,7 +7,8 @@ use Rattle.std.proofs.Math.Utf8.{encode}
 use Rattle.ps_warnings.specs.declared.kinds.PreludeWord.TheVariants.{NoUndo, RequirePlayerMovement}
 use Rattle.ps_warnings.specs.declared.kinds.WarningKind.TheVariants.{ApartWin, NearWord, IdleRule, IdleWin, NoPlayer}
 use Rattle.ps_warnings.specs.declared.kinds.WarningKind.TheVariants.{LongRow, RuleTwice, ShortRow, UnusedObject}
-use Rattle.ps_warnings.specs.declared.kinds.WarningKind.TheVariants.{LackingRule, LackingWin, UnusedName}
+use Rattle.ps_warnings.specs.declared.kinds.WarningKind.TheVariants.{IdleRooms, LackingRule, LackingWin, LayerTwice}
+use Rattle.ps_warnings.specs.declared.kinds.WarningKind.TheVariants.{NothingWins, UnusedName}
 use Rattle.ps_warnings.specs.NearWords.{is_near}
 use Rattle.ps_warnings.specs.PreludeWords.{misspelt}
 use Rattle.ps_warnings.specs.Warnings.{warnings}
@@ -48,7 +49,7 @@ all_of_them : warnings (codes "noudno\nOBJECTS\nBackground .\ngreen\nPlayer P\nw
     ++ (codes "Background\nPlayer\nRULES\n[ Player ] -> [ Player ]\n[ > Player ] -> [ Player ]\n"
     ++ codes "[ Player ] -> [ Player ] sfx0\nLEVELS\nP\n\n.\n.\n"))
     ≡ record { line = 1; kind = NearWord NoUndo } ∷ record { line = 12; kind = IdleRule }
-    ∷ record { line = 18; kind = NoPlayer } ∷ []
+    ∷ record { line = 15; kind = NothingWins } ∷ record { line = 18; kind = NoPlayer } ∷ []
 unfolding warnings misspelt chars is_utf8 encode utf8_valid_len
 all_of_them = refl
 
@@ -116,7 +117,7 @@ names_that_nothing_uses : warnings (codes "OBJECTS\nBackground .\ngreen\nPlayer 
     ++ (codes "Pair = Wall and Key\nBoth = Wall and Key\nB = Both\nOther = Four\nCOLLISIONLAYERS\nBackground\n"
     ++ codes "Player\nWall\nThree\nRULES\n[ > Player | ONE ] -> cancel\nLEVELS\nP#KG\n")))
     ≡ record { line = 16; kind = UnusedName } ∷ record { line = 17; kind = UnusedName }
-    ∷ record { line = 18; kind = UnusedName } ∷ []
+    ∷ record { line = 18; kind = UnusedName } ∷ record { line = 29; kind = NothingWins } ∷ []
 unfolding warnings misspelt chars is_utf8 encode utf8_valid_len
 names_that_nothing_uses = refl
 
@@ -141,9 +142,47 @@ rules_that_stand_twice : warnings (codes "OBJECTS\nBackground .\ngreen\nPlayer P
     ++ (codes "right [ > Player | Wall ] -> cancel\n+ [ Player | Wall ] -> again\n"
     ++ (codes "+ right [ > Player | Wall ] -> cancel\n[ > Player | Wall ] -> message one\n"
     ++ codes "[ > Player | Wall ] -> message two\n[ > Player | Wall ] -> cancel\nLEVELS\nP#\n"))))
-    ≡ record { line = 13; kind = RuleTwice 12 } ∷ record { line = 16; kind = RuleTwice 14 } ∷ []
+    ≡ record { line = 13; kind = RuleTwice 12 } ∷ record { line = 16; kind = RuleTwice 14 }
+    ∷ record { line = 20; kind = NothingWins } ∷ []
 unfolding warnings misspelt chars is_utf8 encode utf8_valid_len
 rules_that_stand_twice = refl
+
+-- Wall and Key are on the layer of line 17, which names them by a property. Each line above that names one is told once
+objects_on_two_lines : warnings (codes "OBJECTS\nBackground .\ngreen\nPlayer P\nwhite\nWall #\nred\nKey K\nred\nLEGEND\n"
+    ++ (codes "Thing = Key or Wall\nCOLLISIONLAYERS\nBackground\nWALL, key\n\nPlayer, K\nThing\nRULES\n"
+    ++ codes "[ > Player | Thing ] -> cancel\nWINCONDITIONS\nNo Key\nLEVELS\nP#K\n"))
+    ≡ record { line = 14; kind = LayerTwice 17 } ∷ record { line = 16; kind = LayerTwice 17 } ∷ []
+unfolding warnings misspelt chars is_utf8 encode utf8_valid_len
+objects_on_two_lines = refl
+
+-- there is a rule, but no win condition and no `win`
+nothing_is_won : warnings (codes "OBJECTS\nBackground .\ngreen\nPlayer P\nwhite\nCOLLISIONLAYERS\nBackground\nPlayer\n"
+    ++ codes "RULES\n[ > Player | Player ] -> cancel\nWINCONDITIONS\n\nLEVELS\nP\n\n.\n")
+    ≡ record { line = 13; kind = NothingWins } ∷ record { line = 16; kind = NoPlayer } ∷ []
+unfolding warnings misspelt chars is_utf8 encode utf8_valid_len
+nothing_is_won = refl
+
+a_rule_wins : warnings (codes "OBJECTS\nBackground .\ngreen\nPlayer P\nwhite\nCOLLISIONLAYERS\nBackground\nPlayer\n"
+    ++ codes "RULES\n[ > Player | Player ] -> cancel\n[ action Player ] -> WIN\nLEVELS\nP\n") ≡ []
+unfolding warnings misspelt chars is_utf8 encode utf8_valid_len
+a_rule_wins = refl
+
+nothing_is_to_be_done : warnings (codes "OBJECTS\nBackground .\ngreen\nPlayer P\nwhite\nCOLLISIONLAYERS\nBackground\n"
+    ++ codes "Player\nLEVELS\nP\n") ≡ []
+unfolding warnings misspelt chars is_utf8 encode utf8_valid_len
+nothing_is_to_be_done = refl
+
+-- a level of the size of a room is no larger. The first line with `flickscreen` says how large rooms are
+rooms_that_change_nothing : warnings (codes "title T\nFlickscreen 2x1\nnoudno\nflickscreen 1x1\nOBJECTS\nBackground .\ngreen\n"
+    ++ codes "Player P\nwhite\nCOLLISIONLAYERS\nBackground\nPlayer\nLEVELS\nP.\n\nP\n")
+    ≡ record { line = 2; kind = IdleRooms } ∷ record { line = 3; kind = NearWord NoUndo } ∷ []
+unfolding warnings misspelt chars is_utf8 encode utf8_valid_len
+rooms_that_change_nothing = refl
+
+rooms_of_a_taller_level : warnings (codes "flickscreen 2x1\nOBJECTS\nBackground .\ngreen\nPlayer P\nwhite\nCOLLISIONLAYERS\n"
+    ++ codes "Background\nPlayer\nLEVELS\nP\n\nP\n.\n") ≡ []
+unfolding warnings misspelt chars is_utf8 encode utf8_valid_len
+rooms_of_a_taller_level = refl
 
 -- a text with a fault has none
 none_of_a_fault : warnings (codes "noudno\nOBJECTS\n") ≡ []

@@ -2,12 +2,12 @@
 use Rattle.std.proofs.Common.{◌≡◌, ◌∙◌, ◌++◌, ℕ, Bool, List, [], ◌∷◌, Option, Some, None, map, refl, sym, ap, ap₂, subst}
 use Rattle.std.proofs.Common.{append_assoc}
 use Rattle.std.proofs.lemmas.Option.{same_Some}
-use Rattle.ps_model.specs.declared.texts.Section.TheVariants.{Prelude, Rules, Wins, Levels}
+use Rattle.ps_model.specs.declared.texts.Section.TheVariants.{Prelude, Layers, Rules, Wins, Levels}
 use Rattle.ps_model.specs.declared.faults.Fault.{Fault}
 use Rattle.ps_model.specs.text.Faults.{first_fault}
 use Rattle.ps_model.specs.text.TextFaults.{text_fault}
 use Rattle.ps_model.specs.text.Lines.{Line, lines_of}
-use Rattle.ps_model.specs.text.Sections.{section_lines, heading_faults}
+use Rattle.ps_model.specs.text.Sections.{header_number, heading_faults, section_lines}
 use Rattle.ps_model.specs.names.Names.{Names}
 use Rattle.ps_model.specs.rules.SourceRules.{RuleLine}
 use Rattle.ps_model.specs.session.LevelLines.{Entry, entries_read, entry_lines}
@@ -16,14 +16,18 @@ use Rattle.ps_laws.proofs.texts.OneGame.{fault_bars_game, first_is_fault}
 use Rattle.ps_warnings.specs.declared.kinds.Warning.{Warning}
 use Rattle.ps_warnings.specs.Brought.{objects_there}
 use Rattle.ps_warnings.specs.InOrder.{in_order}
+use Rattle.ps_warnings.specs.LayerWarnings.{layer_warnings}
 use Rattle.ps_warnings.specs.LevelStarts.{number_of}
 use Rattle.ps_warnings.specs.LevelWarnings.{level_warnings, warnings_at}
 use Rattle.ps_warnings.specs.OptionWarnings.{option_warnings}
+use Rattle.ps_warnings.specs.RoomWarnings.{room_warnings}
 use Rattle.ps_warnings.specs.RuleWarnings.{rule_warnings}
 use Rattle.ps_warnings.specs.Sounds.{sounding_lines}
+use Rattle.ps_warnings.specs.UnwonWarnings.{unwon_warnings}
 use Rattle.ps_warnings.specs.WinWarnings.{win_warnings}
 use Rattle.ps_warnings.specs.WordWarnings.{level_line_warnings, written_warnings}
-use Rattle.ps_warnings.specs.Warnings.{rules_in, unused_in, warnings, warnings_in, warnings_of_lines, wins_in}
+use Rattle.ps_warnings.specs.Warnings.{declarations_in, prelude_in, rules_in, unused_in, warnings, warnings_in}
+use Rattle.ps_warnings.specs.Warnings.{warnings_of_lines, wins_in}
 use Rattle.ps_warnings.proofs.EntriesWarned.{warned_alike}
 
 -- lines ---------------------------------------------------------------------------------------------------------------
@@ -98,28 +102,27 @@ levels_warned : (names : Names) (lines : List Line) (numbers : List ℕ) (entrie
 levels_warned names lines numbers entries n e = ap₂ (warnings_at names) n e ∙ warned_alike names (entry_lines lines)
 
 -- section by section
-pub sections_warned : (lines prelude levels : List Line) (read : Game) (names : Names)
+pub sections_warned : (lines levels : List Line) (read : Game) (names : Names)
     (entries : List Entry) (numbers : List ℕ) (words first second third none ones owned nothing others lent
     whole : List Warning) →
-    game_of_lines lines ≡ Some read → section_lines lines Prelude ≡ prelude →
-    section_lines lines Levels ≡ levels → names ≡ read.names →
+    game_of_lines lines ≡ Some read → section_lines lines Levels ≡ levels → names ≡ read.names →
     entries ≡ read.entries → numbers ≡ map number_of (entry_lines levels) →
-    words ≡ option_warnings prelude → first ≡ words ++ unused_in read lines →
+    words ≡ prelude_in read lines → first ≡ words ++ declarations_in read lines →
     second ≡ first ++ rules_in read lines →
     third ≡ second ++ wins_in read lines → none ≡ [] → ones ≡ none ++ warnings_at names numbers entries → owned ≡ ones →
     nothing ≡ [] → others ≡ nothing ++ level_line_warnings levels → lent ≡ others → whole ≡ third ++ in_order owned lent →
     whole ≡ warnings_in read lines
-sections_warned lines prelude levels read names entries numbers words first second third none ones owned nothing
-    others lent whole is p l n e m a h b c u d x v f y g =
-    let O : List Warning = option_warnings (section_lines lines Prelude) in
-    let U : List Warning = unused_in read lines in
+sections_warned lines levels read names entries numbers words first second third none ones owned nothing
+    others lent whole is l n e m a h b c u d x v f y g =
+    let O : List Warning = prelude_in read lines in
+    let U : List Warning = declarations_in read lines in
     let R : List Warning = rules_in read lines in
     let W : List Warning = wins_in read lines in
     let L : List Warning = level_warnings read.names (section_lines lines Levels) in
     let Rows : List Warning = level_line_warnings (section_lines lines Levels) in
     let join : List Warning → List Warning → List Warning = λ xs ys. xs ++ ys in
     let options : first ≡ O ++ U =
-    h ∙ ap (λ (told : List Warning). told ++ U) (a ∙ ap option_warnings (sym p)) in
+    h ∙ ap (λ (told : List Warning). told ++ U) a in
     let starts : numbers ≡ map number_of (entry_lines (section_lines lines Levels)) =
     m ∙ ap (λ (ls : List Line). map number_of (entry_lines ls)) (sym l) in
     let levelled : owned ≡ L =
@@ -157,10 +160,38 @@ rules_told lines rules read names own sounding sounds there marks wrong others o
 
 -- win conditions ------------------------------------------------------------------------------------------------------
 
-pub wins_told : (lines wins : List Line) (read : Game) (names : Names) (there marks : List Bool) →
-    section_lines lines Wins ≡ wins → names ≡ read.names →
-    there ≡ objects_there read.names read.rules read.entries → marks ≡ there →
-    win_warnings names marks wins ≡ wins_in read lines
-wins_told lines wins read names there marks w n t m =
+pub wins_told : (lines wins : List Line) (read : Game) (names : Names) (there marks : List Bool) (header : ℕ)
+    (before first : List Warning) → section_lines lines Wins ≡ wins → names ≡ read.names →
+    there ≡ objects_there read.names read.rules read.entries → marks ≡ there → header_number lines Levels ≡ header →
+    first ≡ before ++ win_warnings names marks wins →
+    first ++ unwon_warnings read header ≡ before ++ wins_in read lines
+wins_told lines wins read names there marks header before first w n t m h e =
     let seen : marks ≡ objects_there read.names read.rules read.entries = m ∙ t in
-    rw (n, seen, ← w) refl
+    let own : win_warnings names marks wins
+    ≡ win_warnings read.names (objects_there read.names read.rules read.entries) (section_lines lines Wins) =
+    rw (n, seen, ← w) refl in
+    ap (λ (told : List Warning). told ++ unwon_warnings read header) e
+    ∙ append_assoc before (win_warnings names marks wins) (unwon_warnings read header)
+    ∙ ap₂ (λ (told : List Warning) (number : ℕ). before ++ (told ++ unwon_warnings read number)) own (sym h)
+
+-- declarations --------------------------------------------------------------------------------------------------------
+
+pub declarations_told : (lines layers : List Line) (read : Game) (names : Names) (before first : List Warning) →
+    section_lines lines Layers ≡ layers → names ≡ read.names → first ≡ before ++ unused_in read lines →
+    first ++ layer_warnings names layers ≡ before ++ declarations_in read lines
+declarations_told lines layers read names before first l n e =
+    ap (λ (told : List Warning). told ++ layer_warnings names layers) e
+    ∙ append_assoc before (unused_in read lines) (layer_warnings names layers)
+    ∙ ap₂ (λ (own : Names) (ls : List Line). before ++ (unused_in read lines ++ layer_warnings own ls)) n (sym l)
+
+-- the prelude ---------------------------------------------------------------------------------------------------------
+
+pub prelude_told : (lines prelude : List Line) (read : Game) (none words ones nothing rooms others : List Warning) →
+    section_lines lines Prelude ≡ prelude → none ≡ [] → words ≡ none ++ option_warnings prelude → ones ≡ words →
+    nothing ≡ [] → rooms ≡ nothing ++ room_warnings read.options.flickscreen read.entries prelude → others ≡ rooms →
+    in_order ones others ≡ prelude_in read lines
+prelude_told lines prelude read none words ones nothing rooms others p n w o m r t =
+    let own : List Line → List Warning = λ ls. room_warnings read.options.flickscreen read.entries ls in
+    ap₂ in_order
+    (o ∙ w ∙ ap (λ (told : List Warning). told ++ option_warnings prelude) n ∙ ap option_warnings (sym p))
+    (t ∙ r ∙ ap (λ (told : List Warning). told ++ own prelude) m ∙ ap own (sym p))

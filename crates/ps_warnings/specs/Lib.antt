@@ -1,5 +1,6 @@
 pub mod Brought
 pub mod InOrder
+pub mod LayerWarnings
 pub mod LeftNames
 pub mod LevelStarts
 pub mod LevelWarnings
@@ -13,12 +14,14 @@ pub mod ObjectWarnings
 pub mod OptionWarnings
 pub mod PreludeWords
 pub mod RepeatedRules
+pub mod RoomWarnings
 pub mod RowWarnings
 pub mod RuleWarnings
 pub mod RulesSeen
 pub mod Sharing
 pub mod Sounds
 pub mod Spoken
+pub mod UnwonWarnings
 pub mod Warnings
 pub mod WinWarnings
 pub mod WordWarnings

@@ -19,11 +19,15 @@ pub enum PreludeWord {
 pub enum WarningKind {
     /// The line of the prelude says nothing, but its first word is written much like this one.
     NearWord(PreludeWord),
+    /// No level is larger than a room of the size that the line says.
+    IdleRooms,
     /// Nothing uses the object: no level has it, and no rule or win condition speaks of it.
     UnusedObject,
     /// Nothing uses the property or aggregate: no rule, win condition, collision layer or other name of LEGEND names
     /// it.
     UnusedName,
+    /// The line of COLLISIONLAYERS names an object that is on the layer of this line, which names it too.
+    LayerTwice(u32),
     /// The rule can do nothing: whatever it may mean fits nothing, or changes nothing and asks for nothing.
     IdleRule,
     /// The rule can never apply: it needs an object that no level has and no rule makes.
@@ -40,6 +44,8 @@ pub enum WarningKind {
     ApartWin,
     /// The win condition names an object that no level has and no rule makes.
     LackingWin,
+    /// Nothing wins a level: there is no win condition, and no rule has the command `win`. The line is the header LEVELS.
+    NothingWins,
     /// No cell of the level has an object of Player. The line is its first row.
     NoPlayer,
     /// The row of a level is longer than its first row: what is past that is cut off.

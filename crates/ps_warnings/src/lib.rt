@@ -5,9 +5,11 @@
 #![tactic(auto)]
 
 mod brought;
+mod declarations;
 mod first_words;
 mod in_order;
 mod kinds;
+mod layers;
 mod left_names;
 mod level_rows;
 mod level_starts;
@@ -20,8 +22,10 @@ mod needs;
 mod numbers;
 mod objects;
 mod options;
+mod prelude_lines;
 mod prelude_words;
 mod repeated_rules;
+mod rooms;
 mod rule_lines;
 mod rules;
 mod sharing;
@@ -29,6 +33,7 @@ mod sounds;
 mod spoken;
 mod telling;
 mod unused;
+mod unwon;
 mod used_names;
 mod used_objects;
 mod win_lines;

@@ -27,8 +27,8 @@ fn warn_of_twin(told: &mut Vec<Warning>, line: u32, twin: Option<u32>) -> Result
     Ok(())
 }
 
-/// Goes past a line of RULES below a group: warns of its rule, if it is one of the group, and makes the group that of the
-/// next line.
+/// Goes past a line of RULES below a group: warns of its rule, if it is one of the group, and makes the group that of
+/// the next line.
 fn pass<'a>(
     alloc: Global,
     source: &'a Source,

@@ -6,13 +6,13 @@ ghost use Rattle.ps_model.specs.text.Lines.{lines_of};
 ghost use Rattle.ps_sections.specs.SectionPlaces.{AreSections};
 ghost use Rattle.ps_warnings.specs.Warnings.{warnings_in, warnings_of_lines, warnings};
 
+use crate::declarations::warn_of_declarations;
 use crate::in_order::push_in_order;
 use crate::kinds::Warning;
 use crate::level_starts::entry_numbers;
 use crate::levels::warn_of_levels;
-use crate::options::warn_of_options;
+use crate::prelude_lines::warn_of_prelude;
 use crate::rule_lines::warn_of_rule_lines;
-use crate::unused::warn_of_unused;
 use crate::win_lines::warn_of_win_lines;
 use crate::word_lines::warn_of_level_lines;
 use ps_game::{Game, read_game};
@@ -33,8 +33,8 @@ fn warnings_in(
     ensures { IfOk result (λ told. told.items ≡ warnings_in game.now (lines_of source.now)) }
 {
     let mut told = Vec::new(alloc);
-    warn_of_options(alloc, source, &sections.prelude, &mut told)?;
-    warn_of_unused(alloc, source, sections, game, &mut told)?;
+    warn_of_prelude(alloc, source, sections, game, &mut told)?;
+    warn_of_declarations(alloc, source, sections, game, &mut told)?;
     warn_of_rule_lines(alloc, source, sections, game, &mut told)?;
     warn_of_win_lines(alloc, source, sections, game, &mut told)?;
     let numbers = entry_numbers(alloc, source, &sections.levels)?;

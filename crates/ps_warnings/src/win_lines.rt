@@ -1,4 +1,4 @@
-//! Win conditions with which something is wrong.
+//! Win conditions with which something is wrong, and games that nothing wins.
 
 ghost use Rattle.std.specs.Prelude.{◌≡◌, ◌++◌, OnOk};
 ghost use Rattle.ps_model.specs.text.Lines.{lines_of};
@@ -7,6 +7,7 @@ ghost use Rattle.ps_warnings.specs.Warnings.{wins_in};
 
 use crate::brought::objects_there;
 use crate::kinds::Warning;
+use crate::unwon::warn_of_unwon;
 use crate::wins::{WinFacts, warn_of_wins};
 use ps_game::Game;
 use ps_model::Memory;
@@ -14,7 +15,7 @@ use ps_sections::Sections;
 use ps_text::Source;
 use std::alloc::Global;
 
-/// Warns of the win conditions of a game, in the order of lines.
+/// Warns of the win conditions of a game, in the order of lines, and of a game that nothing wins.
 pub fn warn_of_win_lines(
     alloc: Global,
     source: &Source,
@@ -30,5 +31,6 @@ pub fn warn_of_win_lines(
         names: &game.names,
         there: &there,
     };
-    warn_of_wins(alloc, source, &facts, &sections.wins, told)
+    warn_of_wins(alloc, source, &facts, &sections.wins, told)?;
+    warn_of_unwon(game, sections.levels.start - 1, told)
 }

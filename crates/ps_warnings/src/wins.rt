@@ -129,7 +129,8 @@ pub fn warn_of_wins(
 ) -> Result<(), Memory>
     requires { HasLines source.now lines.now.start lines.now.end }
     ensures { OnOk result (told.new.items ≡ told.old.items
-        ++ win_warnings facts.now.names.now facts.now.there.now (lines_between source.now lines.now.start lines.now.end)) }
+        ++ win_warnings facts.now.names.now facts.now.there.now
+        (lines_between source.now lines.now.start lines.now.end)) }
 {
     for line in lines.start..lines.end {
         warn_of_line(alloc, source, facts, line, told)?;

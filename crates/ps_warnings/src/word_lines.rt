@@ -4,8 +4,8 @@ ghost use Rattle.std.specs.Prelude.{◌≡◌, ◌++◌, IfOk, OnOk, map};
 ghost use Rattle.std.specs.List.{flat_map, list_any};
 ghost use Rattle.ps_model.specs.text.LineNumbers.{HasLine, HasLines, here, line_at, lines_between};
 ghost use Rattle.ps_text.specs.WordViews.{text_of};
-ghost use Rattle.ps_warnings.specs.WordWarnings.{are_late_twice, is_empty_text, is_late, level_line_warnings, warned_if};
-ghost use Rattle.ps_warnings.specs.WordWarnings.{warnings_of_message, warnings_of_words, written_warnings};
+ghost use Rattle.ps_warnings.specs.WordWarnings.{are_late_twice, is_empty_text, is_late, level_line_warnings};
+ghost use Rattle.ps_warnings.specs.WordWarnings.{warned_if, warnings_of_message, warnings_of_words, written_warnings};
 
 use crate::in_order::push_in_order;
 use crate::kinds::{Warning, WarningKind};

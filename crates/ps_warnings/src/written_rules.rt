@@ -124,7 +124,8 @@ pub fn twin_of(rule: &WrittenRule<'_>, above: &[WrittenRule<'_>]) -> Option<u32>
 
 /// Makes the group above that of the next rule.
 pub fn put_below<'a>(above: &mut Vec<WrittenRule<'a>>, rule: WrittenRule<'a>) -> Result<(), Memory>
-    ensures { OnOk result (rules_seen above.new.items ≡ group_with (rules_seen above.old.items) (rule_seen rule.entry)) }
+    ensures { OnOk result (rules_seen above.new.items
+        ≡ group_with (rules_seen above.old.items) (rule_seen rule.entry)) }
 {
     if is_joined(&rule.words) {
         above.push(rule)?;

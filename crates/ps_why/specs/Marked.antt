@@ -14,7 +14,7 @@ use Rattle.ps_causes.specs.declared.causes.ObjectCause.TheVariants.{RowName, Col
 use Rattle.ps_causes.specs.declared.causes.RuleCause.{RuleCause}
 use Rattle.ps_causes.specs.declared.causes.RuleCause.TheVariants.{Pair, Several, Unbound, Rows, Cells, GoesOn}
 use Rattle.ps_causes.specs.declared.causes.WholeCause.{WholeCause}
-use Rattle.ps_causes.specs.declared.causes.WholeCause.TheVariants.{AllAtOnce, OnTwoLayers, OnOneLayer}
+use Rattle.ps_causes.specs.declared.causes.WholeCause.TheVariants.{AllAtOnce, AnyOfThem, OnTwoLayers, OnOneLayer}
 use Rattle.ps_why.specs.declared.marks.Mark.{Mark}
 use Rattle.ps_why.specs.declared.marks.Marks.{Marks}
 use Rattle.ps_why.specs.Lines.{goes_on}
@@ -86,12 +86,14 @@ marked_in_loop (Unended word) = word
 -- the word of a line of LEGEND: of two that lie apart, the second
 abbrev pub marked_in_whole : WholeCause → Word
 marked_in_whole (AllAtOnce word first) = word
+marked_in_whole (AnyOfThem word first) = word
 marked_in_whole (OnTwoLayers word layer other other_layer) = other
 marked_in_whole (OnOneLayer word other layer) = word
 
 -- of two words on one layer both
 abbrev pub marks_in_whole : WholeCause → Option Marks
 marks_in_whole (AllAtOnce word first) = mark_of_word word
+marks_in_whole (AnyOfThem word first) = mark_of_word word
 marks_in_whole (OnTwoLayers word layer other other_layer) = mark_of_word other
 marks_in_whole (OnOneLayer word other layer) = marks_of_two word other
 

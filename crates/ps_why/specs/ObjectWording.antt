@@ -14,15 +14,15 @@ row_name_words word =
 
 -- that an object has no colours right below its name
 abbrev pub colourless_words : List ℕ → Option ℕ → List ℕ
-colourless_words name None = codes "Below `" ++ (name ++ codes "` stands no line of OBJECTS for its colours.")
+colourless_words name None = codes "`" ++ (name ++ codes "` needs a line of colours right below its name.")
 colourless_words name (Some line) =
-    codes "Line " ++ (decimal line ++ (codes " is blank, and the colours of `" ++ (name ++
-    codes "` stand right below its name.")))
+    codes "Line " ++ (decimal line ++ (codes " is blank, but the colours of `" ++ (name ++
+    codes "` have to be right below its name.")))
 
 -- that a word has not five characters
 abbrev pub length_words : List ℕ → ℕ → List ℕ
 length_words word count =
-    codes ": `" ++ (word ++ (codes "` has " ++ (decimal count ++ codes " characters in place of five.")))
+    codes ": `" ++ (word ++ (codes "` has " ++ (decimal count ++ codes " characters instead of five.")))
 
 -- that a character of a word stands in no row
 abbrev pub character_words : List ℕ → ℕ → List ℕ
@@ -39,7 +39,8 @@ why_no_row_words Untold = codes "."
 -- that a line is none, after a blank, if there is such a line
 abbrev pub no_row_words : Option NoRow → List ℕ
 no_row_words None = []
-no_row_words (Some below) = codes " Line " ++ (decimal below.line ++ (codes " is none" ++ why_no_row_words below.why))
+no_row_words (Some below) =
+    codes " Line " ++ (decimal below.line ++ (codes " isn't a row" ++ why_no_row_words below.why))
 
 -- that a sprite has too few rows
 abbrev pub short_words : List ℕ → ℕ → Option NoRow → List ℕ

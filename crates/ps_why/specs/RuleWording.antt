@@ -16,19 +16,19 @@ use Rattle.ps_causes.specs.declared.causes.Spot.{Spot}
 abbrev pub shared_words : Shared → List ℕ
 shared_words (Object name) =
     codes "both name `" ++ (name.name.now ++ (codes "` of line " ++ (decimal name.line ++ codes ".")))
-shared_words (Property line) = codes "are one property, that of line " ++ (decimal line ++ codes ".")
+shared_words (Property line) = codes "are the same property, that of line " ++ (decimal line ++ codes ".")
 shared_words (Layer line) = codes "line " ++ (decimal line ++ codes " of COLLISIONLAYERS is a layer of both.")
 
 -- that two names stand in one cell, and what they share
 abbrev pub pair_words : List ℕ → List ℕ → Shared → List ℕ
 pair_words word other shared =
-    codes "`" ++ (other ++ (codes "` and `" ++ (word ++ (codes "` stand in one cell, and " ++ shared_words shared))))
+    codes "`" ++ (other ++ (codes "` and `" ++ (word ++ (codes "` are in one cell, and " ++ shared_words shared))))
 
 -- that a word stands for several objects at once
 abbrev pub several_words : List ℕ → ℕ → List ℕ
 several_words word line =
     codes "Line " ++ (decimal line ++ (codes " makes `" ++ (word ++
-    codes "` several objects at once, and `no` can't stand before such a name.")))
+    codes "` several objects at once, and `no` can't come before such a name.")))
 
 -- that of `times` words two were told
 abbrev pub further_words : ℕ → List ℕ
@@ -54,19 +54,19 @@ could_words times (Other spot) = other_words spot.word.text.now spot.cell
 abbrev pub unbound_words : List ℕ → ℕ → Could → List ℕ
 unbound_words word times could =
     codes "`" ++ (word ++ (
-    codes "` of the right is that of the same cell on the left, or else the only one there: the left has "
+    codes "` on the right means that of the same cell on the left, or else the only one there: the left has "
     ++ (decimal times ++ could_words times could)))
 
 -- how many rows stand on the two sides
 abbrev pub rows_words : ℕ → ℕ → List ℕ
 rows_words left right =
-    codes "Both sides of `->` have the same number of rows in brackets: here the left has " ++ (decimal left ++
+    codes "Both sides of `->` need the same number of rows in brackets: here the left has " ++ (decimal left ++
     (codes ", the right " ++ (decimal right ++ codes ".")))
 
 -- how many cells a row has on the two sides
 abbrev pub cells_words : ℕ → ℕ → ℕ → List ℕ
 cells_words row left right =
-    codes "A row has the same number of cells on both sides of `->`: here row " ++ (decimal row ++ (codes " has "
+    codes "A row needs the same number of cells on both sides of `->`: here row " ++ (decimal row ++ (codes " has "
     ++ (decimal left ++ (codes " on the left, " ++ (decimal right ++ codes " on the right.")))))
 
 -- what part of a rule a line is
@@ -77,7 +77,7 @@ part_words WithoutArrow = codes " has no `->`."
 -- that a rule goes on in a further line
 abbrev pub going_on_words : Further → List ℕ
 going_on_words further =
-    codes "A rule is written in one line, and line " ++ (decimal further.line ++ part_words further.part)
+    codes "A rule is written on one line, but line " ++ (decimal further.line ++ part_words further.part)
 
 -- what is said about a rule
 abbrev pub rule_sentence : RuleCause → List ℕ

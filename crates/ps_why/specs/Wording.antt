@@ -52,7 +52,7 @@ hint_words Nothing = []
 hint_words (Near named) = near_words named.line named.name.now
 hint_words (Strange character like) = strange_words character like.now
 hint_words (KeyWord key) = key_word_words key.now
-hint_words Joins = codes " `and` and `or` join names in LEGEND alone."
+hint_words Joins = codes " `and` and `or` join names only in LEGEND."
 
 -- that a word is declared nowhere
 abbrev pub undeclared_words : List ℕ → Hint → List ℕ
@@ -62,7 +62,7 @@ undeclared_words word hint =
 -- that a word of a rule means nothing
 abbrev pub meaningless_words : List ℕ → Hint → List ℕ
 meaningless_words word hint =
-    codes "`" ++ (word ++ (codes "` is no key word, and is declared neither in OBJECTS nor in LEGEND."
+    codes "`" ++ (word ++ (codes "` isn't a key word, and is declared neither in OBJECTS nor in LEGEND."
     ++ hint_words hint))
 
 -- that an object has no layer
@@ -77,33 +77,35 @@ glyph_words character column =
 
 -- that a blank parts a row
 abbrev pub broken_words : List ℕ → Blank → List ℕ
-broken_words row blank = blank_words blank ++ (codes " parts the row behind `" ++ (row ++ codes "`."))
+broken_words row blank = blank_words blank ++ (codes " splits the row after `" ++ (row ++ codes "`."))
 
 -- that a header stands below one that belongs below it
 abbrev pub late_words : Section → ℕ → Section → List ℕ
 late_words section above other =
     if nat_eq (rank section) (rank other)
-    then codes "Line " ++ (decimal above ++ (codes " begins " ++ (section_name section ++ codes " already.")))
-    else section_name section ++ (codes " has to stand above " ++ (section_name other ++
-    (codes ", which begins in line " ++ (decimal above ++ codes "."))))
+    then codes "Line " ++ (decimal above ++ (codes " already begins " ++ (section_name section ++ codes ".")))
+    else section_name section ++ (codes " has to come before " ++ (section_name other ++
+    (codes ", which begins on line " ++ (decimal above ++ codes "."))))
 
 -- that a line isn't a header, after a blank
 abbrev pub like_words : ℕ → List ℕ
-like_words line = codes " Line " ++ (decimal line ++ codes " isn't one: a header is that word alone.")
+like_words line =
+    codes " Line " ++ (decimal line ++ codes " looks like it, but a header has to be that word alone.")
 
 -- that a comment isn't closed, after a blank
 abbrev pub open_words : ℕ → List ℕ
-open_words line = codes " In line " ++ (decimal line ++ codes " a `(` begins a comment that nothing closes.")
+open_words line = codes " On line " ++ (decimal line ++ codes ", a `(` begins a comment that nothing closes.")
 
 -- that lines don't end at line feeds, after a blank
 abbrev pub returns_words : ℕ → List ℕ
 returns_words place =
-    codes " No line feed ends a line here: byte " ++ (decimal place ++ codes " is a carriage return, which is a blank.")
+    codes " Lines have to end with line feeds: byte " ++ (decimal place ++
+    codes " is a carriage return, which is a blank.")
 
 -- that a byte is zero, after a blank
 abbrev pub zero_words : ℕ → List ℕ
 zero_words place =
-    codes " Byte " ++ (decimal place ++ codes " of the text is zero, as in one in UTF-16: save it as UTF-8.")
+    codes " Byte " ++ (decimal place ++ codes " of the text is zero, as in UTF-16: save the text as UTF-8.")
 
 -- what a section that isn't there may come from, after a blank
 abbrev pub clue_words : Clue → List ℕ
@@ -119,43 +121,44 @@ missing_words section clue = codes "There is no header " ++ (section_name sectio
 
 -- that names are one which are written otherwise
 abbrev pub case_words : List ℕ → List ℕ → List ℕ
-case_words word name = if bytes_eq name word then [] else codes ": upper and lower case are one"
+case_words word name = if bytes_eq name word then [] else codes ": upper and lower case are the same"
 
 -- that a word is declared above
 abbrev pub twice_words : List ℕ → ℕ → List ℕ → List ℕ
 twice_words word line name =
-    codes "Line " ++ (decimal line ++ (codes " declares `" ++ (name ++ (codes "` already" ++
+    codes "Line " ++ (decimal line ++ (codes " already declares `" ++ (name ++ (codes "`" ++
     (case_words word name ++ codes ".")))))
 
 -- that a byte is in no whole character
 abbrev pub broken_byte_words : ℕ → ℕ → List ℕ
 broken_byte_words place byte =
     codes "Byte " ++ (decimal place ++ (codes " of the text, " ++ (digits 16 true byte ++
-    codes " in hexadecimal, is in no whole character of UTF-8: save it as UTF-8.")))
+    codes " in hexadecimal, isn't part of a UTF-8 character: save the text as UTF-8.")))
 
 -- that a comment begins otherwise
 abbrev pub slashes_words : List ℕ → List ℕ
-slashes_words word = codes "A comment stands between `(` and `)`, and doesn't begin as `" ++ (word ++ codes "`.")
+slashes_words word =
+    codes "Comments are written between `(` and `)`: `" ++ (word ++ codes "` doesn't begin one.")
 
 -- that a line is no header
 abbrev pub like_header_words : Section → List ℕ
 like_header_words section =
-    codes "This line isn't the header " ++ (section_name section ++ codes ", which is that word alone.")
+    codes "This line looks like the header " ++ (section_name section ++ codes ", which has to be that word alone.")
 
 -- that a line stands below one that is no header
 abbrev pub below_like_words : Section → ℕ → List ℕ
 below_like_words section above =
-    codes "Line " ++ (decimal above ++ (codes " isn't the header " ++ (section_name section ++
-    codes ", which is that word alone: so this line is read in OBJECTS.")))
+    codes "Line " ++ (decimal above ++ (codes " looks like the header " ++ (section_name section ++
+    codes ", but isn't that word alone: so this line is still in OBJECTS.")))
 
 -- that a text is in UTF-16
 abbrev pub utf16_words : ByteOrder → List ℕ
-utf16_words LowFirst = codes "The text begins with the bytes FF FE, as one in UTF-16 does: save it as UTF-8."
-utf16_words HighFirst = codes "The text begins with the bytes FE FF, as one in UTF-16 does: save it as UTF-8."
+utf16_words LowFirst = codes "The text begins with the bytes FF FE, as UTF-16 does: save it as UTF-8."
+utf16_words HighFirst = codes "The text begins with the bytes FE FF, as UTF-16 does: save it as UTF-8."
 
 -- that a line has no name
 abbrev pub commas_words : List ℕ
-commas_words = codes "A line of COLLISIONLAYERS is names, parted by commas or blanks: this one has only commas."
+commas_words = codes "A line of COLLISIONLAYERS has names, separated by commas or blanks: this one has only commas."
 
 -- what is said about a fault
 abbrev pub sentence : Cause → List ℕ

@@ -2,7 +2,7 @@
 
 ghost use Rattle.std.specs.Prelude.{◌≡◌, IfOk, string_bytes};
 ghost use Rattle.ps_why.specs.GameWording.{nested_words, unbegun_words, loop_sentence, at_once_words, apart_words};
-ghost use Rattle.ps_why.specs.GameWording.{one_layer_words, whole_sentence};
+ghost use Rattle.ps_why.specs.GameWording.{any_of_words, one_layer_words, whole_sentence};
 
 use ps_causes::{LoopCause, WholeCause};
 use ps_model::Memory;
@@ -21,7 +21,10 @@ fn unbegun_words(alloc: Global, ended: Option<u32>) -> Result<String, Memory>
     ensures { IfOk result (λ words. string_bytes words ≡ unbegun_words ended) }
 {
     let Some(line) = ended else {
-        let words = String::from_str(alloc, "No loop is open here: no `startloop` stands above.")?;
+        let words = String::from_str(
+            alloc,
+            "No loop is open here: there is no `startloop` above.",
+        )?;
         return Ok(words);
     };
     let words = format!(in alloc; "No loop is open here: line {line} has ended the last one.")?;
@@ -36,7 +39,7 @@ pub fn loop_sentence(alloc: Global, cause: LoopCause<'_>) -> Result<String, Memo
         LoopCause::Nested { open_line, .. } => nested_words(alloc, open_line),
         LoopCause::Unbegun { ended, .. } => unbegun_words(alloc, ended),
         LoopCause::Unended { .. } => {
-            let words = String::from_str(alloc, "No `endloop` stands below.")?;
+            let words = String::from_str(alloc, "There is no `endloop` below.")?;
             Ok(words)
         }
     }
@@ -48,6 +51,16 @@ fn at_once_words(alloc: Global, word: &str, line: u32) -> Result<String, Memory>
 {
     let words = format!(in alloc;
         "Line {line} makes `{word}` several objects at once: with `or` it would be any of them."
+    )?;
+    Ok(words)
+}
+
+/// That a word stands for any of several objects.
+fn any_of_words(alloc: Global, word: &str, line: u32) -> Result<String, Memory>
+    ensures { IfOk result (λ words. string_bytes words ≡ any_of_words word.now line) }
+{
+    let words = format!(in alloc;
+        "Line {line} makes `{word}` any of several objects: with `and` it would be all of them."
     )?;
     Ok(words)
 }
@@ -64,7 +77,7 @@ fn apart_words(
 {
     let words = format!(in alloc;
         "Line {layer} of COLLISIONLAYERS has `{word}` and line {other_layer} has `{other}`: \
-        a background lies on one layer."
+        a background has to lie on one layer."
     )?;
     Ok(words)
 }
@@ -85,6 +98,7 @@ pub fn whole_sentence(alloc: Global, cause: WholeCause<'_>) -> Result<String, Me
 {
     match cause {
         WholeCause::AllAtOnce { word, first } => at_once_words(alloc, word.text(), first.line),
+        WholeCause::AnyOfThem { word, first } => any_of_words(alloc, word.text(), first.line),
         WholeCause::OnTwoLayers {
             word,
             layer,

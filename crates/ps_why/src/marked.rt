@@ -123,7 +123,7 @@ fn marked_in_whole<'a>(cause: WholeCause<'a>) -> Word<'a>
     ensures { result ≡ marked_in_whole cause.entry }
 {
     match cause {
-        WholeCause::AllAtOnce { word, .. } => word,
+        WholeCause::AllAtOnce { word, .. } | WholeCause::AnyOfThem { word, .. } => word,
         WholeCause::OnTwoLayers { other, .. } => other,
         WholeCause::OnOneLayer { word, .. } => word,
     }

@@ -23,11 +23,11 @@ fn colourless_words(alloc: Global, name: &str, below: Option<u32>) -> Result<Str
     ensures { IfOk result (λ words. string_bytes words ≡ colourless_words name.now below) }
 {
     let Some(line) = below else {
-        let words = format!(in alloc; "Below `{name}` stands no line of OBJECTS for its colours.")?;
+        let words = format!(in alloc; "`{name}` needs a line of colours right below its name.")?;
         return Ok(words);
     };
     let words = format!(in alloc;
-        "Line {line} is blank, and the colours of `{name}` stand right below its name."
+        "Line {line} is blank, but the colours of `{name}` have to be right below its name."
     )?;
     Ok(words)
 }
@@ -36,7 +36,7 @@ fn colourless_words(alloc: Global, name: &str, below: Option<u32>) -> Result<Str
 fn length_words(alloc: Global, word: &str, count: usize) -> Result<String, Memory>
     ensures { IfOk result (λ words. string_bytes words ≡ length_words word.now count) }
 {
-    let words = format!(in alloc; ": `{word}` has {count} characters in place of five.")?;
+    let words = format!(in alloc; ": `{word}` has {count} characters instead of five.")?;
     Ok(words)
 }
 
@@ -75,7 +75,7 @@ fn no_row_words(alloc: Global, below: Option<NoRow<'_>>) -> Result<String, Memor
     };
     let line = no_row.line;
     let why = why_no_row_words(alloc, no_row.why)?;
-    let words = format!(in alloc; " Line {line} is none{why}")?;
+    let words = format!(in alloc; " Line {line} isn't a row{why}")?;
     Ok(words)
 }
 

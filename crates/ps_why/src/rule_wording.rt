@@ -22,7 +22,7 @@ fn shared_words(alloc: Global, shared: Shared<'_>) -> Result<String, Memory>
             Ok(words)
         }
         Shared::Property(line) => {
-            let words = format!(in alloc; "are one property, that of line {line}.")?;
+            let words = format!(in alloc; "are the same property, that of line {line}.")?;
             Ok(words)
         }
         Shared::Layer(line) => {
@@ -37,7 +37,7 @@ fn pair_words(alloc: Global, word: &str, other: &str, shared: Shared<'_>) -> Res
     ensures { IfOk result (λ words. string_bytes words ≡ pair_words word.now other.now shared.entry) }
 {
     let shared = shared_words(alloc, shared)?;
-    let words = format!(in alloc; "`{other}` and `{word}` stand in one cell, and {shared}")?;
+    let words = format!(in alloc; "`{other}` and `{word}` are in one cell, and {shared}")?;
     Ok(words)
 }
 
@@ -46,7 +46,7 @@ fn several_words(alloc: Global, word: &str, line: u32) -> Result<String, Memory>
     ensures { IfOk result (λ words. string_bytes words ≡ several_words word.now line) }
 {
     let words = format!(in alloc;
-        "Line {line} makes `{word}` several objects at once, and `no` can't stand before such a name."
+        "Line {line} makes `{word}` several objects at once, and `no` can't come before such a name."
     )?;
     Ok(words)
 }
@@ -114,7 +114,7 @@ fn unbound_words(
 {
     let back = could_words(alloc, times, could)?;
     let words = format!(in alloc;
-        "`{word}` of the right is that of the same cell on the left, or else the only one there: \
+        "`{word}` on the right means that of the same cell on the left, or else the only one there: \
         the left has {times}{back}"
     )?;
     Ok(words)
@@ -125,7 +125,7 @@ fn rows_words(alloc: Global, left: usize, right: usize) -> Result<String, Memory
     ensures { IfOk result (λ words. string_bytes words ≡ rows_words left right) }
 {
     let words = format!(in alloc;
-        "Both sides of `->` have the same number of rows in brackets: here the left has {left}, \
+        "Both sides of `->` need the same number of rows in brackets: here the left has {left}, \
         the right {right}."
     )?;
     Ok(words)
@@ -136,7 +136,7 @@ fn cells_words(alloc: Global, row: usize, left: usize, right: usize) -> Result<S
     ensures { IfOk result (λ words. string_bytes words ≡ cells_words row left right) }
 {
     let words = format!(in alloc;
-        "A row has the same number of cells on both sides of `->`: here row {row} has {left} on the left, \
+        "A row needs the same number of cells on both sides of `->`: here row {row} has {left} on the left, \
         {right} on the right."
     )?;
     Ok(words)
@@ -158,7 +158,7 @@ fn going_on_words(alloc: Global, further: Further) -> Result<String, Memory>
 {
     let line = further.line;
     let part = part_words(further.part);
-    let words = format!(in alloc; "A rule is written in one line, and line {line}{part}")?;
+    let words = format!(in alloc; "A rule is written on one line, but line {line}{part}")?;
     Ok(words)
 }
 

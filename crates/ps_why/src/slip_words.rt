@@ -14,15 +14,15 @@ fn shape_front(slip: ShapeSlip) -> &'static str
     ensures { result.now ≡ shape_front slip }
 {
     match slip {
-        ShapeSlip::LikeArrow => "No `->` stands in the line: write it in place of `",
-        ShapeSlip::LongArrow => "An arrow is `->` alone: take out `",
+        ShapeSlip::LikeArrow => "This line has no `->`: write it in place of `",
+        ShapeSlip::LongArrow => "An arrow is just `->`: take out the `",
         ShapeSlip::LikeBracket => "The brackets of a rule are `[` and `]`: `",
-        ShapeSlip::NoArrow => "No `->` stands in the line, which ends behind `",
-        ShapeSlip::Nested => "Another `[` stands behind this `",
+        ShapeSlip::NoArrow => "This line has no `->` and ends after `",
+        ShapeSlip::Nested => "Another `[` comes after this `",
         ShapeSlip::Unclosed => "No `]` closes this `",
         ShapeSlip::LoneClosing => "No `[` is open before this `",
-        ShapeSlip::NothingLeft => "Nothing stands in brackets left of `",
-        ShapeSlip::NothingRight => "Nothing stands behind `",
+        ShapeSlip::NothingLeft => "There are no brackets to the left of `",
+        ShapeSlip::NothingRight => "Nothing comes after `",
         ShapeSlip::SecondArrow
         | ShapeSlip::BarOutside
         | ShapeSlip::DirectionOutside
@@ -38,17 +38,17 @@ fn shape_back(slip: ShapeSlip) -> &'static str
         ShapeSlip::LikeArrow => "`.",
         ShapeSlip::LongArrow => "` before it.",
         ShapeSlip::LikeBracket => "` is neither.",
-        ShapeSlip::NoArrow => "`: a rule has one, and is written in one line.",
-        ShapeSlip::SecondArrow => "` stands a second time.",
-        ShapeSlip::Nested => "` before a `]`: brackets don't nest.",
+        ShapeSlip::NoArrow => "`: a rule has one, and is written on one line.",
+        ShapeSlip::SecondArrow => "` appears a second time: a rule has only one.",
+        ShapeSlip::Nested => "` before any `]`: brackets don't nest.",
         ShapeSlip::Unclosed => "` on its side of `->`.",
         ShapeSlip::LoneClosing => "` on its side of `->`.",
         ShapeSlip::NothingLeft => "`.",
-        ShapeSlip::NothingRight => "`: a rule is written in one line.",
-        ShapeSlip::BarOutside => "` stands outside brackets: it parts the cells of a row.",
+        ShapeSlip::NothingRight => "`: a rule is written on one line.",
+        ShapeSlip::BarOutside => "` is outside brackets: it separates the cells of a row.",
         ShapeSlip::DirectionOutside =>
-            "` stands behind `->`: a rule has its directions before the first `[`.",
-        ShapeSlip::WordOutside => "` stands outside brackets.",
+            "` is after `->`: the directions of a rule come before the first `[`.",
+        ShapeSlip::WordOutside => "` is outside brackets.",
     }
 }
 
@@ -58,13 +58,21 @@ fn rule_front(slip: RuleSlip) -> &'static str
 {
     match slip {
         RuleSlip::LateMove =>
-            "A `late` rule comes when all has moved, so its brackets have no movement words: take out `",
+            "A `late` rule runs after the movement, so its brackets can't have movement words: take out `",
+        RuleSlip::RuleComment => "Comments are written between `(` and `)`: `",
+        RuleSlip::LikeLoop =>
+            "A loop begins with `startloop` and ends with `endloop`, each alone on its line: this line begins with `",
+        RuleSlip::WinLine =>
+            "A win condition belongs below the header WINCONDITIONS, but this line is in RULES: `",
         RuleSlip::LoopWords
         | RuleSlip::MessageAlone
         | RuleSlip::Chance
         | RuleSlip::Rigid
-        | RuleSlip::TwiceInCell => "`",
-        RuleSlip::RuleComment => "A comment stands between `(` and `)`, and doesn't begin as `",
+        | RuleSlip::TwiceInCell
+        | RuleSlip::FirstEllipsis
+        | RuleSlip::LastEllipsis
+        | RuleSlip::EllipsisBeside
+        | RuleSlip::EllipsisAgain => "`",
     }
 }
 
@@ -73,16 +81,23 @@ fn rule_back(slip: RuleSlip) -> &'static str
     ensures { result.now ≡ rule_back slip }
 {
     match slip {
-        RuleSlip::LoopWords => "` has to stand alone in its line.",
+        RuleSlip::LoopWords => "` has to be alone on its line.",
         RuleSlip::MessageAlone =>
-            "` stands in a line without `->`: a rule has its message behind that.",
+            "` is on a line without `->`: the message of a rule comes after `->`.",
         RuleSlip::LateMove => "`, or `late`.",
         RuleSlip::Chance =>
-            "` is left out here, where nothing goes by chance: a rule says which place and direction are meant.",
+            "` isn't supported, as nothing here is random: a rule has to say which place and direction it means.",
         RuleSlip::Rigid =>
-            "` is left out here: a late rule with `cancel` can take back a turn in which only a part has moved.",
-        RuleSlip::TwiceInCell => "` stands in this cell a second time.",
-        RuleSlip::RuleComment => "`.",
+            "` isn't supported: a late rule with `cancel` can cancel a turn in which only a part has moved.",
+        RuleSlip::TwiceInCell => "` is in this cell a second time.",
+        RuleSlip::RuleComment => "` doesn't begin one.",
+        RuleSlip::LikeLoop => "`.",
+        RuleSlip::WinLine => "` begins one.",
+        RuleSlip::FirstEllipsis => "` is first in its row: a cell has to come before it.",
+        RuleSlip::LastEllipsis => "` is last in its row: a cell has to come after it.",
+        RuleSlip::EllipsisBeside => "` has to be alone in its cell.",
+        RuleSlip::EllipsisAgain =>
+            "` is right before another one: a cell has to come between them.",
     }
 }
 
@@ -91,7 +106,7 @@ fn place_front(slip: PlaceSlip) -> &'static str
     ensures { result.now ≡ place_front slip }
 {
     match slip {
-        PlaceSlip::Nameless => "No name stands right behind `",
+        PlaceSlip::Nameless => "A name has to come right after `",
         PlaceSlip::Ahead
         | PlaceSlip::CommandInCell
         | PlaceSlip::KeyWordInCell
@@ -107,18 +122,17 @@ fn place_back(slip: PlaceSlip) -> &'static str
 {
     match slip {
         PlaceSlip::Ahead =>
-            "` stands before the first `[`, where only `late` and directions do, and `+` first of all.",
+            "` is before the first `[`, where only `late` and directions may be, and `+` at the start.",
         PlaceSlip::CommandInCell =>
-            "` stands in brackets: a command stands behind the last `]` of the right.",
+            "` is in brackets: commands come after the last `]` on the right.",
         PlaceSlip::KeyWordInCell =>
-            "` stands in brackets, where only names, movement words, `no` and `...` do.",
+            "` is in brackets, where only names, movement words, `no` and `...` may be.",
         PlaceSlip::Nameless => "`.",
         PlaceSlip::OutsideLeft =>
-            "` stands outside brackets: on the left of `->` nothing does so behind the first `[`.",
-        PlaceSlip::BeforeRow =>
-            "` stands before a `[` of the right: commands stand behind its last `]`.",
+            "` is outside brackets: on the left, nothing may be outside them after the first `[`.",
+        PlaceSlip::BeforeRow => "` is before a `[` on the right: commands come after the last `]`.",
         PlaceSlip::NoCommand =>
-            "` is no command: behind the brackets of the right nothing else stands.",
+            "` isn't a command: only commands come after the brackets on the right.",
     }
 }
 
@@ -130,21 +144,23 @@ fn form_front(slip: FormSlip) -> &'static str
         FormSlip::NoEquals | FormSlip::NoJoiner | FormSlip::EqualsAsName =>
             "A line of LEGEND is `X = Y`, `X = Y and Z` or `X = Y or Z`: `",
         FormSlip::LegendEnds =>
-            "A line of LEGEND is `X = Y`, `X = Y and Z` or `X = Y or Z`, and doesn't end behind `",
+            "A line of LEGEND is `X = Y`, `X = Y and Z` or `X = Y or Z`, and can't end after `",
         FormSlip::NoQuantifier | FormSlip::NoOn | FormSlip::FurtherWord =>
             "A win condition is `No X`, `Some X`, `Any X` or `All X`, or that with `on Y`: `",
         FormSlip::WinEnds =>
-            "A win condition is `No X`, `Some X`, `Any X` or `All X`, or that with `on Y`, and doesn't end behind `",
+            "A win condition is `No X`, `Some X`, `Any X` or `All X`, or that with `on Y`, and can't end after `",
         FormSlip::SecondName | FormSlip::ThirdName =>
             "An object's line has its name, and perhaps a second one of one character: `",
         FormSlip::LegendLine =>
-            "A line as `X = Y` stands below the header LEGEND, and this one in OBJECTS: `",
-        FormSlip::WinComment => "A comment stands between `(` and `)`, and doesn't begin as `",
+            "A line such as `X = Y` belongs below the header LEGEND, but this one is in OBJECTS: `",
+        FormSlip::WinComment => "Comments are written between `(` and `)`: `",
         FormSlip::RoomSize =>
-            "Behind `flickscreen` stands the size of a room in one word, as `5x5`: here stands `",
-        FormSlip::NoRoomSize => "No size of a room, as `5x5`, stands behind `",
+            "After `flickscreen` comes the size of a room in one word, such as `5x5`: here it is `",
+        FormSlip::NoRoomSize => "The size of a room, such as `5x5`, has to come after `",
         FormSlip::LikeMessage =>
             "A message begins with the word `message` and a blank: this line begins with `",
+        FormSlip::RuleLine =>
+            "A rule belongs below the header RULES, but this line is in COLLISIONLAYERS: `",
         FormSlip::NameAgain | FormSlip::RealTime => "`",
     }
 }
@@ -154,23 +170,25 @@ fn form_back(slip: FormSlip) -> &'static str
     ensures { result.now ≡ form_back slip }
 {
     match slip {
-        FormSlip::NoEquals => "` stands where `=` has to.",
-        FormSlip::NoJoiner => "` stands where `and` or `or` has to.",
-        FormSlip::EqualsAsName => "` stands where a name has to.",
-        FormSlip::NoQuantifier => "` stands where one of these four has to.",
-        FormSlip::NoOn => "` stands where `on` has to.",
+        FormSlip::NoEquals => "` is where `=` has to be.",
+        FormSlip::NoJoiner => "` is where `and` or `or` has to be.",
+        FormSlip::EqualsAsName => "` is where a name has to be.",
+        FormSlip::NoQuantifier => "` is where one of these four has to be.",
+        FormSlip::NoOn => "` is where `on` has to be.",
         FormSlip::FurtherWord => "` is one word too many.",
         FormSlip::SecondName | FormSlip::LegendLine => "` is its second word.",
         FormSlip::ThirdName => "` is its third word.",
         FormSlip::LegendEnds
         | FormSlip::WinEnds
-        | FormSlip::WinComment
         | FormSlip::RoomSize
         | FormSlip::NoRoomSize
         | FormSlip::LikeMessage => "`.",
-        FormSlip::NameAgain => "` is a name of this line already: upper and lower case are one.",
+        FormSlip::WinComment => "` doesn't begin one.",
+        FormSlip::RuleLine => "` begins a row of a rule.",
+        FormSlip::NameAgain =>
+            "` is already a name on this line: upper and lower case are the same.",
         FormSlip::RealTime =>
-            "` is left out here, where all that happens follows a key: a rule with `again` goes on by itself.",
+            "` isn't supported, as everything here follows a key: a rule with `again` goes on by itself.",
     }
 }
 

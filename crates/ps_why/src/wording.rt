@@ -66,7 +66,7 @@ fn hint_words(alloc: Global, hint: Hint<'_>) -> Result<String, Memory>
         Hint::Strange { character, like } => strange_words(alloc, character, like),
         Hint::KeyWord(key) => key_word_words(alloc, key),
         Hint::Joins => {
-            let words = String::from_str(alloc, " `and` and `or` join names in LEGEND alone.")?;
+            let words = String::from_str(alloc, " `and` and `or` join names only in LEGEND.")?;
             Ok(words)
         }
     }
@@ -87,7 +87,7 @@ fn meaningless_words(alloc: Global, word: &str, hint: Hint<'_>) -> Result<String
 {
     let more = hint_words(alloc, hint)?;
     let words = format!(in alloc;
-        "`{word}` is no key word, and is declared neither in OBJECTS nor in LEGEND.{more}"
+        "`{word}` isn't a key word, and is declared neither in OBJECTS nor in LEGEND.{more}"
     )?;
     Ok(words)
 }
@@ -116,7 +116,7 @@ fn broken_words(alloc: Global, row: &str, blank: Blank) -> Result<String, Memory
     ensures { IfOk result (λ words. string_bytes words ≡ broken_words row.now blank) }
 {
     let blank = blank_words(blank);
-    let words = format!(in alloc; "{blank} parts the row behind `{row}`.")?;
+    let words = format!(in alloc; "{blank} splits the row after `{row}`.")?;
     Ok(words)
 }
 
@@ -127,11 +127,11 @@ fn late_words(alloc: Global, section: Section, above: u32, other: Section) -> Re
     let name = section_name(section);
     let further = section_name(other);
     if rank(section) == rank(other) {
-        let words = format!(in alloc; "Line {above} begins {name} already.")?;
+        let words = format!(in alloc; "Line {above} already begins {name}.")?;
         return Ok(words);
     }
     let words = format!(in alloc;
-        "{name} has to stand above {further}, which begins in line {above}."
+        "{name} has to come before {further}, which begins on line {above}."
     )?;
     Ok(words)
 }
@@ -140,7 +140,9 @@ fn late_words(alloc: Global, section: Section, above: u32, other: Section) -> Re
 fn like_words(alloc: Global, line: u32) -> Result<String, Memory>
     ensures { IfOk result (λ words. string_bytes words ≡ like_words line) }
 {
-    let words = format!(in alloc; " Line {line} isn't one: a header is that word alone.")?;
+    let words = format!(in alloc;
+        " Line {line} looks like it, but a header has to be that word alone."
+    )?;
     Ok(words)
 }
 
@@ -148,7 +150,7 @@ fn like_words(alloc: Global, line: u32) -> Result<String, Memory>
 fn open_words(alloc: Global, line: u32) -> Result<String, Memory>
     ensures { IfOk result (λ words. string_bytes words ≡ open_words line) }
 {
-    let words = format!(in alloc; " In line {line} a `(` begins a comment that nothing closes.")?;
+    let words = format!(in alloc; " On line {line}, a `(` begins a comment that nothing closes.")?;
     Ok(words)
 }
 
@@ -157,7 +159,7 @@ fn returns_words(alloc: Global, place: usize) -> Result<String, Memory>
     ensures { IfOk result (λ words. string_bytes words ≡ returns_words place) }
 {
     let words = format!(in alloc;
-        " No line feed ends a line here: byte {place} is a carriage return, which is a blank."
+        " Lines have to end with line feeds: byte {place} is a carriage return, which is a blank."
     )?;
     Ok(words)
 }
@@ -167,7 +169,7 @@ fn zero_words(alloc: Global, place: usize) -> Result<String, Memory>
     ensures { IfOk result (λ words. string_bytes words ≡ zero_words place) }
 {
     let words = format!(in alloc;
-        " Byte {place} of the text is zero, as in one in UTF-16: save it as UTF-8."
+        " Byte {place} of the text is zero, as in UTF-16: save the text as UTF-8."
     )?;
     Ok(words)
 }
@@ -202,7 +204,7 @@ fn case_words(word: &str, name: &str) -> &'static str
     if name == word {
         return "";
     }
-    ": upper and lower case are one"
+    ": upper and lower case are the same"
 }
 
 /// That a word is declared above.
@@ -210,7 +212,7 @@ fn twice_words(alloc: Global, word: &str, line: u32, name: &str) -> Result<Strin
     ensures { IfOk result (λ words. string_bytes words ≡ twice_words word.now line name.now) }
 {
     let case = case_words(word, name);
-    let words = format!(in alloc; "Line {line} declares `{name}` already{case}.")?;
+    let words = format!(in alloc; "Line {line} already declares `{name}`{case}.")?;
     Ok(words)
 }
 
@@ -219,7 +221,7 @@ fn broken_byte_words(alloc: Global, place: usize, byte: u8) -> Result<String, Me
     ensures { IfOk result (λ words. string_bytes words ≡ broken_byte_words place byte) }
 {
     let words = format!(in alloc;
-        "Byte {place} of the text, {byte:X} in hexadecimal, is in no whole character of UTF-8: save it as UTF-8."
+        "Byte {place} of the text, {byte:X} in hexadecimal, isn't part of a UTF-8 character: save the text as UTF-8."
     )?;
     Ok(words)
 }
@@ -229,7 +231,7 @@ fn slashes_words(alloc: Global, word: &str) -> Result<String, Memory>
     ensures { IfOk result (λ words. string_bytes words ≡ slashes_words word.now) }
 {
     let words = format!(in alloc;
-        "A comment stands between `(` and `)`, and doesn't begin as `{word}`."
+        "Comments are written between `(` and `)`: `{word}` doesn't begin one."
     )?;
     Ok(words)
 }
@@ -239,7 +241,9 @@ fn like_header_words(alloc: Global, section: Section) -> Result<String, Memory>
     ensures { IfOk result (λ words. string_bytes words ≡ like_header_words section) }
 {
     let name = section_name(section);
-    let words = format!(in alloc; "This line isn't the header {name}, which is that word alone.")?;
+    let words = format!(in alloc;
+        "This line looks like the header {name}, which has to be that word alone."
+    )?;
     Ok(words)
 }
 
@@ -249,7 +253,7 @@ fn below_like_words(alloc: Global, section: Section, above: u32) -> Result<Strin
 {
     let name = section_name(section);
     let words = format!(in alloc;
-        "Line {above} isn't the header {name}, which is that word alone: so this line is read in OBJECTS."
+        "Line {above} looks like the header {name}, but isn't that word alone: so this line is still in OBJECTS."
     )?;
     Ok(words)
 }
@@ -260,9 +264,9 @@ fn utf16_words(order: ByteOrder) -> &'static str
 {
     match order {
         ByteOrder::LowFirst =>
-            "The text begins with the bytes FF FE, as one in UTF-16 does: save it as UTF-8.",
+            "The text begins with the bytes FF FE, as UTF-16 does: save it as UTF-8.",
         ByteOrder::HighFirst =>
-            "The text begins with the bytes FE FF, as one in UTF-16 does: save it as UTF-8.",
+            "The text begins with the bytes FE FF, as UTF-16 does: save it as UTF-8.",
     }
 }
 
@@ -272,7 +276,7 @@ fn commas_words(alloc: Global) -> Result<String, Memory>
 {
     let words = String::from_str(
         alloc,
-        "A line of COLLISIONLAYERS is names, parted by commas or blanks: this one has only commas.",
+        "A line of COLLISIONLAYERS has names, separated by commas or blanks: this one has only commas.",
     )?;
     Ok(words)
 }

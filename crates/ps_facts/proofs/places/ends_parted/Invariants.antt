@@ -1,0 +1,10 @@
+use Rattle.std.proofs.Common.{◌≡◌, drop, map}
+use Rattle.std.specs.Prelude.{fold}
+use Rattle.ps_text.specs.WordViews.{text_of}
+use Rattle.ps_facts.specs.Places.{ends_parted, parts_cells}
+use Rattle.ps_facts.proofs.places.ends_parted.Given as goal
+
+-- the words passed by are told, and the others lie ahead
+abbrev pub invariant-loop-word : goal.invariant-loop-word
+invariant-loop-word l = fold (λ last word. parts_cells word) l.parted (map text_of (drop l.word-index l.before))
+    ≡ ends_parted (map text_of l.before)
