@@ -1,4 +1,4 @@
-"""Plays a game at a terminal: main.py PLAYER [--plain] [--fresh] [--level N] [--record FILE] GAME|FOLDER."""
+"""Plays a game at a terminal: main.py PLAYER [--plain] [--trace] [--fresh] [--level N] [--record FILE] GAME|FOLDER."""
 import os
 import sys
 

@@ -3,9 +3,9 @@ import collections
 
 from harmless import name_text
 
-Options = collections.namedtuple("Options", "player game is_plain is_fresh level record")
+Options = collections.namedtuple("Options", "player game is_plain is_traced is_fresh level record")
 
-USAGE = "usage: main.py PLAYER [--plain] [--fresh] [--level N] [--record FILE] GAME|FOLDER"
+USAGE = "usage: main.py PLAYER [--plain] [--trace] [--fresh] [--level N] [--record FILE] GAME|FOLDER"
 
 
 class BadCommandLine(Exception):
@@ -32,7 +32,7 @@ _VALUES = {"--level": _level, "--record": _file}
 def read_options(words):
     """What the words ask for; raises BadCommandLine."""
     rest, files, values = list(words), [], {}
-    is_plain, is_fresh = False, False
+    is_plain, is_traced, is_fresh = False, False, False
     while rest:
         word = rest.pop(0)
         name, is_joined, value = word.partition("=")
@@ -40,6 +40,8 @@ def read_options(words):
             files, rest = files + rest, []
         elif word == "--plain":
             is_plain = True
+        elif word == "--trace":
+            is_plain, is_traced = True, True
         elif word == "--fresh":
             is_fresh = True
         elif name in values:
@@ -54,4 +56,4 @@ def read_options(words):
         raise BadCommandLine(USAGE)
     if len(values) == 2:
         raise BadCommandLine("--record doesn't go with --level: recorded keys are replayed from the start of the game")
-    return Options(files[0], files[1], is_plain, is_fresh, values.get("--level"), values.get("--record"))
+    return Options(*files, is_plain, is_traced, is_fresh, values.get("--level"), values.get("--record"))

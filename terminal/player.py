@@ -108,10 +108,11 @@ def _from(level):
 class Run:
     """A run of a game: key bytes go in, its output comes out at `output`."""
 
-    def __init__(self, player, game, level=None):
+    def __init__(self, player, game, level=None, is_traced=False):
         self._told = tempfile.TemporaryFile()
+        trace = ["--trace"] if is_traced else []
         self._process = _start(
-            [player.path, game, *_from(level)],
+            [player.path, game, *_from(level), *trace],
             [signal.SIGINT, signal.SIGQUIT],
             stdout=subprocess.PIPE,
             stderr=self._told,

@@ -1,4 +1,4 @@
-"""The output of a run, told apart: titles, levels, frames, messages and endings."""
+"""The output of a run, told apart: titles, levels, frames, messages and endings, and the lines of a trace."""
 import collections
 import enum
 
@@ -12,6 +12,7 @@ class Kind(enum.Enum):
     MESSAGE = 4
     DONE = 5
     ENDING = 6
+    TRACE = 7
 
 
 # A part of an output: its kind, and its bytes with all their line feeds.
@@ -23,6 +24,8 @@ _MARKS = [
     (b"! ", Kind.MESSAGE),
     (b"* level ", Kind.DONE),
     (b"* ", Kind.ENDING),
+    (b"> ", Kind.TRACE),
+    (b"  | ", Kind.TRACE),
 ]
 
 

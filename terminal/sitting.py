@@ -116,7 +116,7 @@ class Sitting:
         """Plays a game. Its status, what it said on standard error, and the line that it ended with."""
         progress = Progress(text.digest)
         level, notice = self._level(described, progress)
-        run = Run(self.player, text.path, level)
+        run = Run(self.player, text.path, level, self.asked.is_traced)
         screen = PlainScreen(self.console) if self.asked.is_plain else ViewScreen(self.console, self.player, text.path)
         hints = Hints(self.player, text.path, level)
         playing = Playing(run, screen, self.events, Game(described, progress, notice, hints, self.recording))

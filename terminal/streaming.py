@@ -19,12 +19,13 @@ def hand_over(asked):
         raise Fault(b"play: --record keeps keys that are typed at a terminal; tee FILE keeps those of a pipe\n", 1)
     if os.path.isdir(asked.game):
         raise Fault(b"play: a game of a folder is chosen at a terminal\n", 1)
-    level = [] if asked.level is None else ["--level", str(asked.level)]
+    further = [] if asked.level is None else ["--level", str(asked.level)]
+    further += ["--trace"] if asked.is_traced else []
     if not os.isatty(1):
-        os.execv(asked.player, [asked.player, *level, "--", asked.game])
+        os.execv(asked.player, [asked.player, *further, "--", asked.game])
     with GameText(asked.game) as text:
         Player(asked.player).describe(text.path)
-        words = [asked.player, text.path, *level]
+        words = [asked.player, text.path, *further]
         return _stream(words) if asked.is_plain else _show(words, Console(0, 1))
 
 

@@ -56,12 +56,13 @@ class ProgressTest(unittest.TestCase):
 
 class OptionsTest(unittest.TestCase):
     def test_options_in_any_order(self):
-        self.assertEqual(read_options(["P", "G"]), Options("P", "G", False, False, None, None))
-        self.assertEqual(read_options(["P", "--fresh", "G", "--level", "3"]), Options("P", "G", False, True, 3, None))
-        self.assertEqual(read_options(["P", "--plain", "--level=2", "-"]), Options("P", "-", True, False, 2, None))
-        self.assertEqual(read_options(["P", "--", "--plain"]), Options("P", "--plain", False, False, None, None))
-        self.assertEqual(read_options(["P", "G", "--record", "-k=v"]), Options("P", "G", False, False, None, "-k=v"))
-        self.assertEqual(read_options(["P", "--record=a=b", "G"]), Options("P", "G", False, False, None, "a=b"))
+        self.assertEqual(read_options(["P", "G"]), Options("P", "G", False, False, False, None, None))
+        self.assertEqual(read_options(["P", "--fresh", "G", "--level", "3"]), Options("P", "G", False, False, True, 3, None))
+        self.assertEqual(read_options(["P", "--plain", "--level=2", "-"]), Options("P", "-", True, False, False, 2, None))
+        self.assertEqual(read_options(["P", "--trace", "G"]), Options("P", "G", True, True, False, None, None))
+        self.assertEqual(read_options(["P", "--", "--plain"]), Options("P", "--plain", False, False, False, None, None))
+        self.assertEqual(read_options(["P", "G", "--record", "-k=v"]), Options("P", "G", False, False, False, None, "-k=v"))
+        self.assertEqual(read_options(["P", "--record=a=b", "G"]), Options("P", "G", False, False, False, None, "a=b"))
 
     def test_bad_command_lines(self):
         for line in ("", "P", "P G H", "P --bogus G", "P --level 0 G", "P G --level", "P --level 1 --level 2 G",

@@ -31,6 +31,10 @@ class OutputReaderTest(unittest.TestCase):
     def test_rows_that_look_like_marks(self):
         self.assertEqual(OutputReader().feed(b"=#\n*!\n\n"), [Part(Kind.FRAME, b"=#\n*!\n\n")])
 
+    def test_lines_of_a_trace(self):
+        parts = OutputReader().feed(b"> up\n  | turn without a key\n#P#\n\n")
+        self.assertEqual([part.kind for part in parts], [Kind.TRACE, Kind.TRACE, Kind.FRAME])
+
     def test_level_numbers(self):
         self.assertEqual(level_number(b"# level 12\n"), 12)
         self.assertEqual(level_number(b"# level \n"), 0)

@@ -38,7 +38,7 @@ _play() {
         return
         ;;
     esac
-    options='--level --fresh --plain --check --why --all --limit --format --warn --strict --solve --states --after --stop-file --replay --help --version'
+    options='--level --fresh --plain --trace --check --why --all --limit --format --warn --strict --solve --states --after --stop-file --replay --help --version'
     case ${COMP_WORDS[0]##*/} in
     ps_play) options+=' --keys --view --sizes --show --describe --explain' ;;
     *) options+=' --record --page --title --engine --prove --keep --install --library' ;;

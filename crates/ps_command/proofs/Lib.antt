@@ -7,4 +7,5 @@ pub mod LinesOnLevels
 pub mod NumbersRead
 pub mod ReplaysTold
 pub mod ReportsTold
+pub mod TracesEnded
 pub mod WordsToSolve

@@ -73,8 +73,3 @@ silent_on_read asked Holds question had between left text keys before after is g
   holds = subst (λ (q : Question). Holds q text keys) is so.0;
   silent = so.1;
 }
-
--- what follows from what is so where all is well, is so then
-pub told_if_well : {A E P Q : Type 0} → (result : Result A E) → (P → Q) → OnOk result P → OnOk result Q
-told_if_well (Ok value) so is = so is
-told_if_well (Err fault) so is = tt

@@ -22,7 +22,8 @@ tells_more Belongs names name before between after was told =
     told_more Belongs names name told.lines before between after was told.are told.wrote
 
 module _ (asked : Question) (name text : List ℕ) (form : Form) (is : form ≡ form_of asked) (won : Bool)
-    (before after : Option (List ℕ)) (told : Tells (AreLinesOn asked.level text (told_in form name) asked.limit won) before after)
+    (before after : Option (List ℕ))
+    (told : Tells (AreLinesOn asked.level text (told_in form name) asked.limit won) before after)
   where
     own : AreLinesOn asked.level text (telling_of asked name) asked.limit won told.lines
     own = subst (λ (f : Form). AreLinesOn asked.level text (told_in f name) asked.limit won told.lines) is told.are
@@ -82,3 +83,6 @@ pub unread_told : (asked : Question) (name : List ℕ) (before after : Option (L
     Tells (AreLinesToldOf asked name) before after
 unread_told asked name before after same =
     rw same (record { lines = []; are = inl refl; wrote = nothing_taken before })
+
+-- what is told of a file, whether it can be read or not
+pub ruleset files_read = (text_told, given_told, unread_told)

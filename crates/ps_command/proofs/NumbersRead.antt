@@ -31,3 +31,6 @@ pub size_read : (word front back : Text) (rows columns : ℕ) (size : Option Siz
 size_read word front back rows columns None before after r c sr sc = tt
 size_read word front back rows columns (Some s) before after r c sr sc =
     (rw (← before, sr) r, rw (← after, sc) c)
+
+-- what a size is read by
+pub ruleset sizes_read = (number_read, parted, size_read)

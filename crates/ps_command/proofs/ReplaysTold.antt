@@ -65,6 +65,16 @@ module _ (how : Form) (game text name : List ℕ) where
   unread_told before after same =
       rw same (record { lines = []; are = inl refl; wrote = nothing_taken before })
 
+-- lines on each stream are told, or what a check tells of a text that is refused
+module _ (how : Form) (game text : List ℕ) (names : List (List ℕ)) (before after : Option (List ℕ)) where
+  pub streams_told : TellsInOrder (AreLinesTold how game text) names before after →
+      TellsOfStreams how game text names before after
+  streams_told told = inr told
+
+  pub refusal_told : Tells (IsLineOnGame how game text) before after →
+      TellsOfStreams how game text names before after
+  refusal_told told = inl told
+
 -- the report of a check is told
 pub report_refused : (how : Form) (game text : List ℕ) (by : How) (before after : Option (List ℕ)) →
     by ≡ how_refused how → IsRefused text → TellsReportOn by game text before after →
@@ -101,3 +111,6 @@ unwon_of_text asked how text names had left before after is named given told =
       told = subst (λ (ns : List (List ℕ)). TellsOfStreams (form_of asked) asked.game.now text ns before after) named
           (subst (λ (f : Form). TellsOfStreams f asked.game.now text names before after) is told);
     }
+
+-- what is told of a stream, whether its keys win, are told or can't be read
+pub ruleset streams_read = (keys_won, keys_told, unread_told)

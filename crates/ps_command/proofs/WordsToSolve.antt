@@ -1,6 +1,6 @@
 -- What is meant by the words after GAME, where levels are searched.
-use Rattle.std.proofs.Common.{◌≡◌, ◌≢◌, ◌⊎◌, ◌<◌, ◌≤◌, ◌^◌, ℕ, inl, inr, List, [], ◌∷◌, Option, Some, None, Bool, true, false}
-use Rattle.std.proofs.Common.{Bor, arith, get_or, is_some, length, refl}
+use Rattle.std.proofs.Common.{◌≡◌, ◌≢◌, ◌⊎◌, ◌<◌, ◌≤◌, ◌^◌, ℕ, inl, inr, List, [], ◌∷◌, Option, Some, None}
+use Rattle.std.proofs.Common.{Bool, true, false, Bor, arith, get_or, is_some, length, refl}
 use Rattle.std.specs.Prelude.{Err, Result}
 use Rattle.std.specs.Str.Parse.{IsNumeral, ParsesUnsigned, digits_value, without_leading_plus}
 use Rattle.clap.specs.Words.{Text}
@@ -36,3 +36,6 @@ lone_file (Some m) words d r e none one parses is = cc
 lone_file None [] d r e none one parses is = absurd (omega arith)
 lone_file None (w ∷ []) d r e none one parses is = (rw is at parses, refl)
 lone_file None (w ∷ v ∷ words) d r e none one parses is = absurd (omega arith)
+
+-- what is meant by such words, case by case
+pub ruleset words_meant = (no_words, words_kept, lone_level, lone_file)

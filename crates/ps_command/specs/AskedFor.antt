@@ -2,6 +2,7 @@
 -- said: that `--plain` and `--fresh` change nothing, and for which lines nothing is asked for, as they are refused.
 use Rattle.std.specs.Prelude.{◌≡◌, ◌≢◌, ◌||◌, ℕ, Bool, [], true, false, List, Option, Some, None, codes, is_some}
 use Rattle.std.specs.List.{list_any}
+use Rattle.clap.specs.Walk.{is_empty}
 use Rattle.clap.specs.Words.{Row, Text, all_of, first_of}
 use Rattle.ps_report.specs.declared.details.Detail.{Detail}
 use Rattle.ps_report.specs.declared.details.Detail.TheVariants as detail
@@ -18,7 +19,7 @@ use Rattle.ps_command.specs.declared.command.Show.{Show}
 use Rattle.ps_command.specs.declared.command.Solve.{Solve}
 use Rattle.ps_command.specs.declared.replay_options.ReplayStreams.{ReplayStreams}
 
--- tasks ------------------------------------------------------------------------------------------------------------------
+-- tasks ---------------------------------------------------------------------------------------------------------------
 
 -- levels are to be searched
 abbrev pub Solves : List Row → Type 0
@@ -53,7 +54,7 @@ Describes rows = HasNoTask rows × (is_given (codes "describe") rows ≡ true)
 abbrev pub Plays : List Row → Type 0
 Plays rows = HasNoTask rows × (is_given (codes "describe") rows ≡ false)
 
--- games that are played, and outputs that are shown ----------------------------------------------------------------------
+-- games that are played, and outputs that are shown -------------------------------------------------------------------
 
 pub record IsPlay (rows : List Row) (play : Play) : Type 0 where
   pub game : IsGameIn rows play.game.now
@@ -63,6 +64,7 @@ pub record IsPlay (rows : List Row) (play : Play) : Type 0 where
   pub keys : text_of play.keys ≡ keys_file (first_of (codes "keys") rows)
   pub size : IsSizeOf (first_of (codes "view") rows) play.size
   pub sizes : text_of play.sizes ≡ first_of (codes "sizes") rows
+  pub traced : play.is_traced ≡ is_given (codes "trace") rows
 
 pub record IsShow (rows : List Row) (show : Show) : Type 0 where
   pub game : IsGameIn rows show.game.now
@@ -71,7 +73,7 @@ pub record IsShow (rows : List Row) (show : Show) : Type 0 where
   pub size : IsSizeOf (first_of (codes "view") rows) (Some show.size)
   pub sizes : text_of show.sizes ≡ first_of (codes "sizes") rows
 
--- checks -----------------------------------------------------------------------------------------------------------------
+-- checks --------------------------------------------------------------------------------------------------------------
 
 -- below a fault it is told what is to be mended
 abbrev pub is_why : Detail → Bool
@@ -123,7 +125,7 @@ pub record IsHow (rows : List Row) (is_named : Bool) (how : How) : Type 0 where
   pub warns : how.warns ≡ is_given (codes "warn") rows
   pub strict : how.strict ≡ is_given (codes "strict") rows
 
--- searches and replays ---------------------------------------------------------------------------------------------------
+-- searches and replays ------------------------------------------------------------------------------------------------
 
 -- what is said of a search: the level and further files, how many states are kept, the form, and the file that ends it
 pub record IsSearch (rows : List Row) (level : Option ℕ) (further : List Text) (limit : ℕ) (is_data : Bool)
@@ -152,11 +154,13 @@ pub record IsSolveAfter (rows : List Row) (solve : SolveAfter) : Type 0 where
 pub record IsReplay (rows : List Row) (replay : ReplayStreams) : Type 0 where
   pub task : Replays rows
   pub game : IsGameIn rows replay.game.now
+  pub start : first_of (codes "level") rows ≡ None
   pub streams : texts_of replay.streams.items ≡ further_in rows
+  pub some : is_empty replay.streams.items ≡ false
   pub one_input : replay.game.now ≡ codes "-" → list_any (λ stream. is_input stream.now) replay.streams.items ≡ false
   pub format : IsFormOf (first_of (codes "format") rows) (form_for replay.is_data)
 
--- all of them ------------------------------------------------------------------------------------------------------------
+-- all of them ---------------------------------------------------------------------------------------------------------
 
 abbrev pub IsAsked : List Row → Asked → Type 0
 IsAsked rows (asked.Play play) = IsPlay rows play

@@ -1,5 +1,5 @@
--- The player's command line as clap reads it: the program's name, its arguments in their order, and what clap matches for
--- them in words. Texts of help stand elsewhere, and so do the rules on which arguments go together.
+-- The player's command line as clap reads it: the program's name, its arguments in their order, and what clap matches
+-- for them in words. Texts of help stand elsewhere, and so do the rules on which arguments go together.
 use Rattle.std.specs.Prelude.{◌≡◌, Bool, true, false, List, [], ◌∷◌, Some, codes}
 use Rattle.clap.specs.Lexer.{usize_max}
 use Rattle.clap.specs.Simple.{on_top}
@@ -55,6 +55,7 @@ arguments =
     ∷ option (codes "keys")
     ∷ option (codes "view")
     ∷ bound (option (codes "sizes"))
+    ∷ bound (flag (codes "trace"))
     ∷ flag (codes "plain")
     ∷ flag (codes "fresh")
     ∷ bound (option (codes "show"))

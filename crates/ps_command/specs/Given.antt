@@ -52,7 +52,7 @@ abbrev pub keys_file : Option Text → Option Text
 keys_file None = None
 keys_file (Some name) = elim (is_input name) [ true ↦ None | false ↦ Some name ]
 
--- numbers ----------------------------------------------------------------------------------------------------------------
+-- numbers -------------------------------------------------------------------------------------------------------------
 
 -- the word is this number, in decimal digits after which nothing stands, and before which a plus may
 abbrev pub IsNumber : Text → ℕ → Type 0
@@ -82,7 +82,7 @@ abbrev pub IsSizeOf : Option Text → Option Size → Type 0
 IsSizeOf None size = size ≡ None
 IsSizeOf (Some word) size = IsSomeAnd size (IsSizeIn word)
 
--- forms ------------------------------------------------------------------------------------------------------------------
+-- forms ---------------------------------------------------------------------------------------------------------------
 
 -- how a form is called
 abbrev pub word_of : Format → Text
@@ -99,7 +99,7 @@ IsFormOf (Some word) form = word ≡ word_of form
 abbrev pub form_for : Bool → Format
 form_for is_data = elim is_data [ true ↦ format.Json | false ↦ format.Text ]
 
--- words after GAME, where levels are searched ----------------------------------------------------------------------------
+-- words after GAME, where levels are searched -------------------------------------------------------------------------
 
 -- a word after GAME is the number of a level; or a file, where it is no number that a machine word holds
 abbrev pub IsLevelOrFile : Text → Option ℕ → List Text → Type 0

@@ -1,3 +1,4 @@
+pub mod ArgumentTable
 pub mod AskedFor
 pub mod CommandLines
 pub mod Details

@@ -44,7 +44,7 @@ IsApart end = NamesNoLevel end × (end ≢ stop.TooManyKeys)
 -- 2 for what is wrong with a command line, 1 for a fault
 abbrev pub IsStatusOf : Stop → ℕ → Type 0
 IsStatusOf (stop.CommandLine error) status = IsStatusOfLine error status
-IsStatusOf stop.NotText status = status ≡ 2
+IsStatusOf (stop.NotText _) status = status ≡ 2
 IsStatusOf stop.NoSuchCode status = status ≡ 2
 IsStatusOf stop.NoSize status = status ≡ 2
 IsStatusOf stop.NoLevel status = status ≡ 2
@@ -54,7 +54,10 @@ IsStatusOf stop.NoStates status = status ≡ 2
 IsStatusOf stop.NoTask status = status ≡ 2
 IsStatusOf stop.OneGame status = status ≡ 2
 IsStatusOf stop.OneInput status = status ≡ 2
+IsStatusOf stop.ReplayedLevel status = status ≡ 2
+IsStatusOf stop.NoStreams status = status ≡ 2
 IsStatusOf stop.Game status = status ≡ 1
+IsStatusOf stop.Output status = status ≡ 1
 IsStatusOf (stop.NoSuchLevel _ _) status = status ≡ 1
 IsStatusOf stop.NoLevelThere status = status ≡ 1
 IsStatusOf stop.TooManyKeys status = status ≡ 1

@@ -7,7 +7,8 @@ use Rattle.ps_view.specs.declared.heard_keys.HeardKeys.{HeardKeys}
 
 -- the keys that a game with these options heeds
 abbrev pub heard_by : Options → HeardKeys
-heard_by options = record { acts = not options.no_action; undoes = not options.no_undo; restarts = not options.no_restart }
+heard_by options =
+    record { acts = not options.no_action; undoes = not options.no_undo; restarts = not options.no_restart }
 
 -- of a text that is a game: the characters that show its Players, and the keys that it heeds
 abbrev pub IsToldOf : List ℕ → List ℕ → HeardKeys → Type 0

@@ -15,77 +15,88 @@ use crate::command::{Asked, read_command};
 use crate::descriptions::describe_game;
 use crate::details::show_detail;
 use crate::engine::Engine;
-use crate::files::{STANDARD_INPUT, read_game_file, read_input, read_text};
+use crate::files::{read_one, read_text};
 use crate::playing::play_asked;
 use crate::replaying::replay_asked;
 use crate::reporting::{report_alone, report_texts};
 use crate::showing::show_asked;
 use crate::solving::solve_asked;
-use crate::stops::{Stop, stop_for, tell};
+use crate::stops::{Stop, tell};
+use crate::tracing::trace_asked;
+use crate::words::words_of;
 use ps_answers::LevelSolver;
 use ps_check::{check, check_named};
 use ps_devices::{ByteReader, ByteWriter, Player, RunFault};
 use ps_records::Replayer;
 use ps_report::{Detail, explanation};
+use ps_tracers::Tracing;
 use std::alloc::Global;
 use std::rt::{Env, Files};
 use std::time::Clock;
-use std::{env, io};
 
 /// Does what the command line asks for, with keys from `keys`, unless it names a file of keys, and frames to `screen`.
 /// Games are played and levels searched by `engine`, and recorded keys are replayed by `replayer`. Gives the status to
-/// end with: 0 where a run ended, a text was accepted, each level can be won, each stream of keys wins or what was asked
-/// for was told, 1 at a fault or where a level isn't known to be won or a game isn't won, and 2 at a bad command line. A
-/// fault and a bad command line are told on standard error.
+/// end with: 0 where a run ended, a text was accepted, each level can be won, each stream of keys wins or what was
+/// asked for was told, 1 at a fault or where a level isn't known to be won or a game isn't won, and 2 at a bad command
+/// line. A fault and a bad command line are told on standard error.
 pub fn run_command_line<
     R: Env + Files + AllocGlobal + Clock + Print + Eprint,
     P: Player,
     S: LevelSolver,
+    T: Tracing,
     Y: Replayer,
     I: ByteReader,
     O: ByteWriter,
->(rt: &R, engine: &Engine<'_, P, S>, replayer: &Y, keys: &mut I, screen: &mut O) -> u8
+>(rt: &R, engine: &Engine<'_, P, S, T>, replayer: &Y, keys: &mut I, screen: &mut O) -> u8
     requires heard { (I.state keys.old).has_failed ≡ false }
     requires well { (O.state screen.old).has_failed ≡ false }
     ensures { result ≤ 2 }
 {
     match act(rt, engine, replayer, keys, screen) {
         Ok(()) => 0,
-        Err(stop) => tell(rt, stop),
+        Err(stop) => tell(rt, &stop),
     }
 }
 
-/// Does what the command line asks for: plays a game, checks one, searches its levels, replays recorded keys, or says what
-/// a fault is.
+/// Does what the command line asks for: plays a game, checks one, searches its levels, replays recorded keys, or says
+/// what a fault is.
 fn act<
     R: Env + Files + AllocGlobal + Clock + Print + Eprint,
     P: Player,
     S: LevelSolver,
+    T: Tracing,
     Y: Replayer,
     I: ByteReader,
     O: ByteWriter,
->(rt: &R, engine: &Engine<'_, P, S>, replayer: &Y, keys: &mut I, screen: &mut O) -> Result<(), Stop>
+>(
+    rt: &R,
+    engine: &Engine<'_, P, S, T>,
+    replayer: &Y,
+    keys: &mut I,
+    screen: &mut O,
+) -> Result<(), Stop>
     requires heard { (I.state keys.old).has_failed ≡ false }
     requires well { (O.state screen.old).has_failed ≡ false }
 {
-    let words = env::args(rt)
-        .map_err(|error| stop_for(error, Stop::NotText))?
-        .collect::<Vec<String>>(rt.alloc())
-        .map_err(|_| Stop::Run(RunFault::Memory))?;
-    match read_command(rt.alloc(), &words)? {
-        Asked::Explanation(code) => explain(rt, code),
-        Asked::Check(path) => check_text(rt, path, Detail::Line, keys, screen),
-        Asked::CheckWhy(path) => check_text(rt, path, Detail::Why, keys, screen),
-        Asked::CheckAll(paths) => check_texts(rt, &paths, Detail::Line, keys, screen),
-        Asked::CheckAllWhy(paths) => check_texts(rt, &paths, Detail::Why, keys, screen),
-        Asked::Report(path, how) => report_alone(rt, path, how, keys, screen),
-        Asked::Reports(paths, how) => report_texts(rt, &paths, how, keys, screen),
-        Asked::Description(path) => describe_game(rt, path, keys, screen),
-        Asked::Show(asked) => show_asked(rt, asked, keys, screen),
-        Asked::Solve(asked) => solve_asked(rt, engine, &asked, keys, screen),
-        Asked::SolveAfter(asked) => solve_after_asked(rt, engine, asked, keys, screen),
-        Asked::Replay(asked) => replay_asked(rt, replayer, &asked, keys, screen),
-        Asked::Play(asked) => play_asked(rt, engine.player, asked, keys, screen),
+    let words = words_of(rt)?;
+    let asked = read_command(rt.alloc(), &words)?;
+    match &asked {
+        Asked::Explanation(code) => explain(rt, *code),
+        Asked::Check(path) => check_text(rt, *path, Detail::Line, keys, screen),
+        Asked::CheckWhy(path) => check_text(rt, *path, Detail::Why, keys, screen),
+        Asked::CheckAll(paths) => check_texts(rt, paths, Detail::Line, keys, screen),
+        Asked::CheckAllWhy(paths) => check_texts(rt, paths, Detail::Why, keys, screen),
+        Asked::Report(path, how) => report_alone(rt, *path, *how, keys, screen),
+        Asked::Reports(paths, how) => report_texts(rt, paths, *how, keys, screen),
+        Asked::Description(path) => describe_game(rt, *path, keys, screen),
+        Asked::Show(asked) => show_asked(rt, *asked, keys, screen),
+        Asked::Solve(asked) => solve_asked(rt, engine, asked, keys, screen),
+        Asked::SolveAfter(asked) => solve_after_asked(rt, engine, *asked, keys, screen),
+        Asked::Replay(asked) => replay_asked(rt, replayer, asked, keys, screen),
+        Asked::Play(asked) if asked.is_traced => {
+            trace_asked(rt, engine.tracing, *asked, keys, screen)
+        }
+        Asked::Play(asked) => play_asked(rt, engine.player, *asked, keys, screen),
     }
 }
 
@@ -231,21 +242,11 @@ fn check_one<R: Files + AllocGlobal + Eprint, I: ByteReader, O: ByteWriter>(
         TellsOf detail path.now accepted (O.state screen.old).contents (O.state screen.new).contents)) }
     ensures fault { IfErr result (λ stop. stop ≢ Stop.NotAccepted) }
 {
-    if path == STANDARD_INPUT {
-        let text = read_input(rt.alloc(), input)?;
-        let accepted = check_bytes(rt.alloc(), path, &text, detail, screen)?;
-        return Ok(Some(accepted));
-    }
-    match read_game_file(rt, path) {
-        Ok(text) => {
-            let accepted = check_bytes(rt.alloc(), path, &text, detail, screen)?;
-            Ok(Some(accepted))
-        }
-        Err(error) => {
-            tell_unread(rt, path, error)?;
-            Ok(None)
-        }
-    }
+    let Some(text) = read_one(rt, path, input)? else {
+        return Ok(None);
+    };
+    let accepted = check_bytes(rt.alloc(), path, &text, detail, screen)?;
+    Ok(Some(accepted))
 }
 
 /// Says of the text of one of several files whether it is a game, and answers that.
@@ -271,22 +272,6 @@ fn check_bytes<O: ByteWriter>(
     }
     show_detail(alloc, text, detail, screen)?;
     Ok(false)
-}
-
-/// Tells on standard error that one of several files can't be read, unless it can't for want of memory.
-pub fn tell_unread<R: AllocGlobal + Eprint>(
-    rt: &R,
-    path: &str,
-    error: io::Error,
-) -> Result<(), Stop>
-    ensures fault { IfErr result (λ stop. stop ≢ Stop.NotAccepted) }
-{
-    if error.kind() == io::ErrorKind::OutOfMemory {
-        return Err(Stop::Run(RunFault::Memory));
-    }
-    let line = format!(in rt.alloc(); "{path}: cannot read game")?;
-    let _ = rt.eprintln(line);
-    Ok(())
 }
 
 /// Writes what the fault of a code is.

@@ -18,6 +18,7 @@ use ps_answers::{
 };
 use ps_devices::{ByteReader, ByteWriter, Player, RunFault};
 use ps_model::{CALL_LIMIT, READ_LIMIT};
+use ps_tracers::Tracing;
 use std::alloc::Global;
 use std::fs;
 use std::io::Read;
@@ -69,11 +70,12 @@ pub fn solve_after_asked<
     R: Files + AllocGlobal + Clock + Eprint,
     P: Player,
     S: LevelSolver,
+    T: Tracing,
     I: ByteReader,
     O: ByteWriter,
 >(
     rt: &R,
-    engine: &Engine<'_, P, S>,
+    engine: &Engine<'_, P, S, T>,
     asked: SolveAfter<'_>,
     input: &mut I,
     screen: &mut O,

@@ -34,6 +34,8 @@ pub struct Play<'w> {
     pub size: Option<Size>,
     /// The file that tells the size from then on, if one does.
     pub sizes: Option<&'w str>,
+    /// Whether it is told what the rules do for each key.
+    pub is_traced: bool,
 }
 
 /// The output of a run that is to be shown.
@@ -196,6 +198,7 @@ fn asked_play<'w>(
         keys,
         size,
         sizes,
+        is_traced: is_given(matches, "trace"),
     }))
 }
 

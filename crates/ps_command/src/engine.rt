@@ -2,11 +2,13 @@
 
 use ps_answers::LevelSolver;
 use ps_devices::Player;
+use ps_tracers::Tracing;
 
-/// What plays games and searches their levels, and whether somebody looks on.
+/// What plays games, traces them and searches their levels, and whether somebody looks on.
 #[derive(Drop)]
-pub struct Engine<'e, P: Player, S: LevelSolver> {
+pub struct Engine<'e, P: Player, S: LevelSolver, T: Tracing> {
     pub player: &'e P,
+    pub tracing: &'e T,
     pub solver: &'e S,
     /// Whether standard error is a terminal. There it is said how far a search is, while it goes on.
     pub is_watched: bool,

@@ -6,6 +6,7 @@
 
 mod acts;
 mod after_keys;
+mod argument_table;
 mod arguments;
 mod command;
 mod descriptions;
@@ -23,7 +24,9 @@ mod showing;
 mod sizes;
 mod solving;
 mod stops;
+mod tracing;
 mod viewed_games;
+mod words;
 
 pub use acts::run_command_line;
 pub use engine::Engine;

@@ -9,7 +9,7 @@ use crate::command::Play;
 use crate::files::read_text;
 use crate::sizes::FileSizes;
 use crate::stops::{Stop, stop_for};
-use crate::viewed_games::viewed_game;
+use crate::viewed_games::{drawn, viewed_game};
 use ps_devices::{ByteReader, ByteWriter, FromStd, LevelFault, Player, RunFault};
 use ps_view::{Lent, Size, Viewed};
 use std::alloc::Global;
@@ -67,10 +67,7 @@ fn play_in_view<R: Files + AllocGlobal, P: Player, I: ByteReader, O: ByteWriter>
     let sizes = FileSizes::new(rt, asked.sizes);
     let mut view = Viewed::new(rt.alloc(), game, size, sizes, Lent::new(screen));
     let played = play_from(rt, player, start, asked.keys, keys, &mut view);
-    if view.wants_memory() {
-        return Err(Stop::Run(RunFault::Memory));
-    }
-    played
+    drawn(played, view.wants_memory())
 }
 
 /// Plays a game with keys from a file, which is opened once the game's text was read; or from a reader, where no file
@@ -126,7 +123,7 @@ fn play<P: Player, I: ByteReader, O: ByteWriter>(
 }
 
 /// What ends the program where a run from a level came to a fault.
-fn stop_of_level(level: usize, fault: LevelFault) -> Stop
+pub fn stop_of_level(level: usize, fault: LevelFault) -> Stop
     ensures { result ≡ stop_of_level level fault }
 {
     match fault {

@@ -3,15 +3,14 @@
 ghost use Rattle.std.specs.List.{list_any};
 ghost use Rattle.std.specs.Prelude.{◌≡◌, IfOk, codes};
 ghost use Rattle.ps_command.specs.AskedFor.{IsAsked, Replays};
-ghost use Rattle.ps_command.specs.CommandLines.{IsArgument, bound, flag};
 ghost use Rattle.ps_command.specs.Given.{IsGameIn, further_in, is_input, rows_in, texts_of};
 
 use crate::command::Asked;
 use crate::files::STANDARD_INPUT;
-use crate::given::values_given;
+use crate::given::{value_given, values_given};
 use crate::searches::wants_data;
 use crate::stops::Stop;
-use clap::{Arg, ArgAction, ArgMatches};
+use clap::ArgMatches;
 use std::alloc::{AllocError, Global};
 
 /// Streams of keys that are to be replayed in a game.
@@ -23,37 +22,6 @@ pub struct ReplayStreams<'w> {
     pub streams: Vec<&'w str>,
     /// Whether objects of JSON are told, and no lines for people.
     pub is_data: bool,
-}
-
-/// `--replay`.
-pub fn replay_option(alloc: Global) -> Result<Arg<'static>, AllocError>
-    ensures { IfOk result (IsArgument (bound (flag (codes "replay")))) }
-{
-    Arg::new(alloc, "replay")
-        .long("replay")
-        .help(
-            "Says which levels the keys in each file after GAME win, in how many keys, and whether they win it to its end",
-        )
-        .action(ArgAction::SetTrue)
-        .requires_arg("FURTHER")?
-        .conflicts_with_all(&[
-            "check",
-            "solve",
-            "why",
-            "all",
-            "limit",
-            "warn",
-            "strict",
-            "states",
-            "after",
-            "stop-file",
-            "level",
-            "keys",
-            "view",
-            "sizes",
-            "show",
-            "describe",
-        ])
 }
 
 /// Whether one of these words stands for standard input.
@@ -84,8 +52,14 @@ pub fn asked_replay<'w>(
     requires task { Replays (rows_in matches.now) }
     ensures asked { IfOk result (IsAsked (rows_in matches.now)) }
 {
+    if value_given(matches, "level").is_some() {
+        return Err(Stop::ReplayedLevel);
+    }
     let is_data = wants_data(matches)?;
     let streams = streams_given(alloc, matches)?;
+    if streams.is_empty() {
+        return Err(Stop::NoStreams);
+    }
     if game == STANDARD_INPUT && has_input(&streams) {
         return Err(Stop::OneInput);
     }

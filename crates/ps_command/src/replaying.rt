@@ -13,7 +13,7 @@ ghost use Rattle.ps_command.specs.Told.{TellsInOrder};
 ghost use Rattle.ps_command.specs.declared.stops.Stop.TheVariants as Stop;
 
 use crate::after_keys::{MOST_KEYS, read_key_file, read_keys_given};
-use crate::files::{STANDARD_INPUT, read_text};
+use crate::files::{STANDARD_INPUT, read_text, tell_unread};
 use crate::replay_options::ReplayStreams;
 use crate::reporting::report_bytes;
 use crate::stops::Stop;
@@ -21,7 +21,6 @@ use ps_check::first_fault;
 use ps_devices::{ByteReader, ByteWriter, RunFault, write_whole};
 use ps_records::{Form, Refusal, Replay, Replayer, told_in};
 use ps_report::{Detail, Format, How};
-use std::io;
 use std::rt::Files;
 
 /// In which form replays are told.
@@ -115,6 +114,7 @@ struct Streams<'s, R: Files + AllocGlobal + Eprint, Y: Replayer> {
 impl<'s, R: Files + AllocGlobal + Eprint, Y: Replayer> Streams<'s, R, Y> {
     /// Says of streams how far their keys get, and answers whether all win the game; or says of a text that is no game
     /// which fault it has first.
+    #[tactic(auto, using(crate::proofs::ReplaysTold::streams_told, crate::proofs::ReplaysTold::refusal_told))]
     fn replay_all<I: ByteReader, O: ByteWriter>(
         &self,
         paths: &[&str],
@@ -180,7 +180,7 @@ impl<'s, R: Files + AllocGlobal + Eprint, Y: Replayer> Streams<'s, R, Y> {
 
     /// Says of a stream how far its keys get, and answers whether they win the game. Nothing is said on the screen of
     /// one that can't be read. Standard input that can't be read, or has more keys than are read, ends the replays.
-    #[tactic(auto, using(crate::proofs::ReplaysTold::keys_won, crate::proofs::ReplaysTold::keys_told, crate::proofs::ReplaysTold::given_told, crate::proofs::ReplaysTold::unread_told))]
+    #[tactic(auto, using(crate::proofs::ReplaysTold::streams_read, crate::proofs::ReplaysTold::given_told))]
     fn replay_file<I: ByteReader, O: ByteWriter>(
         &self,
         path: &str,
@@ -210,14 +210,14 @@ impl<'s, R: Files + AllocGlobal + Eprint, Y: Replayer> Streams<'s, R, Y> {
         match read_key_file(self.rt, path) {
             Ok(keys) => self.replay_if_few(path, &keys, screen),
             Err(error) => {
-                self.tell_unread(path, error)?;
+                tell_unread(self.rt, path, error)?;
                 Ok(false)
             }
         }
     }
 
     /// The same of keys that a file has, if they aren't more than are read.
-    #[tactic(auto, using(crate::proofs::ReplaysTold::keys_won, crate::proofs::ReplaysTold::keys_told, crate::proofs::ReplaysTold::unread_told))]
+    #[tactic(auto, using(crate::proofs::ReplaysTold::streams_read))]
     fn replay_if_few<O: ByteWriter>(
         &self,
         path: &str,
@@ -235,7 +235,7 @@ impl<'s, R: Files + AllocGlobal + Eprint, Y: Replayer> Streams<'s, R, Y> {
         ensures fault { IfErr result (λ stop. stop ≢ Stop.NotAccepted) }
     {
         if keys.len() > MOST_KEYS {
-            self.complain(path, "more keys than are read")?;
+            self.tell_too_many(path)?;
             return Ok(false);
         }
         self.replay_keys(path, keys, screen)
@@ -287,21 +287,11 @@ impl<'s, R: Files + AllocGlobal + Eprint, Y: Replayer> Streams<'s, R, Y> {
         }
     }
 
-    /// Tells on standard error that a stream can't be read, unless it can't for want of memory.
-    fn tell_unread(&self, path: &str, error: io::Error) -> Result<(), Stop>
+    /// Tells on standard error that a stream has more keys than are read.
+    fn tell_too_many(&self, path: &str) -> Result<(), Stop>
         ensures fault { IfErr result (λ stop. stop ≢ Stop.NotAccepted) }
     {
-        if error.kind() == io::ErrorKind::OutOfMemory {
-            return Err(Stop::Run(RunFault::Memory));
-        }
-        self.complain(path, "cannot read keys")
-    }
-
-    /// Tells something of a stream on standard error.
-    fn complain(&self, path: &str, words: &str) -> Result<(), Stop>
-        ensures fault { IfErr result (λ stop. stop ≢ Stop.NotAccepted) }
-    {
-        let line = format!(in self.rt.alloc(); "{path}: {words}")?;
+        let line = format!(in self.rt.alloc(); "{path}: more keys than are read")?;
         let _ = self.rt.eprintln(line);
         Ok(())
     }

@@ -3,78 +3,17 @@
 ghost use Rattle.std.specs.Prelude.{◌≡◌, IfOk, IfSome, codes, true};
 ghost use Rattle.clap.specs.Words.{first_of};
 ghost use Rattle.ps_command.specs.AskedFor.{Checks, IsAsked, IsHow, IsMost, tells_more};
-ghost use Rattle.ps_command.specs.CommandLines.{IsArgument, bound, flag, option};
 ghost use Rattle.ps_command.specs.Given.{IsCount, IsFormOf, IsGameIn, is_given, rows_in, word_of};
 
 use crate::command::{Asked, all_paths};
 use crate::given::{is_given, value_given, values_given};
 use crate::stops::Stop;
-use clap::{Arg, ArgAction, ArgMatches};
+use clap::ArgMatches;
 use ps_report::{Detail, Format, How};
 use std::alloc::{AllocError, Global};
 
 /// The number of faults of a text that are told at most, where no other is given.
 const MOST_FAULTS: u32 = 100;
-
-/// `--all`.
-pub fn all_option(alloc: Global) -> Result<Arg<'static>, AllocError>
-    ensures { IfOk result (IsArgument (bound (flag (codes "all")))) }
-{
-    Arg::new(alloc, "all")
-        .long("all")
-        .help(
-            "With --check, tells all faults of a text, as far as it can be read, and their number",
-        )
-        .action(ArgAction::SetTrue)
-        .requires_arg("check")
-}
-
-/// `--limit N`.
-pub fn limit_option(alloc: Global) -> Result<Arg<'static>, AllocError>
-    ensures { IfOk result (IsArgument (bound (option (codes "limit")))) }
-{
-    Arg::new(alloc, "limit")
-        .long("limit")
-        .value_name("N")
-        .help("With --all, tells at most N faults of a text, in place of 100")
-        .action(ArgAction::Set)
-        .requires_arg("all")
-}
-
-/// `--warn`.
-pub fn warn_option(alloc: Global) -> Result<Arg<'static>, AllocError>
-    ensures { IfOk result (IsArgument (bound (flag (codes "warn")))) }
-{
-    Arg::new(alloc, "warn")
-        .long("warn")
-        .help("With --check, warns of what is surely a mistake in a game, as a misspelt option")
-        .action(ArgAction::SetTrue)
-        .requires_arg("check")
-}
-
-/// `--strict`.
-pub fn strict_option(alloc: Global) -> Result<Arg<'static>, AllocError>
-    ensures { IfOk result (IsArgument (bound (flag (codes "strict")))) }
-{
-    Arg::new(alloc, "strict")
-        .long("strict")
-        .help("With --warn, ends with status 1 where there is a warning")
-        .action(ArgAction::SetTrue)
-        .requires_arg("warn")
-}
-
-/// `--format FORMAT`.
-pub fn format_option(alloc: Global) -> Arg<'static>
-    ensures { IsArgument (option (codes "format")) result }
-{
-    Arg::new(alloc, "format")
-        .long("format")
-        .value_name("FORMAT")
-        .help(
-            "Tells what --check, --solve or --replay says as text for people or as json for programs; --check also as gnu for editors",
-        )
-        .action(ArgAction::Set)
-}
 
 /// The form that a word asks for.
 fn format_of(word: &str) -> Option<Format>

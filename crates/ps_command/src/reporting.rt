@@ -9,8 +9,8 @@ ghost use Rattle.ps_report.specs.Reports.{is_well};
 ghost use Rattle.ps_command.specs.Statuses.{IsApart};
 ghost use Rattle.ps_command.specs.declared.stops.Stop.TheVariants as Stop;
 
-use crate::acts::{Said, tell_unread};
-use crate::files::{STANDARD_INPUT, read_game_file, read_input, read_text};
+use crate::acts::Said;
+use crate::files::{read_one, read_text};
 use crate::stops::Stop;
 use ps_devices::{ByteReader, ByteWriter, RunFault, write_whole};
 use ps_report::{How, report};
@@ -90,21 +90,11 @@ fn report_one<R: Files + AllocGlobal + Eprint, I: ByteReader, O: ByteWriter>(
         (O.state screen.old).contents (O.state screen.new).contents)) }
     ensures fault { IfErr result (λ stop. stop ≢ Stop.NotAccepted) }
 {
-    if path == STANDARD_INPUT {
-        let text = read_input(rt.alloc(), input)?;
-        let is_well = report_bytes(rt.alloc(), path, &text, how, screen)?;
-        return Ok(Some(is_well));
-    }
-    match read_game_file(rt, path) {
-        Ok(text) => {
-            let is_well = report_bytes(rt.alloc(), path, &text, how, screen)?;
-            Ok(Some(is_well))
-        }
-        Err(error) => {
-            tell_unread(rt, path, error)?;
-            Ok(None)
-        }
-    }
+    let Some(text) = read_one(rt, path, input)? else {
+        return Ok(None);
+    };
+    let is_well = report_bytes(rt.alloc(), path, &text, how, screen)?;
+    Ok(Some(is_well))
 }
 
 /// Tells of the text of each of several files on the screen, in their order: of one that is well, of one that isn't, or

@@ -3,7 +3,6 @@
 ghost use Rattle.std.specs.Prelude.{◌≡◌, ◌≢◌, [], IfOk, IfSome, OnOk, codes};
 ghost use Rattle.clap.specs.Words.{first_of};
 ghost use Rattle.ps_command.specs.AskedFor.{IsAsked, IsSearch, Solves};
-ghost use Rattle.ps_command.specs.CommandLines.{IsArgument, bound, flag, option};
 ghost use Rattle.ps_command.specs.Given.{AreWordsToSolve, IsCount, IsCountOr, IsFormOf, IsGameIn, form_for, rows_in};
 ghost use Rattle.ps_command.specs.Given.{files_of, text_of, texts_of};
 
@@ -13,68 +12,12 @@ use crate::files::STANDARD_INPUT;
 use crate::given::{value_given, values_given};
 use crate::report_options::format_asked;
 use crate::stops::Stop;
-use clap::{Arg, ArgAction, ArgMatches};
+use clap::ArgMatches;
 use ps_report::Format;
 use std::alloc::{AllocError, Global};
 
 /// How many states are kept for a level at most, where no other number is given.
 const MOST_STATES: u32 = 1_000_000;
-
-/// `--solve`.
-pub fn solve_option(alloc: Global) -> Result<Arg<'static>, AllocError>
-    ensures { IfOk result (IsArgument (bound (flag (codes "solve")))) }
-{
-    Arg::new(alloc, "solve")
-        .long("solve")
-        .help(
-            "Says of each level, or of the one whose number follows GAME, whether it can be won, and in how few keys; plays nothing",
-        )
-        .action(ArgAction::SetTrue)
-        .conflicts_with_all(&[
-            "check", "why", "all", "limit", "keys", "view", "sizes", "show", "describe",
-        ])
-}
-
-/// `--states N`.
-pub fn states_option(alloc: Global) -> Result<Arg<'static>, AllocError>
-    ensures { IfOk result (IsArgument (bound (option (codes "states")))) }
-{
-    Arg::new(alloc, "states")
-        .long("states")
-        .value_name("N")
-        .help("With --solve, keeps at most N states for a level, in place of 1000000")
-        .action(ArgAction::Set)
-        .requires_arg("solve")?
-        .conflicts_with_all(&["check", "keys", "view", "show", "describe"])
-}
-
-/// `--stop-file FILE`.
-pub fn stop_option(alloc: Global) -> Result<Arg<'static>, AllocError>
-    ensures { IfOk result (IsArgument (bound (option (codes "stop-file")))) }
-{
-    Arg::new(alloc, "stop-file")
-        .long("stop-file")
-        .value_name("FILE")
-        .help("With --solve, ends the search once FILE is there, and says what is known then")
-        .action(ArgAction::Set)
-        .requires_arg("solve")?
-        .conflicts_with_all(&["check", "keys", "view", "show", "describe"])
-}
-
-/// `--after KEYS`.
-pub fn after_option(alloc: Global) -> Result<Arg<'static>, AllocError>
-    ensures { IfOk result (IsArgument (bound (option (codes "after")))) }
-{
-    Arg::new(alloc, "after")
-        .long("after")
-        .value_name("KEYS")
-        .help(
-            "With --solve, asks of the level to which the keys in the file KEYS lead, or those on standard input, which is -",
-        )
-        .action(ArgAction::Set)
-        .requires_arg("solve")?
-        .conflicts_with_all(&["check", "keys", "view", "show", "describe"])
-}
 
 /// How many states a word lets be kept, from 1.
 fn states_of(word: &str) -> Option<u32>
@@ -187,7 +130,7 @@ struct WordsToSolve<'w, 'm> {
 
 /// What is meant by the words after the first text. They are further texts; but a number alone is that of the level,
 /// unless an option has given it.
-#[tactic(auto, using(crate::proofs::WordsToSolve::no_words, crate::proofs::WordsToSolve::words_kept, crate::proofs::WordsToSolve::lone_level, crate::proofs::WordsToSolve::lone_file, crate::proofs::NumbersRead::number_read))]
+#[tactic(auto, using(crate::proofs::WordsToSolve::words_meant, crate::proofs::NumbersRead::number_read))]
 fn words_to_solve<'w, 'm>(
     level: Option<usize>,
     further: Option<&'m [&'w str]>,

@@ -6,7 +6,7 @@ use crate::command::Show;
 use crate::files::{STANDARD_INPUT, read_text};
 use crate::sizes::FileSizes;
 use crate::stops::{Stop, stop_for};
-use crate::viewed_games::viewed_game;
+use crate::viewed_games::{drawn, viewed_game};
 use ps_devices::{ByteReader, ByteWriter, FromStd, RunFault, write_whole};
 use ps_model::CALL_LIMIT;
 use ps_view::{Lent, Viewed};
@@ -24,14 +24,25 @@ pub fn show_asked<R: Files + AllocGlobal, I: ByteReader, O: ByteWriter>(
     requires well { (O.state screen.old).has_failed ≡ false }
 {
     let text = read_text(rt, asked.game, input)?;
-    let game = viewed_game(rt.alloc(), &text)?;
+    show_in_view(rt, asked, &text, input, screen)
+}
+
+/// Shows the output of a run of a text's game as a view shows it.
+fn show_in_view<R: Files + AllocGlobal, I: ByteReader, O: ByteWriter>(
+    rt: &R,
+    asked: Show<'_>,
+    text: &[u8],
+    input: &mut I,
+    screen: &mut O,
+) -> Result<(), Stop>
+    requires heard { (I.state input.old).has_failed ≡ false }
+    requires well { (O.state screen.old).has_failed ≡ false }
+{
+    let game = viewed_game(rt.alloc(), text)?;
     let sizes = FileSizes::new(rt, asked.sizes);
     let mut view = Viewed::new(rt.alloc(), game, asked.size, sizes, Lent::new(screen));
     let shown = show_from(rt, asked.output, input, &mut view);
-    if view.wants_memory() {
-        return Err(Stop::Run(RunFault::Memory));
-    }
-    shown
+    drawn(shown, view.wants_memory())
 }
 
 /// Hands on the output that a file has, or a reader.
@@ -47,7 +58,7 @@ fn show_from<R: Files, I: ByteReader, O: ByteWriter>(
     if path == STANDARD_INPUT {
         return hand_on(input, screen);
     }
-    let file = fs::open(rt, path).map_err(|error| stop_for(error, Stop::Run(RunFault::Read)))?;
+    let file = fs::open(rt, path).map_err(|error| stop_for(error, Stop::Output))?;
     let mut file = FromStd::new(file);
     hand_on(&mut file, screen)
 }
@@ -60,7 +71,7 @@ fn hand_on<I: ByteReader, O: ByteWriter>(input: &mut I, screen: &mut O) -> Resul
     let mut piece = [0u8; CALL_LIMIT];
     for _call in 0..u64::MAX {
         let Ok(count) = input.read_some(&mut piece) else {
-            return Err(Stop::Run(RunFault::Read));
+            return Err(Stop::Output);
         };
         if count == 0 {
             return Ok(());

@@ -12,7 +12,7 @@ use std::rt::Files;
 const MOST_BYTES: usize = 16;
 
 /// The size that a word gives: how many rows, `x`, and how many columns, as in `24x80`.
-#[tactic(auto, using(crate::proofs::NumbersRead::number_read, crate::proofs::NumbersRead::parted, crate::proofs::NumbersRead::size_read))]
+#[tactic(auto, using(crate::proofs::NumbersRead::sizes_read))]
 pub fn size_of(word: &str) -> Option<Size>
     ensures { IfSome result (IsSizeIn word.now) }
 {

@@ -8,10 +8,9 @@ ghost use Rattle.ps_command.specs.Statuses.{IsApart};
 ghost use Rattle.ps_command.specs.Told.{TellsInOrder};
 ghost use Rattle.ps_command.specs.declared.stops.Stop.TheVariants as Stop;
 
-use crate::acts::tell_unread;
 use crate::command::Solve;
 use crate::engine::Engine;
-use crate::files::{STANDARD_INPUT, read_game_file, read_input};
+use crate::files::read_one;
 use crate::reporting::report_bytes;
 use crate::stops::{Stop, tell_no_such_level};
 use ps_answers::{
@@ -19,6 +18,7 @@ use ps_answers::{
 };
 use ps_devices::{ByteReader, ByteWriter, Player, RunFault};
 use ps_report::{Detail, Format, How};
+use ps_tracers::Tracing;
 use std::rt::Files;
 use std::time::Clock;
 
@@ -29,11 +29,12 @@ pub fn solve_asked<
     R: Files + AllocGlobal + Clock + Eprint,
     P: Player,
     S: LevelSolver,
+    T: Tracing,
     I: ByteReader,
     O: ByteWriter,
 >(
     rt: &R,
-    engine: &Engine<'_, P, S>,
+    engine: &Engine<'_, P, S, T>,
     asked: &Solve<'_>,
     input: &mut I,
     screen: &mut O,
@@ -152,7 +153,7 @@ impl<'s, R: Files + AllocGlobal + Clock + Eprint, S: LevelSolver> Search<'s, R, 
 
     /// Says of levels of the game in a file whether they can be won, and answers whether all can. Nothing is said on
     /// the screen of a file that can't be read.
-    #[tactic(auto, using(crate::proofs::LinesOnLevels::text_told, crate::proofs::LinesOnLevels::given_told, crate::proofs::LinesOnLevels::unread_told))]
+    #[tactic(auto, using(crate::proofs::LinesOnLevels::files_read))]
     fn solve_file<I: ByteReader, O: ByteWriter>(
         &self,
         path: &str,
@@ -172,16 +173,9 @@ impl<'s, R: Files + AllocGlobal + Clock + Eprint, S: LevelSolver> Search<'s, R, 
             (O.state screen.old).contents (O.state screen.new).contents) }
         ensures fault { IfErr result (λ stop. stop ≢ Stop.NotAccepted) }
     {
-        if path == STANDARD_INPUT {
-            let text = read_input(self.rt.alloc(), input)?;
-            return self.solve_text(path, &text, screen);
-        }
-        match read_game_file(self.rt, path) {
-            Ok(text) => self.solve_text(path, &text, screen),
-            Err(error) => {
-                tell_unread(self.rt, path, error)?;
-                Ok(false)
-            }
+        match read_one(self.rt, path, input)? {
+            Some(text) => self.solve_text(path, &text, screen),
+            None => Ok(false),
         }
     }
 

@@ -13,7 +13,7 @@ use std::alloc::AllocError;
 use std::io;
 
 /// What is told where no size of a terminal is given.
-const NO_SIZE: &str = "error: --view takes rows, x and columns, as 24x80: at least one of each
+const NO_SIZE: &str = "error: --view takes rows, x and columns, as 24x80: from 1 to 65535 of each
 
 For more information, try '--help'.";
 
@@ -59,16 +59,32 @@ const ONE_INPUT: &str = "error: GAME and keys can't both be standard input
 
 For more information, try '--help'.";
 
+/// What is told where a level is given beside streams of keys.
+const REPLAYED_LEVEL: &str =
+    "error: --replay plays each file of keys from the start of the game: --level can't stand beside it
+
+For more information, try '--help'.";
+
+/// What is told where no stream of keys is named.
+const NO_STREAMS: &str = "error: --replay takes GAME, and after it files with keys
+
+For more information, try '--help'.";
+
+/// What is told where an output that is to be shown can't be read.
+const NO_OUTPUT: &str =
+    "cannot read output: --show takes a file with the output of a run, or - for standard input";
+
 /// Why the program ends in place of a run's end.
 #[derive(Drop)]
 pub enum Stop {
     /// The command line asks for help or the version, or isn't right.
     CommandLine(clap::Error),
-    /// The command line isn't UTF-8.
-    NotText,
+    /// The command line isn't UTF-8: a word with U+FFFD in place of what isn't, if it can be named.
+    NotText(String),
     /// The command line asks what a fault is, by a code that no fault has.
     NoSuchCode,
-    /// The command line gives no size of a terminal where it is to, or one without a row or a column.
+    /// The command line gives no size of a terminal where it is to, or one without a row or a column, or with more than
+    /// 65,535 of them.
     NoSize,
     /// The command line gives no number of a level where it is to.
     NoLevel,
@@ -84,8 +100,14 @@ pub enum Stop {
     OneGame,
     /// The command line asks for a text and for keys from standard input, which gives one of them.
     OneInput,
+    /// The command line gives a level beside streams of keys, which are replayed from the start.
+    ReplayedLevel,
+    /// The command line gives no stream of keys where it is to.
+    NoStreams,
     /// The game can't be read.
     Game,
+    /// The output that is to be shown can't be read.
+    Output,
     /// The game has no level of this number, but so many others.
     NoSuchLevel { level: usize, levels: usize },
     /// The keys that are played before a search lead to no level.
@@ -173,47 +195,31 @@ pub fn stop_for(error: io::Error, other: Stop) -> Stop
 
 /// Says why the program ends, and gives its status: 0 after help or the version, 2 for a bad command line, 1 for a
 /// fault. What standard error doesn't take is lost.
-pub fn tell<R: Print + Eprint>(rt: &R, stop: Stop) -> u8
-    ensures status { IsStatusOf stop result }
+pub fn tell<R: Print + Eprint>(rt: &R, stop: &Stop) -> u8
+    ensures status { IsStatusOf stop.now result }
     ensures few { result ≤ 2 }
 {
     match stop {
-        Stop::CommandLine(error) => return tell_command_line(rt, &error),
-        Stop::NotText => {
-            let _ = rt.eprintln("error: the command line isn't UTF-8");
-            return 2;
-        }
-        Stop::NoSuchCode => {
-            let _ = rt.eprintln("error: no fault has this code");
-            return 2;
-        }
-        Stop::NoSize => {
-            let _ = rt.eprintln(NO_SIZE);
-            return 2;
-        }
-        Stop::NoLevel => {
-            let _ = rt.eprintln(NO_LEVEL);
-            return 2;
-        }
-        Stop::NoLimit => {
-            let _ = rt.eprintln(NO_LIMIT);
-            return 2;
-        }
-        Stop::NoFormat => {
-            let _ = rt.eprintln(NO_FORMAT);
-            return 2;
-        }
-        Stop::NoStates => {
-            let _ = rt.eprintln(NO_STATES);
-            return 2;
-        }
+        Stop::CommandLine(error) => return tell_command_line(rt, error),
+        Stop::NotText(word) => return tell_not_text(rt, word),
+        Stop::NoSuchCode => return tell_wrong_line(rt, "error: no fault has this code"),
+        Stop::NoSize => return tell_wrong_line(rt, NO_SIZE),
+        Stop::NoLevel => return tell_wrong_line(rt, NO_LEVEL),
+        Stop::NoLimit => return tell_wrong_line(rt, NO_LIMIT),
+        Stop::NoFormat => return tell_wrong_line(rt, NO_FORMAT),
+        Stop::NoStates => return tell_wrong_line(rt, NO_STATES),
         Stop::NoTask => return tell_wrong_line(rt, NO_TASK),
         Stop::OneGame => return tell_wrong_line(rt, ONE_GAME),
         Stop::OneInput => return tell_wrong_line(rt, ONE_INPUT),
+        Stop::ReplayedLevel => return tell_wrong_line(rt, REPLAYED_LEVEL),
+        Stop::NoStreams => return tell_wrong_line(rt, NO_STREAMS),
         Stop::Game => {
             let _ = rt.eprintln("cannot read game");
         }
-        Stop::NoSuchLevel { level, levels } => tell_no_such_level(rt, "", level, levels),
+        Stop::Output => {
+            let _ = rt.eprintln(NO_OUTPUT);
+        }
+        Stop::NoSuchLevel { level, levels } => tell_no_such_level(rt, "", *level, *levels),
         Stop::NoLevelThere => {
             let _ = rt.eprintln(NO_LEVEL_THERE);
         }
@@ -222,7 +228,7 @@ pub fn tell<R: Print + Eprint>(rt: &R, stop: Stop) -> u8
         }
         Stop::NotAccepted => {}
         Stop::Run(fault) => {
-            let _ = rt.eprintln(fault);
+            let _ = rt.eprintln(*fault);
         }
     }
     1
@@ -233,6 +239,14 @@ fn tell_wrong_line<R: Eprint>(rt: &R, text: &'static str) -> u8
     ensures { result ≡ 2 }
 {
     let _ = rt.eprintln(text);
+    2
+}
+
+/// Says which word of a command line isn't UTF-8, and gives the status.
+fn tell_not_text<R: Eprint>(rt: &R, word: &str) -> u8
+    ensures { result ≡ 2 }
+{
+    let _ = eprintln!(rt; "error: the command line isn't UTF-8: {word:?}");
     2
 }
 

@@ -1,11 +1,12 @@
 //! What a view knows of the game that it shows.
 
-ghost use Rattle.std.specs.Prelude.{◌≡◌, ◌≢◌, IfErr, IfOk};
+ghost use Rattle.std.specs.Prelude.{◌≡◌, ◌≢◌, false, true, Err, IfErr, IfOk};
 ghost use Rattle.ps_command.specs.ViewedGames.{IsToldOf, heard_by};
 ghost use Rattle.ps_command.specs.declared.stops.Stop.TheVariants as Stop;
 
 use crate::stops::Stop;
 use ps_describe::{Options, facts_of};
+use ps_devices::RunFault;
 use ps_view::{HeardKeys, ViewedGame};
 use std::alloc::Global;
 
@@ -44,4 +45,15 @@ pub fn viewed_game(alloc: Global, text: &[u8]) -> Result<ViewedGame, Stop>
         heard: heard_keys(facts.options),
         players: facts.players,
     })
+}
+
+/// What came of something that was drawn in a view, of which it is said afterwards whether it lacked memory.
+pub fn drawn(outcome: Result<(), Stop>, wants_memory: bool) -> Result<(), Stop>
+    ensures short { wants_memory ≡ true → result ≡ Err (Stop.Run RunFault.Memory) }
+    ensures same { wants_memory ≡ false → result ≡ outcome }
+{
+    if wants_memory {
+        return Err(Stop::Run(RunFault::Memory));
+    }
+    outcome
 }

@@ -6,14 +6,20 @@ use ps_devices::FromStd;
 use ps_replay::GameReplayer;
 use ps_run::GamePlayer;
 use ps_solve::GameSolver;
+use ps_trace::GameTracing;
 use std::io::IsTerminal;
 use std::process::ExitCode;
 
 fn main(rt: HostRuntime) -> ExitCode {
     let mut keys = FromStd::new(rt.stdin());
     let mut screen = FromStd::new(rt.stdout());
+    let tracing = GameTracing {
+        player: &GamePlayer,
+        lines: rt.stdout(),
+    };
     let engine = Engine {
         player: &GamePlayer,
+        tracing: &tracing,
         solver: &GameSolver,
         is_watched: rt.stderr().is_terminal(),
     };

@@ -9,6 +9,7 @@ use ps_model::CALL_LIMIT;
 use ps_replay::GameReplayer;
 use ps_run::GamePlayer;
 use ps_solve::GameSolver;
+use ps_tracers::Untraced;
 use std::process::Abort;
 
 /// What must come of a command line.
@@ -60,13 +61,13 @@ const CHECKED: &str = "ok: objects 9, layers 4, rules 1, levels 1\n";
 
 /// What is printed for the code RU7.
 const UNBOUND: &str =
-    "Nothing on the left decides which is meant by a property, or by a word of several moves, on the right.\n";
+    "The right has a property, or a word of several moves, and nothing on the left decides which one it means.\n";
 
 /// The objects of JSON on the game of two levels, and on the text that ends before its levels.
 const OBJECTS: &str =
     "{\"author\":\"\",\"complete\":true,\"counts\":{\"layers\":3,\"levels\":2,\"objects\":3,\"rules\":0},\"faults\":[],\
-    \"file\":\"two.game\",\"homepage\":\"\",\"levels\":[{\"columns\":2,\"rows\":1},{\"columns\":3,\"rows\":1}],\"ok\":true,\
-    \"title\":\"T\"}\n\
+    \"file\":\"two.game\",\"homepage\":\"\",\"levels\":[{\"columns\":2,\"rows\":1},{\"columns\":3,\"rows\":1}],\
+    \"ok\":true,\"title\":\"T\"}\n\
     {\"author\":null,\"complete\":true,\"counts\":null,\"faults\":[{\"code\":\"GM2\",\"column\":1,\"line\":11,\
     \"message\":\"There is no header LEVELS.\",\"name\":\"NoSection\"}],\"file\":\"cut.game\",\"homepage\":null,\
     \"levels\":null,\"ok\":false,\"title\":null}\n";
@@ -78,7 +79,7 @@ pub const CUT_OBJECT: &str =
     \"levels\":null,\"ok\":false,\"title\":null}\n";
 
 /// The words of command lines that aren't right.
-const BAD_LINES: [&[&str]; 86] = [
+const BAD_LINES: [&[&str]; 92] = [
     &["ps_play", "a.game", "--show", "-"],
     &["ps_play", "--view", "24x80", "--show", "-"],
     &["ps_play", "--describe"],
@@ -111,6 +112,12 @@ const BAD_LINES: [&[&str]; 86] = [
     &["ps_play", "a.game", "--sizes", "small.size"],
     &["ps_play", "a.game", "--view", "24x80", "--sizes"],
     &["ps_play", "--explain", "RU7", "--sizes", "small.size"],
+    &["ps_play", "a.game", "--trace", "--check"],
+    &["ps_play", "a.game", "--trace", "--solve"],
+    &["ps_play", "a.game", "a.keys", "--trace", "--replay"],
+    &["ps_play", "a.game", "--trace", "--view", "24x80"],
+    &["ps_play", "a.game", "--trace", "--describe"],
+    &["ps_play", "--explain", "RU7", "--trace"],
     &["ps_play", "a.game", "--level"],
     &["ps_play", "a.game", "--level", "0"],
     &["ps_play", "a.game", "--level", "two"],
@@ -217,6 +224,10 @@ const PLAYS: [(Told, &[Line]); 11] = [
                 "a.game\na.keys\n",
             ),
             (&["ps_play", "--keys=a.keys", "a.game"], "a.game\na.keys\n"),
+            (
+                &["ps_play", "--trace", "a.game", "--keys", "a.keys"],
+                "a.game\na.keys\n",
+            ),
         ],
     ),
     // It is won in a view, of the size that is given where no file tells another one.
@@ -476,7 +487,7 @@ const CHECKS: [(Told, &[Line]); 17] = [
             status: 1,
             shown: "a.game: ok: objects 9, layers 4, rules 1, levels 1\n",
             printed: "",
-            complained: "lost.game: cannot read game\n",
+            complained: "cannot read lost.game: no such file\n",
         },
         &[(
             &["ps_play", "--check", "lost.game", "a.game"],
@@ -505,7 +516,7 @@ const CHECKS: [(Told, &[Line]); 17] = [
             cut.game: line 11: GM2 NoSection\n\
             cut.game: 1 fault\n",
             printed: "",
-            complained: "lost.game: cannot read game\n",
+            complained: "cannot read lost.game: no such file\n",
         },
         &[(
             &[
@@ -528,9 +539,9 @@ const CHECKS: [(Told, &[Line]); 17] = [
             reads: 0,
             status: 0,
             shown: "ok: objects 3, layers 3, rules 1, levels 2\n\
-            line 2: warning: this line says nothing, but its first word is much like `noundo`\n\
-            line 16: warning: this rule can do nothing\n\
-            line 22: warning: this level shows no Player\n",
+            line 2: warning: this line has no effect: did you mean `noundo`?\n\
+            line 16: warning: this rule has no effect\n\
+            line 22: warning: this level has no Player\n",
             printed: "",
             complained: "",
         },
@@ -562,9 +573,9 @@ const CHECKS: [(Told, &[Line]); 17] = [
             input: b"d",
             reads: 0,
             status: 1,
-            shown: "warned.game:2:1: warning: this line says nothing, but its first word is much like `noundo`\n\
-            warned.game:16:1: warning: this rule can do nothing\n\
-            warned.game:22:1: warning: this level shows no Player\n",
+            shown: "warned.game:2:1: warning: this line has no effect: did you mean `noundo`?\n\
+            warned.game:16:1: warning: this rule has no effect\n\
+            warned.game:22:1: warning: this level has no Player\n",
             printed: "",
             complained: "",
         },
@@ -621,7 +632,7 @@ const CHECKS: [(Told, &[Line]); 17] = [
             status: 1,
             shown: OBJECTS,
             printed: "",
-            complained: "lost.game: cannot read game\n",
+            complained: "cannot read lost.game: no such file\n",
         },
         &[(
             &[
@@ -687,7 +698,7 @@ const DESCRIBED: &str =
     \"ignored_keys\":[],\"levels\":1,\"player_glyphs\":\"P\",\"title\":\"T\",\"without_glyph\":[]}\n";
 
 /// Command lines of a front end, and what must come of each.
-const FRONT_END: [(Told, &[Line]); 3] = [
+const FRONT_END: [(Told, &[Line]); 4] = [
     // A game is described.
     (
         Told {
@@ -727,6 +738,21 @@ const FRONT_END: [(Told, &[Line]); 3] = [
             "a.game\n",
         )],
     ),
+    // It is said what may stand where no output is.
+    (
+        Told {
+            input: b"d",
+            reads: 0,
+            status: 1,
+            shown: "",
+            printed: "",
+            complained: "cannot read output: --show takes a file with the output of a run, or - for standard input\n",
+        },
+        &[(
+            &["ps_play", "a.game", "--view", "24x80", "--show", "lost.out"],
+            "a.game\nlost.out\n",
+        )],
+    ),
 ];
 
 /// Command lines that ask what a fault is, and what must come of each.
@@ -750,7 +776,7 @@ const EXPLANATIONS: [(Told, &[Line]); 5] = [
             reads: 0,
             status: 0,
             shown: "",
-            printed: "LEVELS has no level; messages are none.\n",
+            printed: "LEVELS has no level; messages don't count.\n",
             complained: "",
         },
         &[(&["ps_play", "--explain", "LV4"], "")],
@@ -832,8 +858,12 @@ pub fn obey_on(
     let mut keys = Watched::new(MemoryReader::new(input, 1, None));
     let screen = MemoryWriter::new(rt.alloc(), room, CALL_LIMIT);
     let mut screen = screen.expect(rt, "memory for the screen");
+    let tracing = Untraced {
+        player: &GamePlayer,
+    };
     let engine = Engine {
         player: &GamePlayer,
+        tracing: &tracing,
         solver: &GameSolver,
         is_watched: true,
     };

@@ -140,6 +140,7 @@ fn no_key_is_read_behind_the_end(rt: HostRuntime) {
     );
     wanted.given = 6;
     wanted.reads = 1;
+    wanted.writes = 2;
     assert_eq!(rt;
         watch(&rt, WALK, b"dddqdq", well(CALL_LIMIT, CALL_LIMIT), quit),
         wanted
@@ -156,7 +157,8 @@ fn no_key_is_read_behind_the_end(rt: HostRuntime) {
     );
 }
 
-/// Bytes that are no keys bring no write, nor does an arrow that isn't whole.
+/// Bytes that are no keys bring no write, nor does an arrow that isn't whole. Keys that come one at a time bring one
+/// each.
 #[test]
 fn a_key_brings_one_write(rt: HostRuntime) {
     let walked = b"= T\n# level 1\nP..\n\n.P.\n\n..P\n\n* end of keys\n";
@@ -203,6 +205,7 @@ fn a_reader_that_fails_leaves_the_texts_before(rt: HostRuntime) {
     );
     setting.gives = CALL_LIMIT;
     wanted.reads = 2;
+    wanted.writes = 2;
     assert_eq!(rt;
         watch(&rt, WALK, b"ddd", setting, WALKED.as_bytes()),
         wanted

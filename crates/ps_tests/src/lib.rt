@@ -1,10 +1,10 @@
 //! Tests by public calls of what no output of a game shows. Of values: boards as a list of slots, on which no game is
 //! played; which rows and columns a board of rows tells; how many passes a movement takes; how many rules are compiled;
 //! which cell of a rule writes alone; and pieces of keys. Of runs and of what stands around them: runs with devices,
-//! and with memory, of their own; devices by themselves; checks of texts; texts too long to lie in a file; levels that
-//! are solved; and command lines. Games of which a text, keys and an output say all are played by `ps_cases`. They
-//! stand in one crate above those that they test. A crate with tests is proved twice, and each check of one loads all
-//! that it stands on.
+//! and with memory, of their own; a game that is traced; devices by themselves; checks of texts; texts too long to lie
+//! in a file; levels that are solved; and command lines. Games of which a text, keys and an output say all are played
+//! by `ps_cases`. They stand in one crate above those that they test. A crate with tests is proved twice, and each
+//! check of one loads all that it stands on.
 #![tactic(auto)]
 
 #[cfg(test)]
@@ -58,6 +58,8 @@ mod solved_puzzles;
 mod solving;
 #[cfg(test)]
 mod told_levels;
+#[cfg(test)]
+mod traces;
 #[cfg(test)]
 mod watched;
 #[cfg(test)]

@@ -26,8 +26,9 @@ const SIZE: &[u8] = b"10x20\n";
 /// A machine with the words of a command line. Each file whose name ends with `.keys` has the same keys, but for
 /// `right.keys`, and one with `.size` the same size. `cut.game` has a text that ends before its levels, `two.game` the
 /// game [`TWO_LEVELS`], and `three.game` the game [`THREE_LEVELS`]. `warned.game` has the game [`WARNED`], and each
-/// other one the game [`PUSHING`]. In `long.game` and `too-long.game` line feeds stand before it. With them it has as many bytes
-/// as a text may have, and one more. There is neither a `lost.game` nor a `lost.keys` nor a `lost.size`, nor a clock.
+/// other one the game [`PUSHING`]. In `long.game` and `too-long.game` line feeds stand before it. With them it has as
+/// many bytes as a text may have, and one more. There is neither a `lost.game` nor a `lost.keys` nor a `lost.size`, nor
+/// a clock.
 #[derive(Drop)]
 pub struct Machine<'w> {
     alloc: Global,

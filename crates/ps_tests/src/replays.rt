@@ -57,7 +57,7 @@ const REPLAYS: [(Told, &[Line]); 14] = [
             shown: "right.keys: level 1 won in 1 key\nright.keys: won\n\
             a.keys: not won: level 1, 0 keys left after q\n",
             printed: "",
-            complained: "lost.keys: cannot read keys\n",
+            complained: "cannot read lost.keys: no such file\n",
         },
         &[(
             &[
@@ -235,7 +235,7 @@ const DATA: [(Told, &[Line]); 3] = [
             status: 1,
             shown: OBJECTS,
             printed: "",
-            complained: "lost.keys: cannot read keys\n",
+            complained: "cannot read lost.keys: no such file\n",
         },
         &[(
             &[

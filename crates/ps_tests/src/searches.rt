@@ -158,7 +158,7 @@ const SEARCHES: [(Told, &[Line]); 18] = [
             status: 1,
             shown: "cut.game: line 11: GM2 NoSection\ntwo.game: level 2: won in 1 key: d\n",
             printed: "",
-            complained: "a.game: the game has 1 level: there is no level 2\nlost.game: cannot read game\n",
+            complained: "a.game: the game has 1 level: there is no level 2\ncannot read lost.game: no such file\n",
         },
         &[(
             &[
@@ -241,7 +241,7 @@ const SEARCHES: [(Told, &[Line]); 18] = [
             status: 1,
             shown: "",
             printed: "",
-            complained: "lost.game: cannot read game\n",
+            complained: "cannot read lost.game: no such file\n",
         },
         &[(&["ps_play", "--solve", "lost.game"], "lost.game\n")],
     ),
@@ -300,7 +300,7 @@ const SEARCHES: [(Told, &[Line]); 18] = [
             status: 1,
             shown: CUT_OBJECT,
             printed: "",
-            complained: "two.game: the game has 2 levels: there is no level 3\nlost.game: cannot read game\n",
+            complained: "two.game: the game has 2 levels: there is no level 3\ncannot read lost.game: no such file\n",
         },
         &[(
             &[

@@ -1,7 +1,8 @@
 use Rattle.std.proofs.Common.{List, ℕ, Option, ap, subst, sym}
+use Rattle.std.proofs.lemmas.Result.{on_ok_weaker}
 use Rattle.ps_devices.specs.Devices.{Loses}
 use Rattle.ps_command.specs.SearchedAfter.{IsLineOnWon, LacksStart, LeadNowhere}
-use Rattle.ps_command.proofs.LinesOnLed.{silent_on_read, told_if_well, told_of_read}
+use Rattle.ps_command.proofs.LinesOnLed.{silent_on_read, told_of_read}
 use Rattle.ps_command.proofs.after_keys.solve_after_asked.Goals as goal
 
 pub returns-clause-won : goal.returns-clause-won
@@ -9,7 +10,7 @@ returns-clause-won g c =
     let had : Option (List ℕ) = (g.I.ByteReader.state c.args.input.now).remaining in
     let between : Option (List ℕ) = (g.I.ByteReader.state c.read_text.new.input).remaining in
     let left : Option (List ℕ) = (g.I.ByteReader.state c.read_keys.new.input).remaining in
-    told_if_well c.solve_led.result
+    on_ok_weaker c.solve_led.result
     (λ told. told_of_read c.args.asked IsLineOnWon c.question_of.result had between left c.deref.result.now
     c.deref-2.result.now (g.O.ByteWriter.state c.args.screen.now).contents
     (g.O.ByteWriter.state c.solve_led.new.screen).contents c.question_of.ensures

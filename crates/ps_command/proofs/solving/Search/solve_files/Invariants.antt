@@ -9,7 +9,8 @@ invariant-loop-path g l =
     record {
       heard : (g.I.ByteReader.state l.input).has_failed ≡ false;
       well : (g.O.ByteWriter.state l.screen).has_failed ≡ false;
-      won : l.all_won ≡ true → TellsInOrder (AreWonLines l.self.question) (map (λ path. path.now) (take l.path-index l.paths))
+      won : l.all_won ≡ true → TellsInOrder (AreWonLines l.self.question)
+          (map (λ path. path.now) (take l.path-index l.paths))
           (g.O.ByteWriter.state l.initial.screen).contents (g.O.ByteWriter.state l.screen).contents;
       told : TellsInOrder (AreLinesToldOf l.self.question) (map (λ path. path.now) (take l.path-index l.paths))
           (g.O.ByteWriter.state l.initial.screen).contents (g.O.ByteWriter.state l.screen).contents;
