@@ -466,6 +466,11 @@ def blocks_of(kind):
     return re.findall(rf"^```{kind}\n(.*?)^```", PAGE.read_text(), re.M | re.S)
 
 
+def version_said_by(script):
+    """The version that a script tells, and how its player was built."""
+    return subprocess.run([script, "--version"], capture_output=True, text=True).stdout
+
+
 def wrong_installs(room):
     """What is wrong with what is put below a folder: the library by two words of ./play, and the player by one of them."""
     for word, has_player in (("--install", True), ("--library", False)):
@@ -480,6 +485,8 @@ def wrong_installs(room):
             yield f"./play {word} leaves out a part of the library: {' '.join(lacking) or 'the module'}"
         if (prefix / "bin/ps_play").exists() != has_player:
             yield f"./play {word} {'leaves out the player' if has_player else 'puts a player'}"
+        elif has_player and version_said_by(prefix / "bin/play") != version_said_by(TOP / "play"):
+            yield f"./play {word} puts a script that says otherwise how the player was built"
 
 
 def wrong_examples(room):
