@@ -57,8 +57,8 @@ fn hint_by_key_words<'a>(word: &str) -> Hint<'a>
     }
 }
 
-/// What is said about a word of a rule outside brackets, where no name stands: a key word that is written much like it, or
-/// else what is said of it among these names.
+/// What is said about a word of a rule outside brackets, where no name stands: a key word that is written much like it,
+/// or else what is said of it among these names.
 pub fn hint_outside<'a>(alloc: Global, names: &[Named<'a>], word: &str) -> Result<Hint<'a>, Memory>
     ensures { (text : List ℕ) → names_shown names.now ≡ declared text →
         IfOk result (λ hint. IsHint text word.now hint) }

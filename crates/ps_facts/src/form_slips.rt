@@ -32,7 +32,8 @@ fn has_legend_slip(slip: FormSlip, before: &[Word<'_>], word: &str, behind: &[Wo
     }
 }
 
-/// Whether a word of a line of the prelude, of COLLISIONLAYERS or of LEVELS has that slip, with these words before it and after it.
+/// Whether a word of a line of the prelude, of COLLISIONLAYERS or of LEVELS has that slip, with these words before it
+/// and after it.
 fn has_end_slip(slip: FormSlip, before: &[Word<'_>], word: &str, behind: &[Word<'_>]) -> bool
     ensures { result ≡ true → has_form_slip slip (map text_of before.now) word.now (map text_of behind.now) ≡ true }
 {

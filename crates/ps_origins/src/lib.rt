@@ -1,5 +1,5 @@
-//! Where the rules of a compiled program come from: of each the line of its source rule, and the direction that it faces
-//! there.
+//! Where the rules of a compiled program come from: of each the line of its source rule, and the direction that it
+//! faces there.
 //!
 //! [`rule_origins`] tells it of the rules of a program in their order, and [`PlacedPrograms`] have both. Compiled, a
 //! rule that faces up or left is turned round, so that its direction stands nowhere else; and of a line come several

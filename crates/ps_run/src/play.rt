@@ -37,8 +37,8 @@ impl<'g> Play<'g> {
         ensures session { let script = script_in self.old.game in
             OnOk result (self.new.game.session ≡ (key_step script self.old.game.session key).session) }
         ensures gathered { let text = (key_step (script_in self.old.game) self.old.game.session key).text in
-            OnOk result
-            (IsGathered (W.state writer.old) (W.state writer.new) self.old.gathered.items self.new.gathered.items text) }
+            OnOk result (IsGathered (W.state writer.old) (W.state writer.new)
+            self.old.gathered.items self.new.gathered.items text) }
         ensures stops { let text = (key_step (script_in self.old.game) self.old.game.session key).text in
             IfErr result (λ fault.
             StopsAtKey fault (W.state writer.old) (W.state writer.new) self.old.gathered.items text) }

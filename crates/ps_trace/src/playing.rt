@@ -36,7 +36,8 @@ struct Traced<'t, 'g> {
     entry: usize,
 }
 
-/// What tells of the keys of a game, which it plays on boards with room for every level, whose sides are at most `most`.
+/// What tells of the keys of a game, which it plays on boards with room for every level, whose sides are at most
+/// `most`.
 fn tracer_of<'t, 'g, V: ColumnWords>(
     alloc: Global,
     traced: Traced<'t, 'g>,

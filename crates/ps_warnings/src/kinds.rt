@@ -44,7 +44,8 @@ pub enum WarningKind {
     ApartWin,
     /// The win condition names an object that no level has and no rule makes.
     LackingWin,
-    /// Nothing wins a level: there is no win condition, and no rule has the command `win`. The line is the header LEVELS.
+    /// Nothing wins a level: there is no win condition, and no rule has the command `win`. The line is the header
+    /// LEVELS.
     NothingWins,
     /// No cell of the level has an object of Player. The line is its first row.
     NoPlayer,

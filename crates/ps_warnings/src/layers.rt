@@ -112,8 +112,8 @@ fn warn_of(
     Ok(())
 }
 
-/// Goes past a line of COLLISIONLAYERS, which is the layer of that number if it isn't blank: warns of it, if it names an
-/// object of another line's layer. Answers the number of the layer that the next line is, if that isn't blank.
+/// Goes past a line of COLLISIONLAYERS, which is the layer of that number if it isn't blank: warns of it, if it names
+/// an object of another line's layer. Answers the number of the layer that the next line is, if that isn't blank.
 fn pass(
     alloc: Global,
     facts: &LayerFacts<'_>,

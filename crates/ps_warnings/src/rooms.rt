@@ -105,7 +105,8 @@ pub fn warn_of_rooms(
     told: &mut Vec<Warning>,
 ) -> Result<(), Memory>
     requires { HasLines source.now lines.now.start lines.now.end }
-    ensures { OnOk result (told.new.items ≡ told.old.items ++ room_warnings game.now.options.flickscreen game.now.entries
+    ensures { OnOk result (told.new.items ≡ told.old.items ++
+        room_warnings game.now.options.flickscreen game.now.entries
         (lines_between source.now lines.now.start lines.now.end)) }
 {
     if !are_rooms_idle(game.options.flickscreen, &game.entries) {
