@@ -35,8 +35,8 @@ pub fn rule_of(
     let ahead = shape.left.ahead;
     let rows = rows_of_cells(alloc, cells)?;
     let directions = directions_given(alloc, ahead)?;
-    let commands = commands_of(alloc, source, line, at_end(&shape.right))?;
-    let commands = Rc::new(alloc, commands)?;
+    let asked = commands_of(alloc, source, line, at_end(&shape.right))?;
+    let commands = Rc::new(alloc, asked)?;
     Ok(SourceRule {
         line,
         late: has_kind(Kind::Late, ahead),

@@ -142,7 +142,7 @@ impl<'p, P: Player> TracedPlay<'p, P> {
     /// Plays it by keys of which is told what is traced.
     fn traced<I: ByteReader, W: ByteWriter, L: ByteWriter>(
         &self,
-        traced: Traced<'_, '_>,
+        traced: Traced<'_>,
         reader: &mut I,
         writer: &mut W,
         lines: &mut L,
