@@ -1,14 +1,12 @@
 //! A session that owns its game.
 
 ghost use Rattle.std.specs.Prelude.{◌≡◌, [], IfOk, OnErr, OnOk};
-ghost use Rattle.ps_model.specs.session.RoomSizes.{HasRoomSize};
-ghost use Rattle.ps_stage.specs.Playable.{ArePlayable};
 ghost use Rattle.lizhakoven.specs.HeldSessions.{HasText, IsAt, with_keys};
 
+use crate::compiled_game::CompiledGame;
 use crate::looking::{look_from, text_from};
 use crate::played_keys::{PlayedKeys, copied_if};
 use crate::seeing::Seen;
-use ps_game::Game;
 use ps_model::Memory;
 use ps_screen::OutputText;
 use std::alloc::Global;
@@ -19,7 +17,7 @@ use std::rc::Rc;
 /// and all its keys. What it has come to is what these keys lead to. What the first of them have led to is kept, if
 /// they were played.
 pub struct HeldSession {
-    game: Rc<Game>,
+    game: Rc<CompiledGame>,
     entry: usize,
     keys: Vec<u8>,
     played: Option<PlayedKeys>,
@@ -38,8 +36,6 @@ impl Drop for HeldSession {
 }
 
 impl Model for HeldSession {
-    ghost use Rattle.ps_model.specs.session.RoomSizes.{HasRoomSize};
-    ghost use Rattle.ps_stage.specs.Playable.{ArePlayable};
     ghost use Rattle.lizhakoven.specs.HeldSessions.{HeldValue};
     ghost use Rattle.lizhakoven.specs.PlayedKeys.{ArePlayed, IsOfKeysIf};
 
@@ -47,10 +43,8 @@ impl Model for HeldSession {
 
     ghost view = { λ s. record { read = s.game.value; entry = s.entry; keys = s.keys.items } };
 
-    ghost invariant = { λ s. ArePlayable s.game.value.names s.game.value.entries
-        × (HasRoomSize s.game.value.options
-        × (IsOfKeysIf s.game.value.names s.keys.items s.played
-        × ArePlayed s.game.value s.entry s.keys.items s.played)) };
+    ghost invariant = { λ s. IsOfKeysIf s.game.value.names s.keys.items s.played
+        × ArePlayed s.game.value s.entry s.keys.items s.played };
 }
 
 impl HeldSession {
@@ -59,9 +53,7 @@ impl HeldSession {
     /// # Errors
     ///
     /// `Memory`.
-    pub fn new(alloc: Global, game: &Rc<Game>, entry: usize) -> Result<HeldSession, Memory>
-        requires playable { ArePlayable game.now.value.names game.now.value.entries }
-        requires rooms { HasRoomSize game.now.value.options }
+    pub fn new(alloc: Global, game: &Rc<CompiledGame>, entry: usize) -> Result<HeldSession, Memory>
         ensures { IfOk result (λ session. session ≡ record { read = game.now.value; entry = entry; keys = [] }) }
     {
         let game = game.clone()?;

@@ -13,6 +13,7 @@ ghost use Rattle.ps_stage.specs.Playable.{ArePlayable};
 ghost use Rattle.lizhakoven.specs.Calls.{IsBegun};
 ghost use Rattle.lizhakoven.specs.GameCalls.{HasOpened, IsNamedBy};
 
+use crate::compiled_game::CompiledGame;
 use crate::held::HeldSession;
 use crate::statuses::Status;
 use crate::telling::write_bytes;
@@ -26,11 +27,11 @@ use std::alloc::Global;
 use std::marker::Model;
 use std::rc::Rc;
 
-/// A game that is open: its text, which alone says how the objects are called, and what was read from it, which its
-/// sessions share.
+/// A game that is open: its text, which alone says how the objects are called, and what was read from it and compiled,
+/// which its sessions share.
 pub struct HeldGame {
     source: Source,
-    game: Rc<Game>,
+    game: Rc<CompiledGame>,
 }
 
 /// Written out, so that a function that owns a game calls this where it returns, instead of dropping its parts.
@@ -44,40 +45,36 @@ impl Drop for HeldGame {
 }
 
 impl Model for HeldGame {
-    ghost use Rattle.ps_model.specs.session.RoomSizes.{HasRoomSize};
-    ghost use Rattle.ps_stage.specs.Playable.{ArePlayable};
     ghost use Rattle.lizhakoven.specs.OpenGames.{OpenGame};
 
     ghost Value = { OpenGame };
 
     ghost view = { λ g. record { text = g.source; read = g.game.value } };
-
-    ghost invariant = { λ g. ArePlayable g.game.value.names g.game.value.entries × HasRoomSize g.game.value.options };
 }
 
 /// How many objects a game has.
-fn objects_in(game: &Game) -> u32
+fn objects_in(game: &CompiledGame) -> u32
     ensures { result ≡ object_count game.now.names }
 {
-    game.names.object_count()
+    game.names().object_count()
 }
 
 /// The place among the entries of a game of the level of that number, if there is one.
-fn entry_in(game: &Game, level: usize) -> Option<usize>
+fn entry_in(game: &CompiledGame, level: usize) -> Option<usize>
     ensures { result ≡ level_entry game.now.entries level }
 {
-    level_entry(&game.entries, level)
+    level_entry(game.entries(), level)
 }
 
 /// What the object of a number is called by the names that a text declares.
-fn called<'a>(game: &Game, declared: &[Named<'a>], object: u32) -> &'a str
+fn called<'a>(game: &CompiledGame, declared: &[Named<'a>], object: u32) -> &'a str
     ensures { result.now ≡ name_of_object game.now.names (names_shown declared.now) (object_of object) }
 {
-    name_of_object(&game.names, declared, ObjectId(object))
+    name_of_object(game.names(), declared, ObjectId(object))
 }
 
 impl HeldGame {
-    /// The game that was read from a text.
+    /// The game that was read from a text, compiled.
     ///
     /// # Errors
     ///
@@ -87,11 +84,12 @@ impl HeldGame {
         requires rooms { HasRoomSize game.options }
         ensures { IfOk result (λ held. held ≡ record { text = source; read = game }) }
     {
+        let game = CompiledGame::new(alloc, game)?;
         let game = Rc::new(alloc, game)?;
         Ok(HeldGame { source, game })
     }
 
-    /// Reads the game of a text.
+    /// Reads the game of a text, and compiles its rules.
     ///
     /// # Errors
     ///

@@ -128,8 +128,8 @@ fn play_on<'g>(
 fn play_all<'g>(
     alloc: Global,
     game: SessionGame<'g>,
-    plain: &'g [CompiledSection<'g>],
-    late: &'g [CompiledSection<'g>],
+    plain: &'g [CompiledSection],
+    late: &'g [CompiledSection],
     bytes: &[u8],
 ) -> Result<Going<'g>, Memory>
     requires { EntriesFit SIDE_LIMIT game.entries }
@@ -152,8 +152,8 @@ fn play_all<'g>(
 fn play_others<'g>(
     alloc: Global,
     game: SessionGame<'g>,
-    plain: &'g [CompiledSection<'g>],
-    late: &'g [CompiledSection<'g>],
+    plain: &'g [CompiledSection],
+    late: &'g [CompiledSection],
     bytes: &[u8],
     before: PlayedKeys,
 ) -> Result<Going<'g>, Memory>
@@ -188,8 +188,8 @@ fn play_others<'g>(
 pub fn play_keys<'g>(
     alloc: Global,
     game: SessionGame<'g>,
-    plain: &'g [CompiledSection<'g>],
-    late: &'g [CompiledSection<'g>],
+    plain: &'g [CompiledSection],
+    late: &'g [CompiledSection],
     bytes: &[u8],
     before: Option<PlayedKeys>,
 ) -> Result<Going<'g>, Memory>
@@ -216,8 +216,8 @@ pub fn play_keys<'g>(
 pub fn text_of_keys<'g>(
     alloc: Global,
     game: SessionGame<'g>,
-    plain: &'g [CompiledSection<'g>],
-    late: &'g [CompiledSection<'g>],
+    plain: &'g [CompiledSection],
+    late: &'g [CompiledSection],
     bytes: &[u8],
 ) -> Result<OutputText, Memory>
     requires { EntriesFit SIDE_LIMIT game.entries }

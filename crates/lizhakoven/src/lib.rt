@@ -5,6 +5,7 @@
 mod boxed;
 mod cells;
 mod checking;
+mod compiled_game;
 mod faults;
 mod game_handle;
 mod games;
@@ -28,6 +29,7 @@ mod version;
 
 pub use cells::NOTHING;
 pub use checking::{Finding, lzk_check};
+pub use compiled_game::CompiledGame;
 pub use faults::TextFault;
 pub use game_handle::GameHandle;
 pub use games::{lzk_close, lzk_object_name, lzk_open};

@@ -6,20 +6,18 @@ ghost use Rattle.ps_levels.specs.EntriesShown.{entries_shown};
 ghost use Rattle.ps_model.specs.board.Turns.{script_at};
 ghost use Rattle.ps_model.specs.declared.limits.TheConstants.{SIDE_LIMIT};
 ghost use Rattle.ps_model.specs.game.Games.{Game as GameRead, game as game_in};
-ghost use Rattle.ps_model.specs.session.RoomSizes.{HasRoomSize};
 ghost use Rattle.ps_rulebook.specs.PlayedGames.{AreCompiled, parts_at};
-ghost use Rattle.ps_stage.specs.Playable.{ArePlayable, EntriesFit};
+ghost use Rattle.ps_stage.specs.Playable.{EntriesFit};
 ghost use Rattle.lizhakoven.specs.PlayedKeys.{AreLedToIf, ArePlayed, IsOfKeysIf};
 ghost use Rattle.lizhakoven.specs.Places.{IsSeen};
 
+use crate::compiled_game::CompiledGame;
 use crate::keyed::{Going, play_keys, text_of_keys};
 use crate::played_keys::{PlayedKeys, usable};
 use crate::seeing::{Seen, see};
-use ps_compile::{CompiledPrograms, compile};
-use ps_game::Game;
+use ps_compile::CompiledPrograms;
 use ps_levels::Entry;
 use ps_model::Memory;
-use ps_run::parts_of_game;
 use ps_screen::OutputText;
 use ps_stage::SessionGame;
 use std::alloc::Global;
@@ -33,7 +31,7 @@ use std::alloc::Global;
 fn look_compiled(
     alloc: Global,
     parts: SessionGame<'_>,
-    compiled: &CompiledPrograms<'_>,
+    compiled: &CompiledPrograms,
     entries: &[Entry],
     keys: &[u8],
     played: &mut Option<PlayedKeys>,
@@ -76,14 +74,12 @@ fn look_compiled(
 /// `Memory`: the cells are as before, and nothing may be kept.
 pub fn look_from(
     alloc: Global,
-    game: &Game,
+    game: &CompiledGame,
     entry: usize,
     keys: &[u8],
     played: &mut Option<PlayedKeys>,
     cells: &mut [u32],
 ) -> Result<Seen, Memory>
-    requires playable { ArePlayable game.now.names game.now.entries }
-    requires rooms { HasRoomSize game.now.options }
     requires of_keys { IsOfKeysIf game.now.names keys.now played.old }
     ensures of_keys { IsOfKeysIf game.now.names keys.now played.new }
     ensures led_to { ArePlayed game.now entry keys.now played.old → ArePlayed game.now entry keys.now played.new }
@@ -92,9 +88,8 @@ pub fn look_from(
         cells.old cells.new seen) }
     ensures kept { OnErr result (cells.new ≡ cells.old) }
 {
-    let compiled = compile(alloc, &game.names, &game.rules)?;
-    let parts = parts_of_game(game, entry);
-    look_compiled(alloc, parts, &compiled, &game.entries, keys, played, cells)
+    let parts = game.parts_at(entry);
+    look_compiled(alloc, parts, game.programs(), game.entries(), keys, played, cells)
 }
 
 /// What a game writes that plays keys by the programs that its rules compile to.
@@ -105,7 +100,7 @@ pub fn look_from(
 fn text_compiled(
     alloc: Global,
     parts: SessionGame<'_>,
-    compiled: &CompiledPrograms<'_>,
+    compiled: &CompiledPrograms,
     keys: &[u8],
 ) -> Result<OutputText, Memory>
     requires fit { EntriesFit SIDE_LIMIT parts.entries }
@@ -125,16 +120,13 @@ fn text_compiled(
 /// `Memory`.
 pub fn text_from(
     alloc: Global,
-    game: &Game,
+    game: &CompiledGame,
     entry: usize,
     keys: &[u8],
 ) -> Result<OutputText, Memory>
-    requires playable { ArePlayable game.now.names game.now.entries }
-    requires rooms { HasRoomSize game.now.options }
     ensures { (text : List ℕ) → game_in text ≡ Some game.now
         → IfOk result (λ wrote. wrote ≡ whole_front (script_at game.now entry) keys.now) }
 {
-    let compiled = compile(alloc, &game.names, &game.rules)?;
-    let parts = parts_of_game(game, entry);
-    text_compiled(alloc, parts, &compiled, keys)
+    let parts = game.parts_at(entry);
+    text_compiled(alloc, parts, game.programs(), keys)
 }

@@ -3,16 +3,14 @@
 ghost use Rattle.std.specs.Prelude.{◌≡◌, ◌≤◌, ℕ, IfOk, IfSome, List, false, length};
 ghost use Rattle.ps_model.specs.board.Turns.{Script};
 ghost use Rattle.ps_model.specs.names.Names.{Names};
-ghost use Rattle.ps_model.specs.session.RoomSizes.{HasRoomSize};
 ghost use Rattle.ps_run.specs.SizedPlays.{rested_in};
-ghost use Rattle.ps_stage.specs.Playable.{ArePlayable};
 ghost use Rattle.lizhakoven.specs.PlayedKeys.{AreLedTo, AreLedToIf, CanGoOn, HasPlayed, IsOfKeys, IsOfKeysIf};
 ghost use Rattle.lizhakoven.specs.PlayedKeys.{TakesNothingBack};
 
-use ps_game::Game;
+use crate::compiled_game::CompiledGame;
 use ps_keys::Keys;
 use ps_model::{Held, Memory};
-use ps_run::{GamePlay, RestedPlay, parts_of_game};
+use ps_run::{GamePlay, RestedPlay};
 use ps_stage::SessionGame;
 use std::alloc::Global;
 
@@ -144,12 +142,10 @@ impl PlayedKeys {
 /// `Memory`.
 pub fn copied_if(
     alloc: Global,
-    game: &Game,
+    game: &CompiledGame,
     entry: usize,
     played: &mut Option<PlayedKeys>,
 ) -> Result<Option<PlayedKeys>, Memory>
-    requires playable { ArePlayable game.now.names game.now.entries }
-    requires rooms { HasRoomSize game.now.options }
     requires named { IfSome played.old (λ own. (rested_in own.rested).names ≡ game.now.names) }
     ensures of_keys { (names : Names) (bytes : List ℕ) → IsOfKeysIf names bytes played.old
         → IsOfKeysIf names bytes played.new }
@@ -163,6 +159,6 @@ pub fn copied_if(
     let Some(own) = played else {
         return Ok(None);
     };
-    let copy = own.copied(alloc, parts_of_game(game, entry))?;
+    let copy = own.copied(alloc, game.parts_at(entry))?;
     Ok(Some(copy))
 }

@@ -21,13 +21,13 @@ use std::alloc::Global;
 
 /// Groups in the making: those that are closed, and the one that is open, once a rule has come.
 #[derive(Drop)]
-pub struct Groups<'r> {
-    closed: Vec<List<CompiledRule<'r>>>,
-    opened: Option<Vec<CompiledRule<'r>>>,
+pub struct Groups {
+    closed: Vec<List<CompiledRule>>,
+    opened: Option<Vec<CompiledRule>>,
 }
 
 /// The rules of the open group, taken out of it.
-fn taken<'r>(alloc: Global, group: &mut Option<Vec<CompiledRule<'r>>>) -> Vec<CompiledRule<'r>>
+fn taken(alloc: Global, group: &mut Option<Vec<CompiledRule>>) -> Vec<CompiledRule>
     ensures rules { rules_shown result.items ≡ opened_rules (option_map open_shown group.old) }
     ensures none { group.new ≡ None }
 {
@@ -37,11 +37,11 @@ fn taken<'r>(alloc: Global, group: &mut Option<Vec<CompiledRule<'r>>>) -> Vec<Co
     }
 }
 
-impl<'r> Groups<'r> {
+impl Groups {
     ghost use Rattle.ps_compile.specs.GroupsWith.{groups_with};
 
     /// No groups yet.
-    pub fn new(alloc: Global) -> Groups<'r>
+    pub fn new(alloc: Global) -> Groups
         ensures { (names : NamesMeant) (rules : Sequence Meant) → groups_with names result rules
             ≡ map (compiled_group names) (groups_of rules) }
     {
@@ -77,10 +77,10 @@ impl<'r> Groups<'r> {
     }
 
     /// Takes the compiled rules of the next rule.
-    pub fn add(&mut self, alloc: Global, names: &Names, rule: &'r SourceRule) -> Result<(), Memory>
+    pub fn add(&mut self, alloc: Global, names: &Names, rule: &SourceRule) -> Result<(), Memory>
         requires { HasWholeRows (source_shown rule.now) }
         ensures { OnOk result ((rules : Sequence Meant) → groups_with names.now self.new rules
-            ≡ groups_with names.now self.old (source_shown rule.entry.now ∷ rules)) }
+            ≡ groups_with names.now self.old (source_shown rule.now ∷ rules)) }
     {
         self.close_unless(rule.joined)?;
         let mut rules = taken(alloc, &mut self.opened);
@@ -90,9 +90,9 @@ impl<'r> Groups<'r> {
     }
 
     /// All groups, as no rule is to come any more.
-    pub fn finish(self) -> Result<Vec<List<CompiledRule<'r>>>, Memory>
+    pub fn finish(self) -> Result<Vec<List<CompiledRule>>, Memory>
         ensures { IfOk result (λ groups. (names : NamesMeant) → groups_shown groups.items
-            ≡ groups_with names self.entry []) }
+            ≡ groups_with names self []) }
     {
         let mut groups = self;
         groups.close_unless(false)?;

@@ -204,13 +204,13 @@ fn asks(commands: &Commands) -> bool
 }
 
 /// Whether the rule is void.
-pub fn is_idle(names: &Names, rule: &CompiledRule<'_>) -> bool
+pub fn is_idle(names: &Names, rule: &CompiledRule) -> bool
     ensures { result ≡ is_idle names.now (rule_shown rule.now) }
 {
     if has_void_cell(names, rule.rows.as_slice()) {
         return true;
     }
-    if asks(rule.commands) {
+    if asks(&rule.commands) {
         return false;
     }
     !rule.rewrites || leaves_all(names, rule.rows.as_slice())

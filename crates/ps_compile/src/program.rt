@@ -22,13 +22,13 @@ use ps_text::List;
 use std::alloc::Global;
 
 /// The two programs of a game's rules: the plain one, and the late one.
-pub struct CompiledPrograms<'r> {
-    pub plain: Program<'r>,
-    pub late: Program<'r>,
+pub struct CompiledPrograms {
+    pub plain: Program,
+    pub late: Program,
 }
 
 /// Written out: an owner of the programs calls this on each return path, and doesn't drop their parts there.
-impl<'r> Drop for CompiledPrograms<'r> {
+impl Drop for CompiledPrograms {
     fn drop(self) {
         let CompiledPrograms {
             plain: _plain,
@@ -48,15 +48,15 @@ fn is_in_part(part: Part, rule: &SourceRule) -> bool
 }
 
 /// The compiled groups of one part that lines make.
-fn compiled_groups<'r>(
+fn compiled_groups(
     alloc: Global,
     names: &Names,
     part: Part,
-    lines: &'r [RuleLine],
-) -> Result<Vec<List<CompiledRule<'r>>>, Memory>
+    lines: &[RuleLine],
+) -> Result<Vec<List<CompiledRule>>, Memory>
     requires { All IsWholeLine (lines_shown lines.now) }
     ensures { IfOk result (λ groups. groups_shown groups.items
-        ≡ compact_groups names.now part (lines_shown lines.entry.now)) }
+        ≡ compact_groups names.now part (lines_shown lines.now)) }
 {
     let mut groups = Groups::new(alloc);
     for line in lines {
@@ -71,12 +71,12 @@ fn compiled_groups<'r>(
 }
 
 /// Puts groups last, each as a section.
-fn push_groups<'r>(
-    sections: &mut Vec<CompiledSection<'r>>,
-    groups: Vec<List<CompiledRule<'r>>>,
+fn push_groups(
+    sections: &mut Vec<CompiledSection>,
+    groups: Vec<List<CompiledRule>>,
 ) -> Result<(), Memory>
     ensures { OnOk result (sections_shown sections.new.items
-        ≡ sections_shown sections.old.items ++ map Group (groups_shown groups.entry.items)) }
+        ≡ sections_shown sections.old.items ++ map Group (groups_shown groups.items)) }
 {
     for group in groups {
         sections.push(CompiledSection::Group(group))?;
@@ -85,32 +85,32 @@ fn push_groups<'r>(
 }
 
 /// Puts the sections of lines outside of loops last.
-fn push_outside<'r>(
+fn push_outside(
     alloc: Global,
-    sections: &mut Vec<CompiledSection<'r>>,
+    sections: &mut Vec<CompiledSection>,
     names: &Names,
     part: Part,
-    lines: &'r [RuleLine],
+    lines: &[RuleLine],
 ) -> Result<(), Memory>
     requires { All IsWholeLine (lines_shown lines.now) }
     ensures { OnOk result (sections_shown sections.new.items
-        ≡ sections_shown sections.old.items ++ compact_outside names.now part (lines_shown lines.entry.now)) }
+        ≡ sections_shown sections.old.items ++ compact_outside names.now part (lines_shown lines.now)) }
 {
     let groups = compiled_groups(alloc, names, part, lines)?;
     push_groups(sections, groups)
 }
 
 /// Puts the sections of the lines after the start of a loop last: a loop, and what follows its end.
-fn push_behind<'r>(
+fn push_behind(
     alloc: Global,
-    sections: &mut Vec<CompiledSection<'r>>,
+    sections: &mut Vec<CompiledSection>,
     names: &Names,
     part: Part,
-    lines: &'r [RuleLine],
+    lines: &[RuleLine],
 ) -> Result<(), Memory>
     requires { All IsWholeLine (lines_shown lines.now) }
     ensures { OnOk result (sections_shown sections.new.items
-        ≡ sections_shown sections.old.items ++ compact_behind names.now part (lines_shown lines.entry.now)) }
+        ≡ sections_shown sections.old.items ++ compact_behind names.now part (lines_shown lines.now)) }
 {
     let pieces = cut_at_ends(alloc, lines)?;
     let Some((inside, others)) = pieces.split_first() else {
@@ -125,14 +125,14 @@ fn push_behind<'r>(
 }
 
 /// The compiled program of one part of a turn: the lines before the first start of a loop, and those after each.
-fn program_of<'r>(
+fn program_of(
     alloc: Global,
     names: &Names,
     part: Part,
-    lines: &'r [RuleLine],
-) -> Result<Program<'r>, Memory>
+    lines: &[RuleLine],
+) -> Result<Program, Memory>
     requires { All IsWholeLine (lines_shown lines.now) }
-    ensures { IfOk result (λ program. program ≡ compact_program names.now part (lines_shown lines.entry.now)) }
+    ensures { IfOk result (λ program. program ≡ compact_program names.now part (lines_shown lines.now)) }
 {
     let mut sections = Vec::new(alloc);
     let pieces = cut_at_starts(alloc, lines)?;
@@ -149,17 +149,17 @@ fn program_of<'r>(
 /// The two compiled programs of a game's rules, made of the rules that can do something, which face down or right: for
 /// rules of a game, a run of each comes to what the rules mean on each of its grids; and a board on which the game's
 /// objects have room on their layers can run each as it is. `Memory` if there is no room for them.
-pub fn compile<'r>(
+pub fn compile(
     alloc: Global,
     names: &Names,
-    rules: &'r RuleText,
-) -> Result<CompiledPrograms<'r>, Memory>
-    ensures plain { IfOk result (λ programs. programs.plain ≡ compact_program names.now Plain rules.entry.now) }
-    ensures late { IfOk result (λ programs. programs.late ≡ compact_program names.now Late rules.entry.now) }
-    ensures plain_alike { IfOk result (λ programs. RunsAlike names.now Plain rules.entry.now programs.plain) }
-    ensures late_alike { IfOk result (λ programs. RunsAlike names.now Late rules.entry.now programs.late) }
-    ensures plain_runs { IfOk result (λ programs. RunsOnBoards names.now rules.entry.now programs.plain) }
-    ensures late_runs { IfOk result (λ programs. RunsOnBoards names.now rules.entry.now programs.late) }
+    rules: &RuleText,
+) -> Result<CompiledPrograms, Memory>
+    ensures plain { IfOk result (λ programs. programs.plain ≡ compact_program names.now Plain rules.now) }
+    ensures late { IfOk result (λ programs. programs.late ≡ compact_program names.now Late rules.now) }
+    ensures plain_alike { IfOk result (λ programs. RunsAlike names.now Plain rules.now programs.plain) }
+    ensures late_alike { IfOk result (λ programs. RunsAlike names.now Late rules.now programs.late) }
+    ensures plain_runs { IfOk result (λ programs. RunsOnBoards names.now rules.now programs.plain) }
+    ensures late_runs { IfOk result (λ programs. RunsOnBoards names.now rules.now programs.late) }
 {
     let plain = program_of(alloc, names, Part::Plain, rules.lines())?;
     let late = program_of(alloc, names, Part::Late, rules.lines())?;

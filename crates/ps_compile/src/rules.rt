@@ -143,12 +143,12 @@ fn compiled_rows(
 }
 
 /// The compiled rule of a rule under a reading, facing down or right.
-pub fn rule_by<'r>(
+pub fn rule_by(
     alloc: Global,
     names: &Names,
-    occurrences: &Occurrences<'r>,
+    occurrences: &Occurrences<'_>,
     reading: &Reading,
-) -> Result<CompiledRule<'r>, Memory>
+) -> Result<CompiledRule, Memory>
     requires { HasWholeRows occurrences.now }
     ensures { IfOk result (λ made. rule_shown made
         ≡ rule_forwards (rule_by names.now occurrences.now (reading_shown reading.now))) }
@@ -165,18 +165,19 @@ pub fn rule_by<'r>(
         axis,
         backwards,
     )?;
-    let made = CompiledRule::try_new(alloc, axis, rows, rule.rewrites, &rule.commands)?;
+    let commands = rule.commands.clone()?;
+    let made = CompiledRule::try_new(alloc, axis, rows, rule.rewrites, commands)?;
     Ok(made)
 }
 
 /// Puts a compiled rule last, unless it is void.
-fn push_if_busy<'r>(
-    rules: &mut Vec<CompiledRule<'r>>,
+fn push_if_busy(
+    rules: &mut Vec<CompiledRule>,
     names: &Names,
-    rule: CompiledRule<'r>,
+    rule: CompiledRule,
 ) -> Result<(), Memory>
     ensures { OnOk result (rules_shown rules.new.items
-        ≡ rules_shown rules.old.items ++ filter (is_busy names.now) (rule_shown rule.entry ∷ [])) }
+        ≡ rules_shown rules.old.items ++ filter (is_busy names.now) (rule_shown rule ∷ [])) }
 {
     if is_idle(names, &rule) {
         return Ok(());
@@ -186,11 +187,11 @@ fn push_if_busy<'r>(
 }
 
 /// Puts the compiled rule of a reading last, if it is possible and isn't void.
-fn push_if_possible<'r>(
+fn push_if_possible(
     alloc: Global,
-    rules: &mut Vec<CompiledRule<'r>>,
+    rules: &mut Vec<CompiledRule>,
     names: &Names,
-    occurrences: &Occurrences<'r>,
+    occurrences: &Occurrences<'_>,
     reading: &Reading,
 ) -> Result<(), Memory>
     requires { HasWholeRows occurrences.now }
@@ -206,11 +207,11 @@ fn push_if_possible<'r>(
 }
 
 /// Puts the compiled rules of the readings that are left last.
-fn push_readings<'r>(
+fn push_readings(
     alloc: Global,
-    rules: &mut Vec<CompiledRule<'r>>,
+    rules: &mut Vec<CompiledRule>,
     names: &Names,
-    occurrences: &Occurrences<'r>,
+    occurrences: &Occurrences<'_>,
 ) -> Result<(), Memory>
     requires { HasWholeRows occurrences.now }
     ensures { OnOk result (rules_shown rules.new.items
@@ -225,15 +226,15 @@ fn push_readings<'r>(
 
 /// Puts the compiled rules of a rule last: those of its possible readings that can do something, in their order, facing
 /// down or right.
-pub fn push_rules<'r>(
+pub fn push_rules(
     alloc: Global,
-    rules: &mut Vec<CompiledRule<'r>>,
+    rules: &mut Vec<CompiledRule>,
     names: &Names,
-    rule: &'r SourceRule,
+    rule: &SourceRule,
 ) -> Result<(), Memory>
     requires { HasWholeRows (source_shown rule.now) }
     ensures { OnOk result (rules_shown rules.new.items
-        ≡ rules_shown rules.old.items ++ compact_rules names.now (source_shown rule.entry.now)) }
+        ≡ rules_shown rules.old.items ++ compact_rules names.now (source_shown rule.now)) }
 {
     let occurrences = Occurrences::of(alloc, rule)?;
     push_readings(alloc, rules, names, &occurrences)?;

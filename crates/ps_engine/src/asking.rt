@@ -28,9 +28,9 @@ fn row_has_place<B: Scan>(board: &B, row: &CompiledRow, row_scratch: &mut Scratc
 }
 
 /// Whether each row of a rule has a place on the board as it is: whether the rule has a combination.
-pub fn rows_have_places<'r, B: Scan>(
+pub fn rows_have_places<B: Scan>(
     board: &B,
-    rule: &CompiledRule<'r>,
+    rule: &CompiledRule,
     scratch: &mut [ScratchFor<B>],
 ) -> bool
     requires { length rule.now.rows ≤ length scratch.old }
@@ -53,7 +53,7 @@ pub fn rows_have_places<'r, B: Scan>(
 /// An attempt of a rule that rewrites nothing: its commands enter the queue, if it has a combination. No memory is
 /// taken.
 pub fn attempt_commands<'r, B: Scan>(
-    rule: &CompiledRule<'r>,
+    rule: &'r CompiledRule,
     work: &mut Workspace<'_, '_, '_, 'r, B>,
 )
     requires long { length rule.now.rows ≤ length work.old.scratch.now }
@@ -64,6 +64,6 @@ pub fn attempt_commands<'r, B: Scan>(
 {
     recall_shape(work.board);
     if rows_have_places(work.board, rule, work.scratch) {
-        work.queue.enter(rule.commands);
+        work.queue.enter(rule);
     }
 }

@@ -46,9 +46,9 @@ fn lacks_last<B: Scan>(board: &B, rule: &CompiledRule) -> bool
 
 /// Finds where each row of a rule fits on the board as it is, and chooses the first place of each. Answers whether
 /// each row has one: whether the rule has a combination.
-fn choose_first<'r, B: Scan>(
+fn choose_first<B: Scan>(
     board: &B,
-    rule: &CompiledRule<'r>,
+    rule: &CompiledRule,
     scratch: &mut [ScratchFor<B>],
 ) -> bool
     requires { length rule.now.rows ≤ length scratch.old }
@@ -77,9 +77,9 @@ fn choose_first<'r, B: Scan>(
 }
 
 /// Whether a rule is known to have no combination. No memory is taken.
-pub fn is_idle<'r, B: Scan>(
+pub fn is_idle<B: Scan>(
     board: &B,
-    rule: &CompiledRule<'r>,
+    rule: &CompiledRule,
     scratch: &mut [ScratchFor<B>],
 ) -> bool
     requires { length rule.now.rows ≤ length scratch.old }
@@ -96,7 +96,7 @@ pub fn is_idle<'r, B: Scan>(
 /// still fits, and the rule's commands enter the queue, if it has one. Answers whether a cell changed. No memory is
 /// taken.
 pub fn attempt_rows<'r, B: Scan>(
-    rule: &CompiledRule<'r>,
+    rule: &'r CompiledRule,
     work: &mut Workspace<'_, '_, '_, 'r, B>,
 ) -> bool
     requires long { length rule.now.rows ≤ length work.old.scratch.now }
@@ -109,7 +109,7 @@ pub fn attempt_rows<'r, B: Scan>(
     if !choose_first(work.board, rule, work.scratch) {
         return false;
     }
-    work.queue.enter(rule.commands);
+    work.queue.enter(rule);
     walk(work.board, rows, work.scratch, rule.sleeps)
 }
 
@@ -117,7 +117,7 @@ pub fn attempt_rows<'r, B: Scan>(
 /// by its rows soon enough that an object is nowhere.
 #[inline(never)]
 fn attempt_by_kind<'r, B: Scan>(
-    rule: &CompiledRule<'r>,
+    rule: &'r CompiledRule,
     work: &mut Workspace<'_, '_, '_, 'r, B>,
 ) -> bool
     requires { length rule.now.rows ≤ length work.old.scratch.now }
@@ -144,7 +144,7 @@ fn attempt_by_kind<'r, B: Scan>(
 /// there a rule of one part tells by where it begins.
 #[inline(always)]
 pub fn attempt<'r, B: Scan>(
-    rule: &CompiledRule<'r>,
+    rule: &'r CompiledRule,
     work: &mut Workspace<'_, '_, '_, 'r, B>,
 ) -> bool
     requires { length rule.now.rows ≤ length work.old.scratch.now }

@@ -34,9 +34,9 @@ pub fn only_part(rows: &[CompiledRow]) -> Option<&[CompiledCell]>
 }
 
 /// Whether a rule whose only part this is is known to have no combination. No memory is taken.
-pub fn is_idle_part<'r, B: Scan>(
+pub fn is_idle_part<B: Scan>(
     board: &B,
-    rule: &CompiledRule<'r>,
+    rule: &CompiledRule,
     part: &[CompiledCell],
     scratch: &mut [ScratchFor<B>],
 ) -> bool
@@ -57,7 +57,7 @@ pub fn is_idle_part<'r, B: Scan>(
 /// its combinations are walked one after the other. Answers whether a cell changed. No memory is taken.
 #[inline(never)]
 fn rewrite_found<'r, B: Scan>(
-    rule: &CompiledRule<'r>,
+    rule: &'r CompiledRule,
     part: &[CompiledCell],
     starts: Columns<B::Words>,
     work: &mut Workspace<'_, '_, '_, 'r, B>,
@@ -76,12 +76,12 @@ fn rewrite_found<'r, B: Scan>(
 {
     let row_scratch = &mut work.scratch[0];
     if row_scratch.are_independent(rule.axis, part, starts) {
-        work.queue.enter(rule.commands);
+        work.queue.enter(rule);
         return row_scratch.rewrite_places(work.board, rule.axis, part, starts);
     }
     match rule.axis {
         Axis::Down => {
-            work.queue.enter(rule.commands);
+            work.queue.enter(rule);
             row_scratch.rewrite_in_turn(work.board, part, starts)
         }
         Axis::Right => attempt_rows(rule, work),
@@ -92,7 +92,7 @@ fn rewrite_found<'r, B: Scan>(
 /// this is in line. Answers whether a cell changed. No memory is taken.
 #[inline(always)]
 pub fn attempt_part<'r, B: Scan>(
-    rule: &CompiledRule<'r>,
+    rule: &'r CompiledRule,
     part: &[CompiledCell],
     work: &mut Workspace<'_, '_, '_, 'r, B>,
 ) -> bool

@@ -40,7 +40,7 @@ struct LoopProgress {
 /// `Memory`, where there are many passes and no board alike is kept, or as for a group; some of them have been made.
 #[inline(never)]
 fn play_loop<'r, B: Scan>(
-    groups: &[List<CompiledRule<'r>>],
+    groups: &'r [List<CompiledRule>],
     repeats: u32,
     run: &mut Run<'_, '_, '_, 'r, B>,
     kept: &mut KeptBoards<B>,
@@ -83,7 +83,7 @@ fn play_loop<'r, B: Scan>(
 /// `Memory`, as for a group or a loop.
 #[inline(always)]
 fn play_section<'r, B: Scan>(
-    section: &CompiledSection<'r>,
+    section: &'r CompiledSection,
     repeats: u32,
     run: &mut Run<'_, '_, '_, 'r, B>,
     kept: &mut KeptBoards<B>,
@@ -118,7 +118,7 @@ fn play_section<'r, B: Scan>(
 /// `Memory`, as for a section; those before it have been played.
 #[inline(always)]
 fn play_sections<'r, B: Scan>(
-    sections: &[CompiledSection<'r>],
+    sections: &'r [CompiledSection],
     run: &mut Run<'_, '_, '_, 'r, B>,
     kept: &mut KeptBoards<B>,
     extent: Extent,
@@ -156,7 +156,7 @@ fn play_sections<'r, B: Scan>(
 ///
 /// `Memory`, as for a section; those before it have been played.
 fn play_unless_quiet<'r, 's: 'r, B: Scan>(
-    program: &mut QuietGroups<'_, 's, B>,
+    program: &mut QuietGroups<'s, B>,
     run: &mut Run<'_, '_, '_, 'r, B>,
     kept: &mut KeptBoards<B>,
     extent: Extent,
@@ -169,7 +169,7 @@ fn play_unless_quiet<'r, 's: 'r, B: Scan>(
     ensures program { program.new ≡ program.old }
 {
     recall_shape(run.board);
-    let sections: &[CompiledSection<'r>] = program.sections();
+    let sections: &'r [CompiledSection] = program.sections();
     let mut repeats = REPEAT_LIMIT;
     let mut stirred: Topics = Columns::none();
     for number in 0..sections.len() {
@@ -202,7 +202,7 @@ fn play_unless_quiet<'r, 's: 'r, B: Scan>(
 /// `Memory`, where a group makes many rounds, or a loop many passes, and no board alike has been kept before, or where
 /// the program begins to keep quiet groups. A part of the program may have been run.
 pub fn run_program<'r, 's: 'r, B: Scan>(
-    program: &mut QuietGroups<'_, 's, B>,
+    program: &mut QuietGroups<'s, B>,
     board: &mut B,
     queue: &mut LentQueue<'r>,
     scratch: &mut [ScratchFor<B>],
@@ -235,7 +235,7 @@ pub fn run_program<'r, 's: 'r, B: Scan>(
     if seeks_quiet {
         return play_unless_quiet(program, &mut run, kept, Extent::Whole);
     }
-    let sections: &[CompiledSection<'r>] = program.sections();
+    let sections: &'r [CompiledSection] = program.sections();
     play_sections(sections, &mut run, kept, Extent::Whole)
 }
 
@@ -246,7 +246,7 @@ pub fn run_program<'r, 's: 'r, B: Scan>(
 ///
 /// `Memory`, as for `run_program`.
 pub fn run_until_cancelled<'r, 's: 'r, B: Scan>(
-    program: &mut QuietGroups<'_, 's, B>,
+    program: &mut QuietGroups<'s, B>,
     board: &mut B,
     queue: &mut LentQueue<'r>,
     scratch: &mut [ScratchFor<B>],
@@ -275,6 +275,6 @@ pub fn run_until_cancelled<'r, 's: 'r, B: Scan>(
     if seeks_quiet {
         return play_unless_quiet(program, &mut run, kept, Extent::UntilCancelled);
     }
-    let sections: &[CompiledSection<'r>] = program.sections();
+    let sections: &'r [CompiledSection] = program.sections();
     play_sections(sections, &mut run, kept, Extent::UntilCancelled)
 }

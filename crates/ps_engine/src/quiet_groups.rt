@@ -59,9 +59,9 @@ struct Pace {
 /// The sections of a program, lent, with what is known of them, and the board that is kept, if one is. Contracts see
 /// the sections and what the board shows.
 #[derive(Drop)]
-pub struct QuietGroups<'p, 'r, B: Scan> {
+pub struct QuietGroups<'p, B: Scan> {
     alloc: Global,
-    sections: &'p [CompiledSection<'r>],
+    sections: &'p [CompiledSection],
     known: Vec<KnownSection>,
     board: Option<B>,
     /// How many sections were passed over since the board was last renewed.
@@ -69,7 +69,7 @@ pub struct QuietGroups<'p, 'r, B: Scan> {
     pace: Pace,
 }
 
-impl<'p, 'r, B: Scan> Model for QuietGroups<'p, 'r, B> {
+impl<'p, B: Scan> Model for QuietGroups<'p, B> {
     ghost use Rattle.std.specs.Prelude.{◌≡◌, length, option_map};
     ghost use Rattle.ps_engine.specs.QuietGroups.{AreKnown, QuietGroupsShown};
 
@@ -231,7 +231,7 @@ fn forget(known: &mut Vec<KnownSection>)
     }
 }
 
-impl<'p, 'r, B: Scan> QuietGroups<'p, 'r, B> {
+impl<'p, B: Scan> QuietGroups<'p, B> {
     /// A program of these sections, of which nothing is known, without a board.
     ///
     /// # Errors
@@ -239,8 +239,8 @@ impl<'p, 'r, B: Scan> QuietGroups<'p, 'r, B> {
     /// `Memory`.
     pub fn try_new(
         alloc: Global,
-        sections: &'p [CompiledSection<'r>],
-    ) -> Result<QuietGroups<'p, 'r, B>, Memory>
+        sections: &'p [CompiledSection],
+    ) -> Result<QuietGroups<'p, B>, Memory>
         ensures { IfOk result (λ program. program.sections ≡ sections.entry.now) }
     {
         let known = unknown_sections(alloc, sections)?;
@@ -262,7 +262,7 @@ impl<'p, 'r, B: Scan> QuietGroups<'p, 'r, B> {
     }
 
     /// The sections.
-    pub(crate) fn sections(&self) -> &'p [CompiledSection<'r>]
+    pub(crate) fn sections(&self) -> &'p [CompiledSection]
         ensures { result.now ≡ self.now.sections }
     {
         self.sections

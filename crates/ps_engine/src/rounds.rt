@@ -20,7 +20,7 @@ use ps_text::List;
 /// A round: the attempts of a group's rules in order, but for those that ask for a motion which nothing has. Answers
 /// whether one changed something.
 #[inline(always)]
-fn round<'r, B: Scan>(rules: &[CompiledRule<'r>], run: &mut Run<'_, '_, '_, 'r, B>) -> bool
+fn round<'r, B: Scan>(rules: &'r [CompiledRule], run: &mut Run<'_, '_, '_, 'r, B>) -> bool
     requires { HaveScratch (length run.old.scratch.now) rules.now }
     ensures round { record { state = state_of_run B.Board run.new; changed = result }
         ≡ round (rules_meaning (B.table run.old.board.now) rules.now) (state_of_run B.Board run.old) }
@@ -49,7 +49,7 @@ fn round<'r, B: Scan>(rules: &[CompiledRule<'r>], run: &mut Run<'_, '_, '_, 'r, 
 /// `Memory`, where there are many rounds and no board alike is kept; some of them have been made.
 #[inline(never)]
 fn play_rounds<'r, B: Scan>(
-    rules: &[CompiledRule<'r>],
+    rules: &'r [CompiledRule],
     most: u32,
     run: &mut Run<'_, '_, '_, 'r, B>,
     kept: &mut KeptBoard<B>,
@@ -74,7 +74,7 @@ fn play_rounds<'r, B: Scan>(
 /// An attempt of a rule, unless it asks for a motion that nothing on the board has: then it has no combination. Answers
 /// whether a cell changed.
 #[inline(always)]
-fn attempt_asked<'r, B: Scan>(rule: &CompiledRule<'r>, run: &mut Run<'_, '_, '_, 'r, B>) -> bool
+fn attempt_asked<'r, B: Scan>(rule: &'r CompiledRule, run: &mut Run<'_, '_, '_, 'r, B>) -> bool
     requires { length rule.now.rows ≤ length run.old.scratch.now }
     ensures attempt { record { state = state_of_run B.Board run.new; changed = result }
         ≡ attempt (rule_meaning (B.table run.old.board.now) rule.now) (state_of_run B.Board run.old) }
@@ -95,7 +95,7 @@ fn attempt_asked<'r, B: Scan>(rule: &CompiledRule<'r>, run: &mut Run<'_, '_, '_,
 /// `Memory`, where there are many rounds and no board alike is kept; some of them have been made.
 #[inline(never)]
 fn play_on<'r, B: Scan>(
-    rules: &[CompiledRule<'r>],
+    rules: &'r [CompiledRule],
     first: usize,
     run: &mut Run<'_, '_, '_, 'r, B>,
     kept: &mut KeptBoard<B>,
@@ -122,7 +122,7 @@ fn play_on<'r, B: Scan>(
 /// `Memory`, where there are many rounds and no board alike is kept; some of them have been made.
 #[inline(always)]
 pub fn play_group<'r, B: Scan>(
-    rules: &[CompiledRule<'r>],
+    rules: &'r [CompiledRule],
     run: &mut Run<'_, '_, '_, 'r, B>,
     kept: &mut KeptBoard<B>,
 ) -> Result<bool, Memory>
@@ -146,7 +146,7 @@ pub fn play_group<'r, B: Scan>(
 ///
 /// `Memory`, as for a group; a part of the pass has been made.
 pub fn pass<'r, B: Scan>(
-    groups: &[List<CompiledRule<'r>>],
+    groups: &'r [List<CompiledRule>],
     run: &mut Run<'_, '_, '_, 'r, B>,
     kept: &mut KeptBoard<B>,
 ) -> Result<bool, Memory>

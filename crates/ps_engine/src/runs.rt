@@ -33,7 +33,7 @@ impl<'b, 'q, 's, 'r, B: Scan> Run<'b, 'q, 's, 'r, B> {
 
     /// An attempt of a rule. Answers whether a cell changed.
     #[inline(always)]
-    pub fn attempt(&mut self, rule: &CompiledRule<'r>) -> bool
+    pub fn attempt(&mut self, rule: &'r CompiledRule) -> bool
         requires { length rule.now.rows ≤ length self.old.scratch.now }
         ensures attempt { record { state = state_of_run B.Board self.new; changed = result }
             ≡ attempt (rule_meaning (B.table self.old.board.now) rule.now) (state_of_run B.Board self.old) }

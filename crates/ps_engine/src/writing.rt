@@ -96,7 +96,7 @@ fn write_targets<B: Scan>(
 /// write, and if there is one, the rule's commands enter the queue. Answers whether a cell changed. No memory is
 /// taken.
 pub fn attempt_writer<'r, B: Scan>(
-    rule: &CompiledRule<'r>,
+    rule: &'r CompiledRule,
     writer: Writer,
     work: &mut Workspace<'_, '_, '_, 'r, B>,
 ) -> bool
@@ -115,7 +115,7 @@ pub fn attempt_writer<'r, B: Scan>(
     if rows.is_empty() {
         return false;
     }
-    work.queue.enter(rule.commands);
+    work.queue.enter(rule);
     let offset = CellOffset {
         axis: row.axis,
         steps: writer.cell,

@@ -17,15 +17,15 @@ use std::alloc::Global;
 
 /// The sections of a compiled program, and the origins of its rules in their order, one for each. Both are lent.
 #[derive(Clone, Copy)]
-pub struct PlacedProgram<'p, 'r> {
-    pub sections: &'p [CompiledSection<'r>],
+pub struct PlacedProgram<'p> {
+    pub sections: &'p [CompiledSection],
     pub origins: &'p [RuleOrigin],
     ghost beside: { length (rules_of (sections_shown sections.now)) ≡ length origins.now },
 }
 
 /// The two compiled programs of a game's rules with the origins of their rules.
-pub struct PlacedPrograms<'r> {
-    compiled: CompiledPrograms<'r>,
+pub struct PlacedPrograms {
+    compiled: CompiledPrograms,
     plain: Vec<RuleOrigin>,
     late: Vec<RuleOrigin>,
     ghost plain_beside: { length (rules_of compiled.plain) ≡ length plain.items },
@@ -33,7 +33,7 @@ pub struct PlacedPrograms<'r> {
 }
 
 /// Written out: an owner of the programs calls this on each return path, and doesn't drop their parts there.
-impl<'r> Drop for PlacedPrograms<'r> {
+impl Drop for PlacedPrograms {
     fn drop(self) {
         let PlacedPrograms {
             compiled: _compiled,
@@ -43,21 +43,21 @@ impl<'r> Drop for PlacedPrograms<'r> {
     }
 }
 
-impl<'r> PlacedPrograms<'r> {
+impl PlacedPrograms {
     /// Compiles the rules of a game, and tells where they come from. `Memory` if there is no room for that.
     pub fn of(
         alloc: Global,
         names: &Names,
-        rules: &'r RuleText,
-    ) -> Result<PlacedPrograms<'r>, Memory>
+        rules: &RuleText,
+    ) -> Result<PlacedPrograms, Memory>
         ensures plain { IfOk result (λ programs.
-            programs.compiled.plain ≡ compact_program names.now Plain rules.entry.now) }
+            programs.compiled.plain ≡ compact_program names.now Plain rules.now) }
         ensures late { IfOk result (λ programs.
-            programs.compiled.late ≡ compact_program names.now Late rules.entry.now) }
+            programs.compiled.late ≡ compact_program names.now Late rules.now) }
         ensures plain_origins { IfOk result (λ programs.
-            programs.plain.items ≡ rule_origins names.now Plain rules.entry.now) }
+            programs.plain.items ≡ rule_origins names.now Plain rules.now) }
         ensures late_origins { IfOk result (λ programs.
-            programs.late.items ≡ rule_origins names.now Late rules.entry.now) }
+            programs.late.items ≡ rule_origins names.now Late rules.now) }
     {
         let plain = rule_origins(alloc, names, Part::Plain, rules)?;
         let late = rule_origins(alloc, names, Part::Late, rules)?;
@@ -70,7 +70,7 @@ impl<'r> PlacedPrograms<'r> {
     }
 
     /// The program that is played before the movement.
-    pub fn plain(&self) -> PlacedProgram<'_, 'r>
+    pub fn plain(&self) -> PlacedProgram<'_>
         ensures sections { sections_shown result.sections.now ≡ self.now.compiled.plain }
         ensures origins { result.origins.now ≡ self.now.plain.items }
     {
@@ -81,7 +81,7 @@ impl<'r> PlacedPrograms<'r> {
     }
 
     /// The program that is played after it.
-    pub fn late(&self) -> PlacedProgram<'_, 'r>
+    pub fn late(&self) -> PlacedProgram<'_>
         ensures sections { sections_shown result.sections.now ≡ self.now.compiled.late }
         ensures origins { result.origins.now ≡ self.now.late.items }
     {

@@ -30,7 +30,7 @@ rule_shown rule = record {
   direction = direction_of rule.axis;
   rows = rows_shown rule.rows;
   rewrites = rule.rewrites;
-  commands = commands_shown rule.commands.now;
+  commands = commands_shown rule.commands.value;
 }
 
 -- the rules of a group, and the groups of a loop

@@ -9,18 +9,18 @@ use std::marker::Model;
 
 /// A section of a program: a group of rules, or a loop over groups.
 #[derive(Drop)]
-pub enum CompiledSection<'r> {
-    Group(List<CompiledRule<'r>>),
-    Loop(List<List<CompiledRule<'r>>>),
+pub enum CompiledSection {
+    Group(List<CompiledRule>),
+    Loop(List<List<CompiledRule>>),
 }
 
 /// The rules of one part of a turn, compiled.
 #[derive(Drop)]
-pub struct Program<'r> {
-    sections: Vec<CompiledSection<'r>>,
+pub struct Program {
+    sections: Vec<CompiledSection>,
 }
 
-impl<'r> Model for Program<'r> {
+impl Model for Program {
     ghost use Rattle.std.specs.Prelude.{List};
     ghost use Rattle.ps_model.specs.meaning.Compiled.{CompiledSection as Meant};
     ghost use Rattle.ps_program.specs.ProgramShown.{sections_shown};
@@ -30,16 +30,16 @@ impl<'r> Model for Program<'r> {
     ghost view = { λ p. sections_shown p.sections.items };
 }
 
-impl<'r> Program<'r> {
+impl Program {
     /// The program of these sections.
-    pub fn from_sections(sections: Vec<CompiledSection<'r>>) -> Program<'r>
-        ensures { result ≡ sections_shown sections.entry.items }
+    pub fn from_sections(sections: Vec<CompiledSection>) -> Program
+        ensures { result ≡ sections_shown sections.items }
     {
         Program { sections }
     }
 
     /// The sections, in order.
-    pub fn sections(&self) -> &[CompiledSection<'r>]
+    pub fn sections(&self) -> &[CompiledSection]
         ensures { sections_shown result.now ≡ self.now }
     {
         self.sections.as_slice()

@@ -16,17 +16,18 @@ use crate::writers::{Writer, writer_of};
 use ps_model::{LayeredObject, Memory, MotionTest};
 use ps_text::List;
 use std::alloc::Global;
+use std::rc::Rc;
 
-/// One reading of a rule, compiled. Its commands are lent by the rule: a copy for each reading would be one of its
-/// message too.
+/// One reading of a rule, compiled. It shares its commands with the rule and its other readings: a copy for each would
+/// be one of its message too.
 #[derive(Drop)]
-pub struct CompiledRule<'r> {
+pub struct CompiledRule {
     /// How the cells of its rows lie.
     pub axis: Axis,
     pub rows: List<CompiledRow>,
     /// It rewrites cells; else its right is commands alone.
     pub rewrites: bool,
-    pub commands: &'r Commands,
+    pub commands: Rc<Commands>,
     /// The objects that its cells need, those of all cells one after the other: where a board has not all of them, the
     /// rule has no place there.
     pub needed: List<LayeredObject>,
@@ -48,20 +49,20 @@ pub struct CompiledRule<'r> {
     ghost alone: { rows_writer rows writer ≡ true },
 }
 
-impl<'r> CompiledRule<'r> {
+impl CompiledRule {
     /// The rule of these rows. `Memory` if there is no room for what its cells ask for.
     pub fn try_new(
         alloc: Global,
         axis: Axis,
         rows: List<CompiledRow>,
         rewrites: bool,
-        commands: &'r Commands,
-    ) -> Result<CompiledRule<'r>, Memory>
+        commands: Rc<Commands>,
+    ) -> Result<CompiledRule, Memory>
         requires along { All (LiesAlong axis) rows }
         ensures axis { IfOk result (λ rule. rule.axis ≡ axis) }
         ensures rows { IfOk result (λ rule. rule.rows ≡ rows) }
         ensures rewrites { IfOk result (λ rule. rule.rewrites ≡ rewrites) }
-        ensures commands { IfOk result (λ rule. rule.commands.now ≡ commands.entry.now) }
+        ensures commands { IfOk result (λ rule. rule.commands ≡ commands) }
     {
         let asked = asked_by(alloc, rows.as_slice())?;
         let motions = motions_asked(asked.motions.as_slice());

@@ -66,8 +66,8 @@ fn replay_in(
 /// The sections of the two programs of a game: those of a turn, and those of its late part.
 #[derive(Clone, Copy)]
 struct RuleSections<'g> {
-    plain: &'g [CompiledSection<'g>],
-    late: &'g [CompiledSection<'g>],
+    plain: &'g [CompiledSection],
+    late: &'g [CompiledSection],
 }
 
 /// Plays keys in a game, by these sections of its rules, from where it begins.

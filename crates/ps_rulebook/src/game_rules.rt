@@ -22,10 +22,10 @@ use std::marker::Model;
 /// board. It is made once, so that a run takes no memory but for a message, and for boards that are kept: where a group
 /// makes many rounds for the first time, or a loop many passes, and where a program of many groups is run for the first
 /// time on boards of a size.
-pub struct GameRules<'p, 'r, B: Scan> {
+pub struct GameRules<'p, B: Scan> {
     /// Where the message of a run takes memory from.
     alloc: Global,
-    program: QuietGroups<'p, 'r, B>,
+    program: QuietGroups<'p, B>,
     /// Room for the rows of a rule.
     scratch: Vec<ScratchFor<B>>,
     /// For rounds and passes that come back.
@@ -51,7 +51,7 @@ fn cancels(section: &CompiledSection) -> bool {
 }
 
 /// Written out, so that a function that owns rules calls this where it returns, instead of dropping their parts.
-impl<'p, 'r, B: Scan> Drop for GameRules<'p, 'r, B> {
+impl<'p, B: Scan> Drop for GameRules<'p, B> {
     fn drop(self) {
         let GameRules {
             alloc: _,
@@ -63,7 +63,7 @@ impl<'p, 'r, B: Scan> Drop for GameRules<'p, 'r, B> {
     }
 }
 
-impl<'p, 'r, B: Scan> Model for GameRules<'p, 'r, B> {
+impl<'p, B: Scan> Model for GameRules<'p, B> {
     ghost use Rattle.std.specs.Prelude.{List, vec_len};
     ghost use Rattle.ps_engine.specs.Scratch.{SectionsHaveScratch};
     ghost use Rattle.ps_program.specs.declared.program.CompiledSection.{CompiledSection};
@@ -75,12 +75,12 @@ impl<'p, 'r, B: Scan> Model for GameRules<'p, 'r, B> {
     ghost invariant = { λ r. SectionsHaveScratch (vec_len r.scratch) r.program.sections };
 }
 
-impl<'p, 'r, B: Scan> GameRules<'p, 'r, B> {
+impl<'p, B: Scan> GameRules<'p, B> {
     /// The rules of these sections. `Memory` if there is no room for what their runs need.
     pub fn try_new(
         alloc: Global,
-        sections: &'p [CompiledSection<'r>],
-    ) -> Result<GameRules<'p, 'r, B>, Memory>
+        sections: &'p [CompiledSection],
+    ) -> Result<GameRules<'p, B>, Memory>
         ensures { IfOk result (λ rules. rules ≡ sections.entry.now) }
     {
         let scratch = scratch_for(alloc, sections)?;
@@ -106,7 +106,7 @@ impl<'p, 'r, B: Scan> GameRules<'p, 'r, B> {
         extent: Extent,
     ) -> Result<(), Memory>
     where
-        'r: 'q,
+        'p: 'q,
         ensures ran { OnOk result (HasRun extent (program_run (sections_meaning (B.table board.old) self.old)
             (state_of (B.grid board.old) queue.old)) (state_of (B.grid board.new) queue.new)) }
         ensures same { self.new ≡ self.old }
@@ -125,7 +125,7 @@ impl<'p, 'r, B: Scan> GameRules<'p, 'r, B> {
     }
 }
 
-impl<'p, 'r, B: Scan> Rules<B> for GameRules<'p, 'r, B> {
+impl<'p, B: Scan> Rules<B> for GameRules<'p, B> {
     ghost use Rattle.ps_engine.specs.RulesInRoom.{sections_meaning};
 
     ghost meant = { λ rules table. sections_meaning table rules };

@@ -15,11 +15,11 @@ use std::alloc::Global;
 ///
 /// What a turn's message needs of memory comes from `alloc`. `Memory` if there is no room for what runs of the programs
 /// need besides a board.
-pub fn rules_of_sections<'p, 'r, B: Scan>(
+pub fn rules_of_sections<'p, B: Scan>(
     alloc: Global,
-    plain: &'p [CompiledSection<'r>],
-    late: &'p [CompiledSection<'r>],
-) -> Result<TurnRules<GameRules<'p, 'r, B>>, Memory>
+    plain: &'p [CompiledSection],
+    late: &'p [CompiledSection],
+) -> Result<TurnRules<GameRules<'p, B>>, Memory>
     ensures plain { IfOk result (λ rules. rules.plain ≡ plain.entry.now) }
     ensures late { IfOk result (λ rules. rules.late ≡ late.entry.now) }
 {

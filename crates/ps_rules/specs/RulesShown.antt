@@ -38,7 +38,7 @@ rule_shown rule = record {
   directions = rule.directions;
   rows = tree_rows_shown rule.rows;
   rewrites = rule.rewrites;
-  commands = commands_shown rule.commands;
+  commands = commands_shown rule.commands.value;
 }
 
 abbrev pub line_shown : RuleLine → model.RuleLine

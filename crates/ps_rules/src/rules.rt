@@ -18,6 +18,7 @@ use crate::tree::SourceRule;
 use ps_model::Memory;
 use ps_text::Source;
 use std::alloc::Global;
+use std::rc::Rc;
 
 /// The tree of the rule of the line of that number, by its shape and its rows' cells.
 pub fn rule_of(
@@ -34,7 +35,8 @@ pub fn rule_of(
     let ahead = shape.left.ahead;
     let rows = rows_of_cells(alloc, cells)?;
     let directions = directions_given(alloc, ahead)?;
-    let commands = commands_of(alloc, source, line, at_end(&shape.right))?;
+    let asked = commands_of(alloc, source, line, at_end(&shape.right))?;
+    let commands = Rc::new(alloc, asked)?;
     Ok(SourceRule {
         line,
         late: has_kind(Kind::Late, ahead),

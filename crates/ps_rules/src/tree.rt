@@ -10,6 +10,7 @@ use ps_program::Commands;
 use ps_text::List;
 use smallvec::SmallVec;
 use std::marker::Model;
+use std::rc::Rc;
 
 /// An item of a cell.
 #[derive(Drop)]
@@ -57,7 +58,8 @@ pub struct SourceRule {
     pub rows: List<List<List<CellPair>>>,
     /// It has rows on the right; without them the right is commands alone, and each cell's right is empty.
     pub rewrites: bool,
-    pub commands: Commands,
+    /// Its commands, which its compiled readings share.
+    pub commands: Rc<Commands>,
 }
 
 /// Written out: an owner of a rule calls this on each return path, and doesn't drop its parts there.

@@ -26,8 +26,8 @@ use std::mem;
 fn go_on<'g>(
     alloc: Global,
     game: &SessionGame<'g>,
-    plain: &'g [CompiledSection<'g>],
-    late: &'g [CompiledSection<'g>],
+    plain: &'g [CompiledSection],
+    late: &'g [CompiledSection],
     entry: usize,
     play: &mut SizedPlay<'g>,
     output: &mut OutputText,
@@ -49,8 +49,8 @@ fn go_on<'g>(
 pub struct GamePlay<'g> {
     alloc: Global,
     game: SessionGame<'g>,
-    plain: &'g [CompiledSection<'g>],
-    late: &'g [CompiledSection<'g>],
+    plain: &'g [CompiledSection],
+    late: &'g [CompiledSection],
     play: SizedPlay<'g>,
 }
 
@@ -84,8 +84,8 @@ impl<'g> GamePlay<'g> {
     pub fn start(
         alloc: Global,
         game: SessionGame<'g>,
-        plain: &'g [CompiledSection<'g>],
-        late: &'g [CompiledSection<'g>],
+        plain: &'g [CompiledSection],
+        late: &'g [CompiledSection],
         output: &mut OutputText,
     ) -> Result<GamePlay<'g>, Memory>
         requires { EntriesFit SIDE_LIMIT game.entries }
@@ -113,8 +113,8 @@ impl<'g> GamePlay<'g> {
     pub fn resume(
         alloc: Global,
         game: SessionGame<'g>,
-        plain: &'g [CompiledSection<'g>],
-        late: &'g [CompiledSection<'g>],
+        plain: &'g [CompiledSection],
+        late: &'g [CompiledSection],
         rested: RestedPlay,
     ) -> Result<GamePlay<'g>, Memory>
         requires fit { EntriesFit SIDE_LIMIT game.entries }
@@ -182,7 +182,7 @@ impl<'g> GamePlay<'g> {
     }
 
     /// The sections of its rules: those of a turn, and those of its late part.
-    pub fn sections(&self) -> (&'g [CompiledSection<'g>], &'g [CompiledSection<'g>])
+    pub fn sections(&self) -> (&'g [CompiledSection], &'g [CompiledSection])
         ensures plain { result.0.now ≡ self.now.plain }
         ensures late { result.1.now ≡ self.now.late }
     {

@@ -27,8 +27,8 @@ use std::alloc::Global;
 pub fn run_game<'g, I: ByteReader, W: ByteWriter>(
     alloc: Global,
     game: SessionGame<'g>,
-    plain: &'g [CompiledSection<'g>],
-    late: &'g [CompiledSection<'g>],
+    plain: &'g [CompiledSection],
+    late: &'g [CompiledSection],
     reader: &mut I,
     writer: &mut W,
 ) -> Result<Ending, RunFault>

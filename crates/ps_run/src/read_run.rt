@@ -67,7 +67,7 @@ pub fn run_read<I: ByteReader, W: ByteWriter>(
 fn run_compiled<I: ByteReader, W: ByteWriter>(
     alloc: Global,
     parts: SessionGame<'_>,
-    compiled: &CompiledPrograms<'_>,
+    compiled: &CompiledPrograms,
     reader: &mut I,
     writer: &mut W,
 ) -> Result<Ending, RunFault>

@@ -20,7 +20,7 @@ use std::marker::Model;
 /// A session on boards whose rows are kept by words of this kind, with the rules of a game on such boards.
 pub struct RowPlay<'g, V: ColumnWords> {
     session: Session<'g, RowBoard<V>, RowHistory<V>>,
-    rules: TurnRules<GameRules<'g, 'g, RowBoard<V>>>,
+    rules: TurnRules<GameRules<'g, RowBoard<V>>>,
 }
 
 /// A session at rest on boards whose rows are kept by words of this kind.
@@ -82,8 +82,8 @@ impl<'g, V: ColumnWords> RowPlay<'g, V> {
     pub fn start_at(
         alloc: Global,
         game: SessionGame<'g>,
-        plain: &'g [CompiledSection<'g>],
-        late: &'g [CompiledSection<'g>],
+        plain: &'g [CompiledSection],
+        late: &'g [CompiledSection],
         sides: BoardSides,
         entry: usize,
         output: &mut OutputText,
@@ -107,8 +107,8 @@ impl<'g, V: ColumnWords> RowPlay<'g, V> {
     pub fn resume(
         alloc: Global,
         game: SessionGame<'g>,
-        plain: &'g [CompiledSection<'g>],
-        late: &'g [CompiledSection<'g>],
+        plain: &'g [CompiledSection],
+        late: &'g [CompiledSection],
         sides: BoardSides,
         rested: RestedRows<V>,
     ) -> Result<RowPlay<'g, V>, Memory>

@@ -47,8 +47,8 @@ impl<'g> SizedPlay<'g> {
     pub fn start_at(
         alloc: Global,
         game: SessionGame<'g>,
-        plain: &'g [CompiledSection<'g>],
-        late: &'g [CompiledSection<'g>],
+        plain: &'g [CompiledSection],
+        late: &'g [CompiledSection],
         entry: usize,
         output: &mut OutputText,
     ) -> Result<SizedPlay<'g>, Memory>
@@ -81,8 +81,8 @@ impl<'g> SizedPlay<'g> {
     pub fn resume(
         alloc: Global,
         game: SessionGame<'g>,
-        plain: &'g [CompiledSection<'g>],
-        late: &'g [CompiledSection<'g>],
+        plain: &'g [CompiledSection],
+        late: &'g [CompiledSection],
         rested: RestedPlay,
     ) -> Result<SizedPlay<'g>, Memory>
         requires { game.names ≡ (rested_in rested).names }

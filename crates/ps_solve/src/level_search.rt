@@ -27,7 +27,7 @@ use std::marker::Model;
 pub(crate) struct LevelSearch<'g, W: ColumnWords, const N: usize> {
     /// Tries inputs at the spot where the search is.
     trial: Box<Trial<'g, RowBoard<W>>>,
-    rules: Box<TurnRules<GameRules<'g, 'g, RowBoard<W>>>>,
+    rules: Box<TurnRules<GameRules<'g, RowBoard<W>>>>,
     keys: SpotKeys<W, N>,
     /// A board of the search's own, on which keys are unpacked. It shows the board of the spot where the search is.
     board: OwnBoard<RowBoard<W>>,
@@ -112,7 +112,7 @@ impl<'g, W: ColumnWords, const N: usize> LevelSearch<'g, W, N> {
     pub(crate) fn try_new(
         alloc: Global,
         trial: Trial<'g, RowBoard<W>>,
-        rules: TurnRules<GameRules<'g, 'g, RowBoard<W>>>,
+        rules: TurnRules<GameRules<'g, RowBoard<W>>>,
         waits: Option<Pending>,
     ) -> Result<LevelSearch<'g, W, N>, NotPacked>
         requires narrow { N ≤ 64 }

@@ -49,7 +49,7 @@ fn waits_of(waits: Option<StagePending>) -> Option<Pending>
 pub(crate) fn search_from<'g, W: ColumnWords, const N: usize>(
     alloc: Global,
     session: &Session<'g, RowBoard<W>, RowHistory<W>>,
-    rules: TurnRules<GameRules<'g, 'g, RowBoard<W>>>,
+    rules: TurnRules<GameRules<'g, RowBoard<W>>>,
 ) -> Result<Option<LevelSearch<'g, W, N>>, NotPacked>
     requires narrow { N ≤ 64 }
     ensures script { IfOk result (λ found. IfSome found (λ search. played_by search ≡ script_of (record {

@@ -24,8 +24,8 @@ use std::alloc::Global;
 /// The sections of the two programs of a game: those of a turn, and those of its late part.
 #[derive(Clone, Copy)]
 pub(crate) struct RuleSections<'g> {
-    pub plain: &'g [CompiledSection<'g>],
-    pub late: &'g [CompiledSection<'g>],
+    pub plain: &'g [CompiledSection],
+    pub late: &'g [CompiledSection],
 }
 
 /// The answer where memory runs out before the level of a session is searched; nothing where the session is in no

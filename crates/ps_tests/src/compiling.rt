@@ -39,7 +39,7 @@ fn rules_of_game(alloc: Global, source: &Source, names: &Names) -> Result<RuleTe
 }
 
 /// How many compiled rules the first section has, if it is a group.
-fn first_count(program: &Program<'_>) -> Option<usize> {
+fn first_count(program: &Program) -> Option<usize> {
     match program.sections().get(0)? {
         CompiledSection::Group(rules) => Some(rules.as_slice().len()),
         CompiledSection::Loop(_) => None,

@@ -79,7 +79,7 @@ fn expect_session_again<'g, R: Rules<RowBoard<OneWord>> + Drop>(
 fn expect_programs_again(
     rt: &(impl Abort + AllocGlobal),
     game: &Game,
-    programs: &CompiledPrograms<'_>,
+    programs: &CompiledPrograms,
     opening: &str,
     steps: &[Step<'_>],
 )

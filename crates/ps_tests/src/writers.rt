@@ -14,6 +14,7 @@ use ps_program::{
 use ps_text::List;
 use std::alloc::Global;
 use std::process::Abort;
+use std::rc::Rc;
 use std::test::Fail;
 
 const LOWEST: LayerId = LayerId(0);
@@ -124,18 +125,12 @@ fn row(alloc: Global, axis: Axis, parts: &[&[u8]]) -> Result<Option<CompiledRow>
 }
 
 /// A rule of one row of these parts.
-fn rule<'r>(
-    alloc: Global,
-    axis: Axis,
-    parts: &[&[u8]],
-    commands: &'r Commands,
-) -> Result<CompiledRule<'r>, Memory>
-    ensures { IfOk result (λ rule. rule.commands.now ≡ commands.entry.now) }
-{
+fn rule(alloc: Global, axis: Axis, parts: &[&[u8]]) -> Result<CompiledRule, Memory> {
     let mut all = Vec::new(alloc);
     if let Some(row) = row(alloc, axis, parts)? {
         all.push(row)?;
     }
+    let commands = Rc::new(alloc, nothing())?;
     CompiledRule::try_new(alloc, axis, List::from_vec(all), true, commands)
 }
 
@@ -147,8 +142,7 @@ fn check_along(
     parts: &[&[u8]],
     writer: Writer,
 ) -> Result<(), Memory> {
-    let commands = nothing();
-    let written = rule(alloc, axis, parts, &commands)?;
+    let written = rule(alloc, axis, parts)?;
     assert_eq!(rt; written.writer, Some(writer));
     Ok(())
 }

@@ -20,12 +20,12 @@ use ps_turn::TurnRules;
 use std::alloc::Global;
 
 /// Rules that tell, and have the ordinary ones play.
-type ToldRules<'g, V> = TracedRules<'g, 'g, RowBoard<V>, GameRules<'g, 'g, RowBoard<V>>>;
+type ToldRules<'g, V> = TracedRules<'g, RowBoard<V>, GameRules<'g, RowBoard<V>>>;
 
 /// Rules that tell, and play a program.
 fn rules_of<'g, V: ColumnWords>(
     alloc: Global,
-    program: PlacedProgram<'g, 'g>,
+    program: PlacedProgram<'g>,
 ) -> Result<ToldRules<'g, V>, Memory> {
     let rules = GameRules::try_new(alloc, program.sections)?;
     TracedRules::try_new(alloc, program, rules)
@@ -86,8 +86,8 @@ impl<'g, V: ColumnWords> TracedGame<'g, V> {
         alloc: Global,
         parts: SessionGame<'g>,
         most: u32,
-        plain: PlacedProgram<'g, 'g>,
-        late: PlacedProgram<'g, 'g>,
+        plain: PlacedProgram<'g>,
+        late: PlacedProgram<'g>,
     ) -> Result<TracedGame<'g, V>, Memory>
         requires sides { most ≤ V.limit }
         requires room { side_at parts.entries parts.first_entry ≤ V.limit }

@@ -28,24 +28,22 @@ use std::io::Write;
 /// What is traced of a text: its game, its programs, and what its objects are called; and the entry at which the game
 /// begins.
 #[derive(Clone, Copy)]
-struct Traced<'t, 'g> {
+struct Traced<'t> {
     source: &'t Source,
-    game: &'g Game,
-    programs: &'t PlacedPrograms<'g>,
+    game: &'t Game,
+    programs: &'t PlacedPrograms,
     spellings: &'t Spellings,
     entry: usize,
 }
 
 /// What tells of the keys of a game, which it plays on boards with room for every level, whose sides are at most
 /// `most`.
-fn tracer_of<'t, 'g, V: ColumnWords>(
+fn tracer_of<'t, V: ColumnWords>(
     alloc: Global,
-    traced: Traced<'t, 'g>,
+    traced: Traced<'t>,
     parts: SessionGame<'t>,
     most: u32,
 ) -> Result<GameTracer<'t, V>, Memory>
-where
-    'g: 't,
     requires sides { most ≤ V.limit }
     requires room { side_at parts.entries parts.first_entry ≤ V.limit }
 {
@@ -145,7 +143,7 @@ impl<'p, P: Player> TracedPlay<'p, P> {
     /// Plays it by keys of which is told what is traced.
     fn traced<I: ByteReader, W: ByteWriter, L: ByteWriter>(
         &self,
-        traced: Traced<'_, '_>,
+        traced: Traced<'_>,
         reader: &mut I,
         writer: &mut W,
         lines: &mut L,

@@ -11,16 +11,13 @@ use std::alloc::Global;
 
 /// Runs a program on a board and a queue that are lent, and answers what that tells. `Memory` if there is no room for
 /// it, and a part of the program may have been run.
-fn told_events<'q, 'r, B: Scan>(
+fn told_events<'q, B: Scan>(
     alloc: Global,
-    program: PlacedProgram<'_, 'r>,
+    program: PlacedProgram<'q>,
     scratch: &mut [ScratchFor<B>],
     board: &mut B,
     queue: &mut LentQueue<'q>,
-) -> Result<Vec<Event>, Memory>
-where
-    'r: 'q,
-{
+) -> Result<Vec<Event>, Memory> {
     let mut before = board.try_copy(alloc)?;
     let mut events = Vec::new(alloc);
     {
@@ -42,7 +39,7 @@ where
 /// there is no room for it.
 fn told_run<'q, B: Scan>(
     alloc: Global,
-    program: PlacedProgram<'q, 'q>,
+    program: PlacedProgram<'q>,
     scratch: &mut [ScratchFor<B>],
     board: &B,
     queue: &'q Queue,
@@ -62,9 +59,9 @@ fn told_run<'q, B: Scan>(
 }
 
 /// What tells of the runs of a program.
-struct Teller<'p, 'r, B: Scan> {
+struct Teller<'p, B: Scan> {
     alloc: Global,
-    program: PlacedProgram<'p, 'r>,
+    program: PlacedProgram<'p>,
     /// Room for the rows of a rule.
     scratch: Vec<ScratchFor<B>>,
     /// What runs have told since they were forgotten last.
@@ -72,7 +69,7 @@ struct Teller<'p, 'r, B: Scan> {
 }
 
 /// Written out, so that a function that owns it calls this where it returns.
-impl<'p, 'r, B: Scan> Drop for Teller<'p, 'r, B> {
+impl<'p, B: Scan> Drop for Teller<'p, B> {
     fn drop(self) {
         let Teller {
             alloc: _,
@@ -83,7 +80,7 @@ impl<'p, 'r, B: Scan> Drop for Teller<'p, 'r, B> {
     }
 }
 
-impl<'p, 'r, B: Scan> Teller<'p, 'r, B> {
+impl<'p, B: Scan> Teller<'p, B> {
     /// Runs the program on a copy of a board and of a queue, and keeps what that tells.
     ///
     /// # Errors
@@ -100,13 +97,13 @@ impl<'p, 'r, B: Scan> Teller<'p, 'r, B> {
 
 /// The rules of one part of a turn, which tell what each run does before they do it: the program runs on a copy of the
 /// board first, plainly, and then other rules play the board.
-pub struct TracedRules<'p, 'r, B: Scan, R: Rules<B>> {
+pub struct TracedRules<'p, B: Scan, R: Rules<B>> {
     rules: R,
-    teller: Teller<'p, 'r, B>,
+    teller: Teller<'p, B>,
 }
 
 /// Written out, so that a function that owns rules calls this where it returns.
-impl<'p, 'r, B: Scan, R: Rules<B> + Drop> Drop for TracedRules<'p, 'r, B, R> {
+impl<'p, B: Scan, R: Rules<B> + Drop> Drop for TracedRules<'p, B, R> {
     fn drop(self) {
         let TracedRules {
             rules: _rules,
@@ -115,14 +112,14 @@ impl<'p, 'r, B: Scan, R: Rules<B> + Drop> Drop for TracedRules<'p, 'r, B, R> {
     }
 }
 
-impl<'p, 'r, B: Scan, R: Rules<B> + Drop> TracedRules<'p, 'r, B, R> {
+impl<'p, B: Scan, R: Rules<B> + Drop> TracedRules<'p, B, R> {
     /// Rules that tell of the runs of a program, and are played by others. `Memory` if there is no room for what that
     /// needs.
     pub fn try_new(
         alloc: Global,
-        program: PlacedProgram<'p, 'r>,
+        program: PlacedProgram<'p>,
         rules: R,
-    ) -> Result<TracedRules<'p, 'r, B, R>, Memory> {
+    ) -> Result<TracedRules<'p, B, R>, Memory> {
         let scratch = scratch_for(alloc, program.sections)?;
         Ok(TracedRules {
             rules,
@@ -146,7 +143,7 @@ impl<'p, 'r, B: Scan, R: Rules<B> + Drop> TracedRules<'p, 'r, B, R> {
     }
 }
 
-impl<'p, 'r, B: Scan, R: Rules<B>> Rules<B> for TracedRules<'p, 'r, B, R> {
+impl<'p, B: Scan, R: Rules<B>> Rules<B> for TracedRules<'p, B, R> {
     ghost meant = { λ traced. R.meant traced.rules };
 
     fn run(&mut self, board: &mut B, queue: &mut Queue, extent: Extent) -> Result<(), Memory> {

@@ -56,7 +56,7 @@ impl<'b, 'q, 's, 'r, B: Scan> Telling<'b, 'q, 's, 'r, B> {
     /// entered a command. Answers whether a cell changed.
     fn attempt(
         &mut self,
-        rule: &CompiledRule<'r>,
+        rule: &'r CompiledRule,
         number: usize,
         moment: Moment,
     ) -> Result<bool, Memory> {
@@ -85,7 +85,7 @@ impl<'b, 'q, 's, 'r, B: Scan> Telling<'b, 'q, 's, 'r, B> {
     /// changed something.
     fn round(
         &mut self,
-        rules: &[CompiledRule<'r>],
+        rules: &'r [CompiledRule],
         first: usize,
         moment: Moment,
     ) -> Result<bool, Memory> {
@@ -100,7 +100,7 @@ impl<'b, 'q, 's, 'r, B: Scan> Telling<'b, 'q, 's, 'r, B> {
     /// A group: rounds until one changes nothing, as many as are allowed. Answers whether one changed something.
     fn group(
         &mut self,
-        rules: &[CompiledRule<'r>],
+        rules: &'r [CompiledRule],
         first: usize,
         pass: u32,
     ) -> Result<bool, Memory> {
@@ -120,7 +120,7 @@ impl<'b, 'q, 's, 'r, B: Scan> Telling<'b, 'q, 's, 'r, B> {
     /// A pass of a loop's body: its groups in order. Answers whether one changed something.
     fn pass(
         &mut self,
-        groups: &[List<CompiledRule<'r>>],
+        groups: &'r [List<CompiledRule>],
         first: usize,
         number: u32,
     ) -> Result<bool, Memory> {
@@ -138,7 +138,7 @@ impl<'b, 'q, 's, 'r, B: Scan> Telling<'b, 'q, 's, 'r, B> {
     /// repeats are left; nothing, where one more was due than there were.
     fn looped(
         &mut self,
-        groups: &[List<CompiledRule<'r>>],
+        groups: &'r [List<CompiledRule>],
         first: usize,
         repeats: u32,
     ) -> Result<Option<u32>, Memory> {
@@ -154,7 +154,7 @@ impl<'b, 'q, 's, 'r, B: Scan> Telling<'b, 'q, 's, 'r, B> {
     /// A section whose loop may repeat so often. Answers as a loop does.
     fn section(
         &mut self,
-        section: &CompiledSection<'r>,
+        section: &'r CompiledSection,
         first: usize,
         repeats: u32,
     ) -> Result<Option<u32>, Memory> {
@@ -169,7 +169,7 @@ impl<'b, 'q, 's, 'r, B: Scan> Telling<'b, 'q, 's, 'r, B> {
 
     /// A program: its sections in order, until a loop would need one more repeat than are allowed for all loops
     /// together. `Memory` if there is no room for what it tells.
-    pub fn program(&mut self, sections: &[CompiledSection<'r>]) -> Result<(), Memory> {
+    pub fn program(&mut self, sections: &'r [CompiledSection]) -> Result<(), Memory> {
         let mut repeats = REPEAT_LIMIT;
         let mut first = 0;
         for section in sections {
@@ -184,7 +184,7 @@ impl<'b, 'q, 's, 'r, B: Scan> Telling<'b, 'q, 's, 'r, B> {
 }
 
 /// How many rules a section has.
-fn rule_count(section: &CompiledSection<'_>) -> usize {
+fn rule_count(section: &CompiledSection) -> usize {
     match section {
         CompiledSection::Group(rules) => rules.as_slice().len(),
         CompiledSection::Loop(groups) => {

@@ -17,8 +17,8 @@ returns c =
     let shape : RuleShape = shape_shown c.args.shape.now in
     let rows : tree_rows_shown c.in_ok-rows.rows ≡ rows_of shape =
     c.in_ok-rows.ensures ∙ ap (map row_of_cells) c.requires.paired ∙ rows-by-cells shape in
-    let commands : commands_shown c.in_ok-commands.commands ≡ commands_of line (at_end shape.right) =
-    c.in_ok-commands.ensures ∙ ap (commands_of line) c.at_end.ensures in
+    let commands : commands_shown c.in_ok-commands.commands.value ≡ commands_of line (at_end shape.right) =
+    ap commands_shown c.in_ok-commands.ensures.ok ∙ c.in_ok-asked.ensures ∙ ap (commands_of line) c.at_end.ensures in
     same-rule _ _ _ _ _ _ _ _ _ _ _ _ _ _ (sym
     (line_at-number c.args.source.now c.args.line c.requires.there.0 c.requires.there.1))
     c.has_kind.ensures c.has_kind-2.ensures c.in_ok-directions.ensures rows c.has_rows.ensures commands

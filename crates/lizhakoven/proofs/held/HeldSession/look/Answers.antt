@@ -14,7 +14,7 @@ returns-clause-seen c =
     held_same c.deref.result.now c.self.inside.game.value c.self.inside.entry c.deref-2.result.now
     c.self.inside.keys.items c.args.self.now c.deref.ensures c.deref-2.ensures.value c.self.view_is in
     let played : ArePlayed c.deref.result.now c.self.inside.entry c.deref-2.result.now c.self.inside.played =
-    rw (c.deref.ensures, c.deref-2.ensures.value) c.self.invariant.1.1.1 in
+    rw (c.deref.ensures, c.deref-2.ensures.value) c.self.invariant.1 in
     subst (λ (held : HeldValue). IfOk c.look_from.result
     (λ seen. IsAt held c.args.cells.now c.look_from.new.cells seen)) same
     (at_each c.look_from.result own c.args.cells.now c.look_from.new.cells (c.look_from.ensures.seen played))
@@ -22,15 +22,10 @@ returns-clause-seen c =
 pub invariant_of-self : goal.invariant_of-self
 invariant_of-self c =
     let played : ArePlayed c.deref.result.now c.self.inside.entry c.deref-2.result.now c.self.inside.played =
-    rw (c.deref.ensures, c.deref-2.ensures.value) c.self.invariant.1.1.1 in
+    rw (c.deref.ensures, c.deref-2.ensures.value) c.self.invariant.1 in
     let kept : AreKept c.deref.result.now c.self.inside.entry c.deref-2.result.now c.look_from.new.played =
-    (c.look_from.ensures.of_keys, c.look_from.ensures.led_to played) in (
-      c.self.invariant.0,
-      (
-        c.self.invariant.1.0,
-        subst (λ (read : Game). AreKept read c.self.inside.entry c.self.inside.keys.items c.look_from.new.played)
-            c.deref.ensures
-            (subst (λ (keys : List ℕ). AreKept c.deref.result.now c.self.inside.entry keys c.look_from.new.played)
-            c.deref-2.ensures.value kept),
-      ),
-    )
+    (c.look_from.ensures.of_keys, c.look_from.ensures.led_to played) in
+    subst (λ (read : Game). AreKept read c.self.inside.entry c.self.inside.keys.items c.look_from.new.played)
+    c.deref.ensures
+    (subst (λ (keys : List ℕ). AreKept c.deref.result.now c.self.inside.entry keys c.look_from.new.played)
+    c.deref-2.ensures.value kept)
