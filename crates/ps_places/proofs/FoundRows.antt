@@ -109,7 +109,7 @@ begun-init rows none starts is =
     }
 
 -- a row that is in a set with one more is that one, or was in it before
-more_has : (begun more : List Bool) (row other : ℕ) (b : Bool) → more ≡ with_column begun row b →
+pub more_has : (begun more : List Bool) (row other : ℕ) (b : Bool) → more ≡ with_column begun row b →
     column_at more other ≡ true → ((other ≡ row) × (b ≡ true)) ⊎ (column_at begun other ≡ true)
 more_has begun more row other b is on = elim (cases_lt other SIDE_LIMIT) [
   | inl low ↦ elim (cases_eq other row) [

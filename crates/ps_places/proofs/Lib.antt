@@ -17,6 +17,7 @@ pub mod LinePlaces
 pub mod FoundPlaces
 pub mod LineSets
 pub mod FoundAcross
+pub mod FoundOnLines
 pub mod FoundDown
 pub mod FoundLines
 pub mod Untouched

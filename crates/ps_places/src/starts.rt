@@ -1,6 +1,7 @@
 //! Where the parts of a row fit as the board is.
 
-ghost use Rattle.std.specs.Prelude.{◌≡◌, ◌*◌, ◌<◌, ◌≤◌, ℕ, if◌then◌else◌, [], All, false, length, slice_index_or, true};
+ghost use Rattle.std.specs.Prelude.{◌≡◌, ◌*◌, ◌<◌, ◌≤◌, ℕ, if◌then◌else◌, [], All, Bool, List, false, length};
+ghost use Rattle.std.specs.Prelude.{slice_index_or, slice_set, true};
 ghost use Rattle.ps_model.specs.declared.limits.TheConstants.{SIDE_LIMIT};
 ghost use Rattle.ps_model.specs.board.Places.{places};
 ghost use Rattle.ps_board.specs.ColumnSets.{column_at, columns_below, no_columns};
@@ -15,6 +16,7 @@ ghost use Rattle.ps_places.specs.RowPlaces.{all_places, row_meaning};
 ghost use Rattle.ps_places.specs.Starts.{HasLinesOf};
 
 use crate::candidates::rows_of_part;
+use crate::columns::columns_across;
 use crate::leaving_alone::kept_on_row;
 use crate::part_starts::{PartStarts, find_rows};
 use crate::scratch::ScratchFor;
@@ -173,6 +175,91 @@ fn all_lines<B: Scan>(board: &B, axis: Axis) -> Columns<B::Words>
     }
 }
 
+/// Puts a set in place of the one at a place.
+fn put_set<W: ColumnWords>(starts: &mut [Columns<W>], at: usize, set: Columns<W>)
+    requires { at < length starts.old }
+    ensures { starts.new ≡ slice_set starts.old at set }
+{
+    starts[at] = set;
+}
+
+/// Finds the positions of a part that goes right, row by row of some rows, and answers the rows on which it has one.
+fn find_across<B: Scan>(
+    board: &B,
+    part: &[CompiledCell],
+    lines: Columns<B::Words>,
+    starts: &mut [Columns<B::Words>],
+    count: usize,
+    number: usize,
+) -> Columns<B::Words>
+    requires whole { HasCells part.now }
+    requires one { number < count }
+    requires room { SIDE_LIMIT * count ≤ length starts.old }
+    requires inside { (x : ℕ) → column_at lines x ≡ true → x < (B.grid board.now).height }
+    ensures found { let grid = B.grid board.now in
+        IsPartFound grid (B.table board.now) Right part.now lines count number starts.old starts.new result }
+    ensures long { length starts.new ≡ length starts.old }
+{
+    recall_shape(board);
+    let mut found = lines;
+    let mut left = lines;
+    while let Some(row) = left.take_first() {
+        let columns = columns_across(board, part, row);
+        put_set(starts, row as usize * count + number, columns);
+        found = found.with(row, !columns.is_empty());
+    }
+    found
+}
+
+/// Those of some lines that go right on which each part may begin, by what its cells ask for.
+fn lines_of_masks<B: Scan>(
+    board: &B,
+    parts: &[List<CompiledCell>],
+    lines: Columns<B::Words>,
+) -> Columns<B::Words>
+    requires whole { All HasCells parts.now }
+    requires lines { (starts : List (List Bool)) →
+        AreLinesFound (B.grid board.now) (B.table board.now) Right parts.now starts lines 0 }
+    ensures { (starts : List (List Bool)) →
+        AreLinesFound (B.grid board.now) (B.table board.now) Right parts.now starts result 0 }
+{
+    recall_shape(board);
+    let mut left = lines;
+    for number in 0..parts.len() {
+        if left.is_empty() {
+            return left;
+        }
+        let part = parts[number].as_slice();
+        left = left.both(rows_of_part(board, Axis::Right, part));
+    }
+    left
+}
+
+/// The lines of a board on which parts that lie along an axis may begin: of those that go right the ones on which each
+/// may by what its cells ask for. A line that goes down has a cell of every row of the board, so that all are kept.
+fn lines_to_seek<B: Scan>(board: &B, axis: Axis, parts: &[List<CompiledCell>]) -> Columns<B::Words>
+    requires whole { All HasCells parts.now }
+    ensures { (starts : List (List Bool)) →
+        AreLinesFound (B.grid board.now) (B.table board.now) axis parts.now starts result 0 }
+{
+    recall_shape(board);
+    let all = all_lines(board, axis);
+    match axis {
+        Axis::Down => all,
+        Axis::Right => lines_of_masks(board, parts, all),
+    }
+}
+
+/// Whether lines go right, and are so few that a part is sooner looked for on each of them than on all rows together.
+fn are_few_across<W: ColumnWords>(axis: Axis, lines: Columns<W>) -> bool
+    ensures { result ≡ true → axis ≡ Axis.Right }
+{
+    match axis {
+        Axis::Down => false,
+        Axis::Right => lines.has_few(),
+    }
+}
+
 /// Those of some lines on which the last of several parts begins, where it may begin on few rows of the board, and the
 /// first one on many: so the positions of many starts needn't be taken over. Elsewhere all these lines. What is in
 /// `columns` and `scanned` afterwards is anything.
@@ -195,6 +282,9 @@ fn lines_of_last<B: Scan>(
 {
     let count = parts.len();
     if count < 2 {
+        return lines;
+    }
+    if lines.has_few() {
         return lines;
     }
     let front = rows_of_part(board, axis, parts[0].as_slice());
@@ -231,13 +321,17 @@ fn find_lines<B: Scan>(
 {
     recall_shape(board);
     let count = parts.len();
-    let all = all_lines(board, axis);
+    let all = lines_to_seek(board, axis, parts);
     let mut lines = lines_of_last(board, axis, parts, all, starts, columns, scanned);
     for number in 0..count {
         if lines.is_empty() {
             return lines;
         }
         let part = parts[number].as_slice();
+        if are_few_across(axis, lines) {
+            lines = find_across(board, part, lines, starts, count, number);
+            continue;
+        }
         let rows = find_rows(board, axis, part, columns, scanned);
         let begun = PartStarts { rows, columns };
         lines = take_part(board, axis, part, &begun, lines, starts, count, number);

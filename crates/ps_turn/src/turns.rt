@@ -169,6 +169,21 @@ fn done<B: Board>(game: &TurnGame<'_>, before: &B, after: &B, queue: Queue) -> D
     }
 }
 
+/// Makes the board after the changes of a turn show again what the one before shows, which is its origin. Only the rows
+/// that were touched need be copied, once all is at rest.
+fn take_back<B: Board>(before: &B, after: &mut B)
+    requires sides { HaveSameSides (B.grid after.old) (B.grid before.now) }
+    requires table { B.table after.old ≡ B.table before.now }
+    requires origin { B.origin after.old ≡ B.grid before.now }
+    ensures grid { B.grid after.new ≡ B.grid before.now }
+    ensures table { B.table after.new ≡ B.table before.now }
+    ensures origin { B.origin after.new ≡ B.grid before.now }
+{
+    after.clear_moves();
+    let rows = after.rows_touched();
+    before.copy_rows(after, &rows);
+}
+
 /// What comes of a turn, by the boards before and after its changes: blocked, where the game asks for a move of the
 /// Player and each cell that had one still has one; blocked by `cancel`; restarted by `restart`; or done. Where it
 /// isn't done the second board is made equal to the first. What the first shows is the origin of the second, and stays
@@ -192,15 +207,15 @@ fn outcome<B: Board>(
     ensures origin { B.origin after.new ≡ B.grid before.now }
 {
     if is_held(game, input, before, after) {
-        before.copy_into(after);
+        take_back(before, after);
         return Turned::Blocked(None);
     }
     if queue.cancel {
-        before.copy_into(after);
+        take_back(before, after);
         return Turned::Blocked(message_of(queue));
     }
     if queue.restart {
-        before.copy_into(after);
+        take_back(before, after);
         return Turned::Restarted(message_of(queue));
     }
     Turned::Done(done(game, before, after, queue))

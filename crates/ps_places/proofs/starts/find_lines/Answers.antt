@@ -1,16 +1,15 @@
-use Rattle.std.proofs.Common.{◌≡◌, ◌∙◌, ◌*◌, [], ℕ, length, refl, subst}
+use Rattle.std.proofs.Common.{◌≡◌, ◌∙◌, ◌*◌, [], ℕ, length, refl, subst, sym}
 use Rattle.std.proofs.lemmas.List.{get_or_default}
-use Rattle.ps_places.specs.FoundStarts.{AreLinesFound}
+use Rattle.ps_program.specs.declared.rows.Axis.{Axis}
+use Rattle.ps_places.specs.FoundStarts.{AreLinesFound, IsPartFound}
 use Rattle.ps_model.specs.declared.limits.TheConstants.{SIDE_LIMIT}
 use Rattle.ps_places.proofs.PartsRead.{read_whole}
 use Rattle.ps_places.proofs.SmallSteps.{at_least, less_left, reached}
-use Rattle.ps_places.proofs.FoundLines.{lines-init, lines-more, lines-none}
+use Rattle.ps_places.proofs.FoundLines.{lines-more, lines-none}
 use Rattle.ps_places.proofs.starts.find_lines.Goals as goal
 
 pub lines_of_last-lines-requires-clause-lines : goal.lines_of_last-lines-requires-clause-lines
-lines_of_last-lines-requires-clause-lines g c =
-    lines-init (g.B.Board.grid c.args.board.now) (g.B.Board.table c.args.board.now) c.args.axis c.args.parts.now
-    c.args.starts.now c.all_lines-all.result c.recall_shape.ensures.shape c.all_lines-all.ensures
+lines_of_last-lines-requires-clause-lines g c = c.lines_to_seek-all.ensures c.args.starts.now
 
 pub lines_of_last-lines-requires-clause-whole : goal.lines_of_last-lines-requires-clause-whole
 lines_of_last-lines-requires-clause-whole g c = c.requires.whole
@@ -48,6 +47,23 @@ loop-number-preserved g c =
           ∙ get_or_default c.args.parts.now c.loop-number.number c.index-parts-number.result [] c.loop-number-test.true)
           c.loop-number.invariant.lines c.take_part-lines.ensures.found;
       long = c.take_part-lines.ensures.long ∙ c.loop-number.invariant.long;
+    }
+
+pub loop-number-preserved-then-are_few_across : goal.loop-number-preserved-then-are_few_across
+loop-number-preserved-then-are_few_across g c =
+    record {
+      lines =
+          lines-more (g.B.Board.grid c.args.board.now) (g.B.Board.table c.args.board.now) c.args.axis
+          c.args.parts.now c.loop-number.number c.as_slice-part.result.now c.loop-number.starts
+          c.find_across-lines.new.starts c.loop-number.lines c.find_across-lines.result c.loop-number-test.true
+          (c.as_slice-part.ensures ∙ c.index-parts-number.is
+          ∙ get_or_default c.args.parts.now c.loop-number.number c.index-parts-number.result [] c.loop-number-test.true)
+          c.loop-number.invariant.lines
+          (subst (λ (axis : Axis). IsPartFound (g.B.Board.grid c.args.board.now) (g.B.Board.table c.args.board.now) axis
+          c.as_slice-part.result.now c.loop-number.lines (length c.args.parts.now) c.loop-number.number
+          c.loop-number.starts c.find_across-lines.new.starts c.find_across-lines.result)
+          (sym (c.are_few_across.ensures c.if-are_few_across.true)) c.find_across-lines.ensures.found);
+      long = c.find_across-lines.ensures.long ∙ c.loop-number.invariant.long;
     }
 
 pub returns-clause-lines : goal.returns-clause-lines
