@@ -26,7 +26,7 @@ def hint_of(line, is_begun, ignored):
         count, key = won[1].decode(), won[2].decode()
         return f"{key} wins." if count == "1" else f"{key}: a win is {count} keys away."
     if _NEVER.match(line):
-        return f"Nothing wins any more{_way_out(ignored)}." if is_begun else "Nothing wins this level."
+        return f"Nothing wins from here{_way_out(ignored)}." if is_begun else "Nothing wins this level."
     unknown = _UNKNOWN.match(line)
     if unknown:
         return f"No win was found in {unknown[2].decode()}: none is within {unknown[1].decode()}."

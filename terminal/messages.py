@@ -1,5 +1,5 @@
 """Messages that are longer than the terminal has room for come in pages."""
-from widths import break_of, fitting, wrapped
+from widths import break_of, cut, fitting, wrapped
 
 _MARK = "! "
 _GO_ON = " [x]"
@@ -10,6 +10,17 @@ _LEAST_ROOM = 12
 def room_below(rows):
     """How many rows a terminal of that height has for what is told last."""
     return rows - 6 if rows >= 8 else (rows + 1) // 2
+
+
+def beginning(text, size):
+    """The text; where a terminal of that size (rows, columns) has no room for it, what fits of its beginning, and a mark."""
+    rows, columns = room_below(size[0]), size[1]
+    if len(wrapped(text, columns)) <= rows:
+        return text
+    rest = text
+    for _ in range(rows - 1):
+        rest = rest[break_of(rest, columns):]
+    return text[:len(text) - len(rest)] + cut(rest, columns)
 
 
 def _is_too_long(text, rows, columns):

@@ -45,7 +45,7 @@ class Playing:
         self._parts, self._typed = collections.deque(), collections.deque()
         # Whether the run owes an answer, and since when it has said and was told nothing.
         self._is_owed, self._since = True, time.monotonic()
-        self._has_message = self._is_dismissed = self._is_asked = False
+        self._has_message = self._is_dismissed = self._is_asked = self._has_hint = False
         # The ending, once it is shown, and whether the run's output is at its end.
         self.ending, self._is_silent = b"", False
 
@@ -194,6 +194,7 @@ class Playing:
         self._is_owed, self._since = True, time.monotonic()
 
     def _hand_on(self, key):
+        self._has_hint = False
         self._keys += key.value
         if self._run.send(key.value):
             self._notice = self._recording.keep(key.value) or self._notice
@@ -220,7 +221,7 @@ class Playing:
 
     def _has_notice(self):
         """Whether a notice can be told: nothing else stands in its place, and no answer of the run is on its way."""
-        return self._notice is not None and not (self._has_message or self._is_asked or self._is_owed)
+        return self._notice is not None and not (self._has_message or self._is_asked or self._has_hint or self._is_owed)
 
     def _help(self):
         """Shows what the glyphs and keys are. Meanwhile the run's output waits."""
@@ -233,3 +234,4 @@ class Playing:
         """Says how the level goes on, where no message stands there."""
         if not self._has_message and self._hints.are_offered:
             self._screen.ask(self._hints.after(self._keys, self._moves.count > 0, self._described.ignored))
+            self._has_hint = True

@@ -1,5 +1,5 @@
 """A run whose board stays in place: views of the player draw it."""
-from messages import Message
+from messages import Message, beginning
 from pages import read_pages
 from player import Fault, View
 from run_output import Kind
@@ -21,6 +21,7 @@ class ViewScreen:
         self._game = game
         self._standing = Standing()
         self._message = None
+        self._question = ""
         self._view = None
         self._size = None
 
@@ -42,7 +43,8 @@ class ViewScreen:
 
     def ask(self, text):
         """Shows a question, or what else isn't said by the game, in place of what was told last."""
-        self._show_news(f"? {text}\n".encode())
+        self._question = text
+        self._show_news(self._asked())
 
     def take_back(self):
         """Takes a question back: a message that waits stands again."""
@@ -54,7 +56,7 @@ class ViewScreen:
     def clear_news(self):
         """Nothing is told any more below the board."""
         self._message = None
-        self._show_news(b"? \n")
+        self.ask("")
 
     def turn_page(self):
         """Shows the next page of the message. Whether there is one."""
@@ -70,6 +72,8 @@ class ViewScreen:
             self._message.resize(self._console.size())
             if self._standing.news.startswith(b"! "):
                 self._standing.news = self._page()
+        if self._standing.news.startswith(b"? "):
+            self._standing.news = self._asked()
         if self._standing.lines():
             self._open(self._console.size())
 
@@ -107,6 +111,10 @@ class ViewScreen:
 
     def _page(self):
         return b"! " + self._message.page().encode("utf-8", "surrogateescape") + b"\n"
+
+    def _asked(self):
+        """The line of what was asked last. Where it is too long its beginning is shown: without that its end says nothing."""
+        return f"? {beginning(self._question, self._console.size())}\n".encode()
 
     def _show_message(self):
         self._show_news(self._page())

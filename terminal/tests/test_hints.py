@@ -13,9 +13,9 @@ class HintTest(unittest.TestCase):
 
     def test_nothing_wins(self):
         lost = b"level 1: can't be won (12 states)\n"
-        self.assertEqual(hint_of(lost, True, []), "Nothing wins any more; z takes back.")
-        self.assertEqual(hint_of(lost, True, ["undo"]), "Nothing wins any more; r restarts.")
-        self.assertEqual(hint_of(lost, True, ["undo", "restart"]), "Nothing wins any more.")
+        self.assertEqual(hint_of(lost, True, []), "Nothing wins from here; z takes back.")
+        self.assertEqual(hint_of(lost, True, ["undo"]), "Nothing wins from here; r restarts.")
+        self.assertEqual(hint_of(lost, True, ["undo", "restart"]), "Nothing wins from here.")
         self.assertEqual(hint_of(lost, False, []), "Nothing wins this level.")
 
     def test_no_win_is_known(self):

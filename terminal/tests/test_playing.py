@@ -104,7 +104,8 @@ class PlayingTest(unittest.TestCase):
         self.kept = mock.Mock()
         self.kept.keep.return_value = None
 
-    def play(self, keys, answers=(), start=START, pages=1, notice=None, has_hints=True):
+    def play(self, keys, answers=(), start=START, pages=1, notice=None, has_hints=True, early=()):
+        """What the screen was told. The keys `early` are typed as soon as the run has written its start."""
         clock = Clock()
         events = FakeEvents(clock, keys)
         self.run_ = FakeRun(events, answers)
@@ -112,6 +113,7 @@ class PlayingTest(unittest.TestCase):
         self.progress, self.hints = mock.Mock(), mock.Mock(are_offered=has_hints)
         self.hints.after.return_value = "d wins."
         events.come(start)
+        events.coming.extend(Event(Kind.KEY, key) for key in early)
         with mock.patch.object(playing, "time", clock):
             game = Game(Described(SAID), self.progress, notice, self.hints, self.kept)
             self.playing = Playing(self.run_, self.screen, events, game)
@@ -209,6 +211,11 @@ class PlayingTest(unittest.TestCase):
         self.kept.keep.side_effect = [None, "No longer"]
         said = self.play([Key.RIGHT, Key.RIGHT, Key.QUIT, Key.LEFT], [b".P.\n\n", b"..P\n\n! Hi\n", b".P.\n\n"])
         self.assertNotIn("? No longer", said)
+
+    def test_a_notice_waits_while_a_hint_stands(self):
+        said = self.play([Key.RIGHT], [b".P.\n\n"], notice="You go on", early=[Key.HINT])
+        self.assertEqual(said[4], "? d wins.")
+        self.assertEqual(said[-2:], ["? You go on", playing.BROKEN_OFF])
 
     def test_keys_that_are_kept(self):
         """Just those that the run is handed and takes."""

@@ -93,6 +93,15 @@ class ViewScreenTest(unittest.TestCase):
         self.screen.redraw()
         self.assertEqual(self.last(), START + b"? \n")
 
+    def test_a_question_that_is_too_long(self):
+        self.console.now = (8, 10)
+        self.show(START)
+        self.screen.ask("Quit? q again quits, any other key goes on.")
+        self.assertEqual(self.last(), START + "? Quit? q again qui\u2026\n".encode())
+        self.console.now = (24, 80)
+        self.screen.redraw()
+        self.assertEqual(self.last(), START + b"? Quit? q again quits, any other key goes on.\n")
+
     def test_bytes_that_are_no_text_are_handed_on(self):
         self.show(START + b"! a\xffb\n")
         self.assertTrue(self.last().endswith(b"! a\xffb\n"))

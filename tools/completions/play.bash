@@ -13,7 +13,13 @@ _play_games() {
 }
 
 _play() {
-    local word=${COMP_WORDS[COMP_CWORD]} before=${COMP_WORDS[COMP_CWORD - 1]} options
+    local word=${COMP_WORDS[COMP_CWORD]} before=${COMP_WORDS[COMP_CWORD - 1]} forms options
+    # Of --format=json the shell makes three words.
+    if [ "$before" = = ] && [ "$COMP_CWORD" -gt 2 ]; then
+        before=${COMP_WORDS[COMP_CWORD - 2]}
+    elif [ "$word" = = ]; then
+        word=
+    fi
     case $before in
     --level | --limit | --states | --view | --explain)
         COMPREPLY=()
@@ -25,7 +31,9 @@ _play() {
         return
         ;;
     --format)
-        mapfile -t COMPREPLY < <(compgen -W 'text gnu json' -- "$word")
+        forms='text gnu json'
+        [[ " ${COMP_WORDS[*]} " != *" --"@(solve|replay)" "* ]] || forms='text json'
+        mapfile -t COMPREPLY < <(compgen -W "$forms" -- "$word")
         return
         ;;
     --title)
