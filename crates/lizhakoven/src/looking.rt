@@ -89,7 +89,15 @@ pub fn look_from(
     ensures kept { OnErr result (cells.new ≡ cells.old) }
 {
     let parts = game.parts_at(entry);
-    look_compiled(alloc, parts, game.programs(), game.entries(), keys, played, cells)
+    look_compiled(
+        alloc,
+        parts,
+        game.programs(),
+        game.entries(),
+        keys,
+        played,
+        cells,
+    )
 }
 
 /// What a game writes that plays keys by the programs that its rules compile to.

@@ -149,11 +149,7 @@ fn program_of(
 /// The two compiled programs of a game's rules, made of the rules that can do something, which face down or right: for
 /// rules of a game, a run of each comes to what the rules mean on each of its grids; and a board on which the game's
 /// objects have room on their layers can run each as it is. `Memory` if there is no room for them.
-pub fn compile(
-    alloc: Global,
-    names: &Names,
-    rules: &RuleText,
-) -> Result<CompiledPrograms, Memory>
+pub fn compile(alloc: Global, names: &Names, rules: &RuleText) -> Result<CompiledPrograms, Memory>
     ensures plain { IfOk result (λ programs. programs.plain ≡ compact_program names.now Plain rules.now) }
     ensures late { IfOk result (λ programs. programs.late ≡ compact_program names.now Late rules.now) }
     ensures plain_alike { IfOk result (λ programs. RunsAlike names.now Plain rules.now programs.plain) }

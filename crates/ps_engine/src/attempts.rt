@@ -46,11 +46,7 @@ fn lacks_last<B: Scan>(board: &B, rule: &CompiledRule) -> bool
 
 /// Finds where each row of a rule fits on the board as it is, and chooses the first place of each. Answers whether
 /// each row has one: whether the rule has a combination.
-fn choose_first<B: Scan>(
-    board: &B,
-    rule: &CompiledRule,
-    scratch: &mut [ScratchFor<B>],
-) -> bool
+fn choose_first<B: Scan>(board: &B, rule: &CompiledRule, scratch: &mut [ScratchFor<B>]) -> bool
     requires { length rule.now.rows ≤ length scratch.old }
     ensures found { let choices = choices_of (B.grid board.now).height rule.now.rows scratch.new in
         result ≡ true →
@@ -77,11 +73,7 @@ fn choose_first<B: Scan>(
 }
 
 /// Whether a rule is known to have no combination. No memory is taken.
-pub fn is_idle<B: Scan>(
-    board: &B,
-    rule: &CompiledRule,
-    scratch: &mut [ScratchFor<B>],
-) -> bool
+pub fn is_idle<B: Scan>(board: &B, rule: &CompiledRule, scratch: &mut [ScratchFor<B>]) -> bool
     requires { length rule.now.rows ≤ length scratch.old }
     ensures idle { result ≡ true → combinations_on (B.grid board.now) (rule_meaning (B.table board.now) rule.now) ≡ [] }
     ensures long { length scratch.new ≡ length scratch.old }
@@ -143,10 +135,7 @@ fn attempt_by_kind<'r, B: Scan>(
 /// of a large game need an object that is nowhere, and so the last one is asked for in line; whether the others are
 /// there a rule of one part tells by where it begins.
 #[inline(always)]
-pub fn attempt<'r, B: Scan>(
-    rule: &'r CompiledRule,
-    work: &mut Workspace<'_, '_, '_, 'r, B>,
-) -> bool
+pub fn attempt<'r, B: Scan>(rule: &'r CompiledRule, work: &mut Workspace<'_, '_, '_, 'r, B>) -> bool
     requires { length rule.now.rows ≤ length work.old.scratch.now }
     ensures attempt { record { state = state_of B.Board work.new; changed = result }
         ≡ attempt (rule_meaning (B.table work.old.board.now) rule.now) (state_of B.Board work.old) }

@@ -45,11 +45,7 @@ impl Drop for PlacedPrograms {
 
 impl PlacedPrograms {
     /// Compiles the rules of a game, and tells where they come from. `Memory` if there is no room for that.
-    pub fn of(
-        alloc: Global,
-        names: &Names,
-        rules: &RuleText,
-    ) -> Result<PlacedPrograms, Memory>
+    pub fn of(alloc: Global, names: &Names, rules: &RuleText) -> Result<PlacedPrograms, Memory>
         ensures plain { IfOk result (λ programs.
             programs.compiled.plain ≡ compact_program names.now Plain rules.now) }
         ensures late { IfOk result (λ programs.
