@@ -2,9 +2,10 @@ use Rattle.lizhakoven.proofs.Goings.{AreKept, kept_after, named_if}
 use Rattle.lizhakoven.proofs.held.HeldSession.copied.Goals as goal
 
 pub copied_if-requires : goal.copied_if-requires
-copied_if-requires c =
-    rw c.deref-2.ensures (named_if c.self.inside.game.value.names c.self.inside.keys.items c.self.inside.played
-    c.self.invariant.0)
+copied_if-requires c = record {
+  named = rw c.deref-2.ensures (named_if c.self.inside.game.value.names c.self.inside.keys.items c.self.inside.played
+      c.self.invariant.0);
+}
 
 pub invariant_of-self : goal.invariant_of-self
 invariant_of-self c =
