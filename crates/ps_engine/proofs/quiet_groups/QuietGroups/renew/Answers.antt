@@ -27,8 +27,8 @@ invariant_of-self-2 g c =
     (c.if-not-is_alike.ensures.table refl)
     c.topics_differing-stirred.ensures known c.wake.ensures.woken in (
       c.wake.ensures.long
-      ∙ subst (λ board. IsKnownOfEach board c.self.inside.sections.now c.self.inside.known.items) c.in-Some.is
-      c.self.invariant.0,
+          ∙ subst (λ board. IsKnownOfEach board c.self.inside.sections.now c.self.inside.known.items) c.in-Some.is
+          c.self.invariant.0,
       subst (λ (shown : Option (Grid × Option (List ℕ))). AreKnown shown c.self.inside.sections.now
           c.wake.new.known.items)
           (two_same (g.B.Board.grid c.args.board.now) (g.B.Board.grid c.copy_into.new.other)
