@@ -30,6 +30,16 @@ class Part:
     plays: bool
 
 
+def type_before(value):
+    """The type that stands before a value, as `[1 x i8]`: up to the first blank that is in no brackets."""
+    depth = 0
+    for place, sign in enumerate(value):
+        depth += (sign in "[{<") - (sign in "]}>")
+        if sign == " " and depth == 0:
+            return value[:place]
+    return value
+
+
 class Piece:
     """A function or a value of a module: its lines, and the names that they mention."""
 
@@ -54,8 +64,8 @@ class Piece:
         first = OWN.sub(r"\1 hidden ", self.lines[0], count=1)
         if self.is_function():
             return "declare" + first.removeprefix("define").removesuffix("{\n") + "\n"
-        kind, _, _ = first.partition(" global ")
-        return f"{kind.replace(' hidden', ' external hidden')} global {first.partition(' global ')[2].split(' ', 1)[0]}\n"
+        kind, _, value = first.partition(" global ")
+        return f"{kind.replace(' hidden', ' external hidden')} global {type_before(value)}\n"
 
 
 def read_pieces(lines):

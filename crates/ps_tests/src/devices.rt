@@ -5,8 +5,9 @@ ghost use Rattle.std.specs.Prelude.{◌≡◌, ◌≤◌, None};
 use crate::games::{NAMES, PUSH, PUSHED};
 use crate::watched::Watched;
 use ps_devices::{ByteReader, Failed, MemoryReader, MemoryWriter};
-use ps_model::{CALL_LIMIT, Ending, READ_LIMIT};
+use ps_model::{CALL_LIMIT, Ending, Memory, READ_LIMIT};
 use ps_run::{RunFault, run};
+use std::alloc::Global;
 use std::process::Abort;
 
 /// A player with two free cells at its right.
@@ -16,6 +17,10 @@ const WALK: &str = "RULES\nWINCONDITIONS\nLEVELS\nP..\n";
 const BEGUN: &str = "= T\n# level 1\nP..\n\n";
 
 const WALKED: &str = "= T\n# level 1\nP..\n\n.P.\n\n..P\n\n";
+
+/// A player with 63 free cells at its right.
+const WIDE: &str =
+    "RULES\nWINCONDITIONS\nLEVELS\nP...............................................................\n";
 
 /// The devices of a run: the most bytes that a call of the reader gives, and where it fails, if it does; the most bytes
 /// that a call of the writer takes, and for how many it has room.
@@ -178,6 +183,49 @@ fn a_key_brings_one_write(rt: HostRuntime) {
         ),
         wanted
     );
+}
+
+/// Puts a frame of [`WIDE`] last, with the player in that column.
+fn put_frame(frames: &mut Vec<u8>, column: usize) -> Result<(), Memory> {
+    for place in 0..64usize {
+        let cell = if place == column { b'P' } else { b'.' };
+        frames.push(cell)?;
+    }
+    frames.push(b'\n')?;
+    frames.push(b'\n')?;
+    Ok(())
+}
+
+/// What [`WIDE`] writes up to the frame of the last of `keys` keys `d`: the player comes to the edge, and stays there.
+fn walked_wide(alloc: Global, keys: usize) -> Result<Vec<u8>, Memory> {
+    let mut written = Vec::from_slice(alloc, b"= T\n# level 1\n")?;
+    for key in 0..=keys {
+        put_frame(&mut written, key.min(63))?;
+    }
+    Ok(written)
+}
+
+/// The texts of a piece of keys are gathered, up to 65,536 bytes: 992 frames of 66 bytes have room, and 992, and 16.
+#[test]
+fn texts_of_many_bytes_are_written_in_several_calls(rt: HostRuntime) -> Result<(), Memory> {
+    let keys = [b'd'; 2000];
+    let mut walked = walked_wide(rt.alloc(), keys.len())?;
+    assert_eq!(rt; walked.len(), 80 + 2000 * 66);
+    walked.extend_from_slice(b"* end of keys\n")?;
+    let setting = Setting {
+        gives: CALL_LIMIT,
+        fails_at: None,
+        takes: 140_000,
+        room: 140_000,
+    };
+    let wanted = Seen {
+        answer: Ok(Ending::EndOfKeys),
+        given: 2000,
+        reads: 2,
+        writes: 5,
+    };
+    assert_eq!(rt; watch(&rt, WIDE, &keys, setting, walked.as_slice()), wanted);
+    Ok(())
 }
 
 #[test]
