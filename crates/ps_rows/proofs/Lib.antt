@@ -5,6 +5,7 @@ pub mod Steps
 pub mod Listed
 pub mod MemberRanges
 pub mod Moves
+pub mod PutAlready
 pub mod Puts
 pub mod Tables
 pub mod Rests

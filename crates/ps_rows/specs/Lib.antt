@@ -19,3 +19,4 @@ pub mod TurnedPlaces
 pub mod Packings
 pub mod BlankPlanes
 pub mod UsedPlanes
+pub mod PutAlready

@@ -1,6 +1,6 @@
 //! A row of the board rewritten in many columns at once, layer by layer.
 
-ghost use Rattle.std.specs.Prelude.{◌≡◌, ◌+◌, ◌*◌, ◌<◌, ◌≤◌, ◌&&◌, ◌||◌, ℕ, Some, false, nat_eq, nat_lt, true};
+ghost use Rattle.std.specs.Prelude.{◌≡◌, ◌+◌, ◌*◌, ◌<◌, ◌≤◌, ◌&&◌, ◌||◌, ℕ, [], All, Some, false, nat_eq, nat_lt, true};
 ghost use Rattle.ps_model.specs.declared.limits.TheConstants.{SIDE_LIMIT};
 ghost use Rattle.ps_board.specs.ColumnSets.{column_at};
 ghost use Rattle.ps_board.specs.declared.one_word.TheConstants.{WORD_BITS};
@@ -10,6 +10,7 @@ ghost use Rattle.ps_model.specs.meaning.Compiled.{cell_written};
 ghost use Rattle.ps_program.specs.ProgramShown.{write_shown};
 ghost use Rattle.ps_match.specs.InRoom.{write_in_room};
 ghost use Rattle.ps_match.specs.Together.{rewritten_where};
+ghost use Rattle.ps_rows.specs.PutAlready.{IsPutAlready, MovesAlready};
 ghost use Rattle.ps_rows.specs.RowChanges.{moves_kept};
 ghost use Rattle.ps_rows.specs.RowTests.{IsRowOf, IsWithin};
 ghost use Rattle.ps_rows.specs.SlotsWritten.{AreSlotsLeft, AreSlotsWritten, IsLayerChange};
@@ -19,7 +20,7 @@ use crate::changes::{RowChange, layer_changes, moves_kept};
 use crate::row_board::RowBoard;
 use ps_board::{Board, ColumnWords, Columns, OneWord, WORD_BITS};
 use ps_match::{own_write, touches};
-use ps_model::{LayerId, LayerWrite, LayeredObject};
+use ps_model::{LayerId, LayerWrite, LayeredObject, Motion, MotionTest, ObjectWrite};
 use ps_program::CellWrite;
 
 /// A set of layers below `WORD_BITS` with one more, if it is such a one of so many layers.
@@ -72,6 +73,22 @@ fn touched_layers(write: &CellWrite, count: u32) -> Columns<OneWord>
 {
     let left = with_layers_left(Columns::none(), write.gone.as_slice(), count);
     with_layers_written(left, write.layers.as_slice(), count)
+}
+
+/// Whether a write gives a motion other than rest. It is seldom given where it is had.
+fn gives_motion(each: &LayerWrite) -> bool {
+    match each.motion {
+        None => false,
+        Some(Motion::Still) => false,
+        Some(_) => true,
+    }
+}
+
+/// Whether no object goes by a write.
+fn takes_none(write: &CellWrite) -> bool
+    ensures { result ≡ true → (write_shown write.now).gone ≡ [] }
+{
+    write.gone.as_slice().is_empty()
 }
 
 impl<W: ColumnWords> RowBoard<W> {
@@ -193,6 +210,80 @@ impl<W: ColumnWords> RowBoard<W> {
         any
     }
 
+    /// Whether a layer has the motion in these columns of a row that a write gives, if it gives one.
+    #[inline(always)]
+    fn moves_so(&self, each: &LayerWrite, row: u32, columns: Columns<W>) -> bool
+        requires { row < self.now.planes.height }
+        ensures { result ≡ true → MovesAlready (⟦<RowBoard<W> as Board>⟧.grid self.now)
+            (in_columns self.now.planes.height row columns) each.now }
+    {
+        let Some(motion) = each.motion else {
+            return true;
+        };
+        let test = MotionTest {
+            layer: each.layer,
+            motion,
+        };
+        columns.without(self.motion_row(&test, row)).is_empty()
+    }
+
+    /// Whether what a layer's write puts is known to stand in these columns of a row, with the motion that it gives.
+    #[inline(always)]
+    fn is_put(&self, each: &LayerWrite, row: u32, columns: Columns<W>) -> bool
+        requires { row < self.now.planes.height }
+        ensures { result ≡ true → IsPutAlready (⟦<RowBoard<W> as Board>⟧.grid self.now)
+            (in_columns self.now.planes.height row columns) each.now }
+    {
+        let ObjectWrite::Put(object) = each.object else {
+            return false;
+        };
+        if gives_motion(each) {
+            return false;
+        }
+        let sought = LayeredObject {
+            object,
+            layer: each.layer,
+        };
+        if !columns.without(self.object_row(&sought, row)).is_empty() {
+            return false;
+        }
+        self.moves_so(each, row, columns)
+    }
+
+    /// Whether what these writes put is known to stand in these columns of a row, with the motions that they give.
+    #[inline(always)]
+    fn are_put(&self, writes: &[LayerWrite], row: u32, columns: Columns<W>) -> bool
+        requires { row < self.now.planes.height }
+        ensures { result ≡ true → All (IsPutAlready (⟦<RowBoard<W> as Board>⟧.grid self.now)
+            (in_columns self.now.planes.height row columns)) writes.now }
+    {
+        for each in writes {
+            if !self.is_put(each, row, columns) {
+                return false;
+            }
+        }
+        true
+    }
+
+    /// Whether a write is known to leave these columns of a row as they are: no object goes, and all that are put stand
+    /// there. A write of one layer isn't asked, as it changes something as a rule.
+    #[inline(always)]
+    fn leaves(&self, write: &CellWrite, row: u32, columns: Columns<W>) -> bool
+        requires { row < self.now.planes.height }
+        ensures { let after = slot_by self.now.members.table.items (write_shown write.now) in
+            result ≡ true → AreSlotsLeft (⟦<RowBoard<W> as Board>⟧.grid self.now)
+            (in_columns self.now.planes.height row columns) (λ l. true) after }
+    {
+        if !takes_none(write) {
+            return false;
+        }
+        let writes = write.layers.as_slice();
+        if writes.len() < 2 {
+            return false;
+        }
+        self.are_put(writes, row, columns)
+    }
+
     /// Writes a row in these columns, and answers whether one of its cells changed.
     pub(crate) fn write_columns(&mut self, write: &CellWrite, row: u32, columns: Columns<W>) -> bool
         requires row { row < self.old.planes.height }
@@ -207,6 +298,9 @@ impl<W: ColumnWords> RowBoard<W> {
         ensures table { self.new.members.table.items ≡ self.old.members.table.items }
         ensures origin { self.new.origin.value ≡ self.old.origin.value }
     {
+        if self.leaves(write, row, columns) {
+            return false;
+        }
         let mut any = self.write_touched(write, row, columns);
         for layer in WORD_BITS..self.layers() {
             any |= self.write_if(write, layer, row, columns);

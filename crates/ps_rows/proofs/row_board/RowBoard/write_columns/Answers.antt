@@ -1,5 +1,5 @@
 use Rattle.std.proofs.Common.{◌≡◌, ◌∙◌, ◌+◌, ◌*◌, ◌<◌, ◌≤◌, ◌||◌, ℕ, List, Bool, Some, true, false, length, [], sym}
-use Rattle.std.proofs.Common.{ap₂, subst, arith}
+use Rattle.std.proofs.Common.{ap₂, subst, arith, refl}
 use Rattle.std.specs.Prelude.{nat_eq, nat_lt}
 use Rattle.std.proofs.lemmas.Bool.{le-ltb, lt-ltb, or_parts}
 use Rattle.ps_model.specs.declared.pieces.Slot.{Slot}
@@ -9,6 +9,7 @@ use Rattle.ps_program.specs.ProgramShown.{write_shown}
 use Rattle.ps_match.specs.InRoom.{slot_after, write_in_room}
 use Rattle.ps_rows.specs.Showing.{grid_shown}
 use Rattle.ps_rows.specs.SlotsWritten.{AreSlotsLeft, AreSlotsWritten, in_columns}
+use Rattle.ps_rows.proofs.PutAlready.{slots_stay}
 use Rattle.ps_rows.proofs.Rests.{cells_long, slots_long}
 use Rattle.ps_rows.proofs.RowsWritten.{left_as, left_here, left_next, next_below, row_rewritten, slots_as, slots_next}
 use Rattle.ps_rows.proofs.row_board.RowBoard.write_columns.Goals as goal
@@ -114,3 +115,22 @@ returns-clause-rewritten g c =
     c.loop-layer.any was.width was.height was.layers
     (slots_as start chosen after now on (λ l. true) (λ l low. sym (all_below end l low)) was.slots)
     (λ none. left_as start chosen after on (λ l. true) (λ l low. sym (all_below end l low)) (was.quiet none)) was.left
+
+pub returns-then-leaves-clause-rewritten : goal.returns-then-leaves-clause-rewritten
+returns-then-leaves-clause-rewritten g c =
+    let b = c.args.self.now in
+    let table : List ℕ = b.members.table.items in
+    let write : CellWrite = write_shown c.args.write.now in
+    let start : Grid = grid_shown table b.width b.planes.height b.layers b.planes.words.items in
+    let chosen : ℕ → Bool = in_columns b.planes.height c.args.row c.args.columns in
+    let after : ℕ → Slot → Slot = slot_after (write_in_room (Some table) write) in
+    let stay : AreSlotsLeft start chosen (λ l. true) after = c.leaves.ensures c.if-leaves.true in
+    let long : length start.cells ≡ b.width * b.planes.height =
+    cells_long table b.layers b.planes.height b.planes.words.items (b.width * b.planes.height) in
+    row_rewritten (Some table) write start start chosen long
+    (λ k low. slots_long table b.layers b.planes.height b.planes.words.items (b.width * b.planes.height) k []
+    (rw long low))
+    long
+    (λ k low. slots_long table b.layers b.planes.height b.planes.words.items (b.width * b.planes.height) k []
+    (rw long low))
+    false refl refl refl (slots_stay start chosen after stay) (λ none. stay) (λ all. refl)
