@@ -400,6 +400,23 @@ impl<W: ColumnWords> RowBoard<W> {
         !other.may_move
     }
 
+    /// Whether it is known that nothing moves on the board, nor on another one of the same size for the same game. Where
+    /// neither says so at once it is looked for, if that pays.
+    fn rest_alike(&self, other: &RowBoard<W>, pays: bool) -> bool
+        requires height { other.now.planes.height ≡ self.now.planes.height }
+        requires table { other.now.members.table.items ≡ self.now.members.table.items }
+        ensures { let p = self.now.planes in let first = length self.now.members.table.items * p.height in
+            result ≡ true → AreSameFrom first p.words.items other.now.planes.words.items }
+    {
+        if self.stand_still(other) {
+            return true;
+        }
+        if !pays {
+            return false;
+        }
+        self.both_rest(other)
+    }
+
     /// How many planes there are, from the first on, in which the board may differ from another one of the same size
     /// for the same game: those of objects, where nothing moves on either.
     fn planes_used(&self, other: &RowBoard<W>) -> u32
@@ -812,7 +829,7 @@ impl<W: ColumnWords> Board for RowBoard<W> {
 
     /// Where nothing moves on either board, these rows alone are copied, in the planes of all objects.
     fn copy_rows(&self, other: &mut RowBoard<W>, rows: &Columns<W>) {
-        if !self.stand_still(other) {
+        if !self.rest_alike(other, rows.has_few()) {
             self.copy_into(other);
             return;
         }

@@ -24,7 +24,7 @@ invariant_of-other-clause-objects g c =
     c.copy_rows.ensures.height c.requires.layers b.planes.some_row (sym b.planes.words.ok.0 ∙ b.whole)
     (sym o.planes.words.ok.0 ∙ o.whole) (sym new.words.ok.0 ∙ c.copy_rows.ensures.count ∙ o.planes.words.ok.0)
     c.count-objects.result c.count-objects.ensures.value
-    (c.stand_still.ensures c.if-not-stand_still.false) c.copy_rows.ensures.words b.objects o.objects
+    (c.rest_alike.ensures c.if-not-rest_alike.false) c.copy_rows.ensures.words b.objects o.objects
 
 pub invariant_of-other-clause-motions : goal.invariant_of-other-clause-motions
 invariant_of-other-clause-motions g c =
@@ -38,7 +38,7 @@ invariant_of-other-clause-motions g c =
     c.copy_rows.ensures.height c.requires.layers b.planes.some_row (sym b.planes.words.ok.0 ∙ b.whole)
     (sym o.planes.words.ok.0 ∙ o.whole) (sym new.words.ok.0 ∙ c.copy_rows.ensures.count ∙ o.planes.words.ok.0)
     c.count-objects.result c.count-objects.ensures.value
-    (c.stand_still.ensures c.if-not-stand_still.false) c.copy_rows.ensures.words b.motions o.motions
+    (c.rest_alike.ensures c.if-not-rest_alike.false) c.copy_rows.ensures.words b.motions o.motions
 
 pub invariant_of-other-clause-rest : goal.invariant_of-other-clause-rest
 invariant_of-other-clause-rest g c = λ still.
@@ -52,7 +52,7 @@ invariant_of-other-clause-rest g c = λ still.
     c.copy_rows.ensures.height c.requires.layers b.planes.some_row (sym b.planes.words.ok.0 ∙ b.whole)
     (sym o.planes.words.ok.0 ∙ o.whole) (sym new.words.ok.0 ∙ c.copy_rows.ensures.count ∙ o.planes.words.ok.0)
     c.count-objects.result c.count-objects.ensures.value
-    (c.stand_still.ensures c.if-not-stand_still.false) c.copy_rows.ensures.words (o.rest still)
+    (c.rest_alike.ensures c.if-not-rest_alike.false) c.copy_rows.ensures.words (o.rest still)
 
 pub returns-clause-grid : goal.returns-clause-grid
 returns-clause-grid g c =
@@ -66,7 +66,7 @@ returns-clause-grid g c =
     c.copy_rows.ensures.height c.requires.layers b.planes.some_row (sym b.planes.words.ok.0 ∙ b.whole)
     (sym o.planes.words.ok.0 ∙ o.whole) (sym new.words.ok.0 ∙ c.copy_rows.ensures.count ∙ o.planes.words.ok.0)
     c.count-objects.result c.count-objects.ensures.value
-    (c.stand_still.ensures c.if-not-stand_still.false) c.copy_rows.ensures.words c.requires.only
+    (c.rest_alike.ensures c.if-not-rest_alike.false) c.copy_rows.ensures.words c.requires.only
 
 pub returns-clause-origin : goal.returns-clause-origin
 returns-clause-origin g c =
@@ -83,7 +83,7 @@ returns-clause-origin g c =
     c.copy_rows.ensures.height c.requires.layers b.planes.some_row (sym b.planes.words.ok.0 ∙ b.whole)
     (sym o.planes.words.ok.0 ∙ o.whole) (sym new.words.ok.0 ∙ c.copy_rows.ensures.count ∙ o.planes.words.ok.0)
     c.count-objects.result c.count-objects.ensures.value
-    (c.stand_still.ensures c.if-not-stand_still.false) c.copy_rows.ensures.words c.requires.only)
+    (c.rest_alike.ensures c.if-not-rest_alike.false) c.copy_rows.ensures.words c.requires.only)
 
 pub copy_rows-requires-clause-count : goal.copy_rows-requires-clause-count
 copy_rows-requires-clause-count g c =
