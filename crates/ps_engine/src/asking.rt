@@ -19,9 +19,7 @@ fn row_has_place<B: Scan>(board: &B, row: &CompiledRow, row_scratch: &mut Scratc
     recall_shape(board);
     let parts = row.parts.as_slice();
     if parts.len() == 1 {
-        return !row_scratch
-            .find_part(board, row.axis, parts[0].as_slice())
-            .is_empty();
+        return row_scratch.has_part(board, row.axis, parts[0].as_slice());
     }
     find_starts(board, row, row_scratch);
     row_scratch.first_place(board, row)

@@ -49,7 +49,7 @@ pub fn is_idle_part<B: Scan>(
     if begins_nowhere(board, rule.axis, part) {
         return true;
     }
-    scratch[0].find_part(board, rule.axis, part).is_empty()
+    !scratch[0].has_part(board, rule.axis, part)
 }
 
 /// The rest of an attempt of a rule whose only part this is. It begins on these rows of the board, in the columns that

@@ -18,6 +18,7 @@ pub mod FoundPlaces
 pub mod LineSets
 pub mod FoundAcross
 pub mod FoundOnLines
+pub mod HaveBegun
 pub mod FoundDown
 pub mod FoundLines
 pub mod Untouched

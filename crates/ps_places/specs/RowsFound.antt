@@ -6,7 +6,7 @@ use Rattle.ps_board.specs.ColumnSets.{both_columns, column_at, columns_behind, s
 use Rattle.ps_program.specs.declared.cells.CompiledCell.{CompiledCell}
 use Rattle.ps_program.specs.declared.rows.Axis.{Axis}
 use Rattle.ps_program.specs.declared.rows.Axis.TheVariants.{Down, Right}
-use Rattle.ps_places.specs.PartStarts.{begins_at, columns_on}
+use Rattle.ps_places.specs.PartStarts.{AreStarts, begins_at, columns_on}
 use Rattle.ps_places.specs.Starts.{AreWhere}
 
 -- of sets of columns those are kept that are in others too, moved so many columns to the left
@@ -47,3 +47,19 @@ pub record AreRowsBegun (rows : List Bool) (starts : List (List Bool)) (begun : 
   pub some : (row : ℕ) → column_at begun row ≡ true → 0 < length (set_columns (columns_on starts row))
   pub none : (row : ℕ) → row < SIDE_LIMIT → column_at rows row ≡ true → column_at begun row ≡ false →
       set_columns (columns_on starts row) ≡ []
+
+-- whether one of some rows has a set with a column: the rows that have are none, or else some
+pub record HaveBegun (rows : List Bool) (starts : List (List Bool)) (some : Bool) : Type 0 where
+  pub begun : List Bool
+  pub are : AreRowsBegun rows starts begun
+  pub one : some ≡ true → 0 < length (set_columns begun)
+  pub none : some ≡ false → set_columns begun ≡ []
+
+-- whether a part begins somewhere: the rows on which it begins are none, or else some
+pub record BeginsSomewhere (g : Grid) (table : Option (List ℕ)) (axis : Axis) (part : List CompiledCell) (some : Bool) :
+    Type 0 where
+  pub rows : List Bool
+  pub starts : List (List Bool)
+  pub are : AreStarts g table axis part rows starts
+  pub one : some ≡ true → 0 < length (set_columns rows)
+  pub none : some ≡ false → set_columns rows ≡ []

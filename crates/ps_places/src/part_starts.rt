@@ -1,6 +1,6 @@
 //! Where one part of a row of a rule begins as the board is, row by row of the board.
 
-ghost use Rattle.std.specs.Prelude.{◌≡◌, ◌≢◌, ◌+◌, ◌<◌, ◌≤◌, ◌∷◌, ℕ, [], length, replicate, true};
+ghost use Rattle.std.specs.Prelude.{◌≡◌, ◌≢◌, ◌+◌, ◌<◌, ◌≤◌, ◌∷◌, ℕ, [], false, length, replicate, true};
 ghost use Rattle.ps_model.specs.declared.limits.TheConstants.{SIDE_LIMIT};
 ghost use Rattle.ps_model.specs.board.Places.{places};
 ghost use Rattle.ps_board.specs.ColumnSets.{column_at, no_columns, set_columns};
@@ -12,7 +12,7 @@ ghost use Rattle.ps_places.specs.Candidates.{BeginsOnlyOn};
 ghost use Rattle.ps_places.specs.PartStarts.{AreStarts, begins_at};
 ghost use Rattle.ps_places.specs.Starts.{AreWhere};
 ghost use Rattle.ps_places.specs.RowsFound.{AreBothBehind, AreEmptyBetween, AreRowsBegun, AreRowsBelow, AreRowsBetween};
-ghost use Rattle.ps_places.specs.RowsFound.{BeginBetween, BeginOnRows};
+ghost use Rattle.ps_places.specs.RowsFound.{BeginBetween, BeginOnRows, BeginsSomewhere, HaveBegun};
 ghost use Rattle.ps_places.specs.RowsFound.{rows_with_room};
 
 use crate::candidates::rows_of_part;
@@ -232,6 +232,41 @@ fn begun_between<W: ColumnWords>(
     rows_begun(rows, starts)
 }
 
+/// Whether one of some rows has a set with a column.
+fn have_begun<W: ColumnWords>(rows: Columns<W>, starts: &[Columns<W>]) -> bool
+    requires { SIDE_LIMIT ≤ length starts.now }
+    ensures { HaveBegun rows starts.now result }
+{
+    let mut left = rows;
+    while let Some(row) = left.take_first() {
+        if !starts[row as usize].is_empty() {
+            return true;
+        }
+    }
+    false
+}
+
+/// Whether one of some rows, from the first one to the end, has a set with a column. Where the first row has none, as a
+/// rule no other one has.
+fn have_begun_between<W: ColumnWords>(
+    rows: Columns<W>,
+    first: u32,
+    end: u32,
+    starts: &[Columns<W>],
+) -> bool
+    requires some { first < end }
+    requires below { end ≤ SIDE_LIMIT }
+    requires room { SIDE_LIMIT ≤ length starts.now }
+    requires between { AreRowsBetween rows first end }
+    ensures { HaveBegun rows starts.now result }
+{
+    let is_first_empty = starts[first as usize].is_empty();
+    if is_first_empty && are_empty(starts, first, end) {
+        return false;
+    }
+    have_begun(rows, starts)
+}
+
 /// Finds the columns in which a part begins of the only one of some rows, and answers these rows, where it has one.
 #[inline(always)]
 fn find_on_row<B: Scan>(
@@ -305,6 +340,36 @@ fn find_on_rows<B: Scan>(
     let end = end_of(rows, first, count);
     find_between(board, axis, part, first, end, starts, scanned);
     begun_between(rows, first, end, starts)
+}
+
+/// Whether a part begins on one of several rows of the board, where it begins on no other. What is in `starts` and
+/// `scanned` afterwards is anything.
+#[inline(never)]
+fn begins_on_rows<B: Scan>(
+    board: &B,
+    axis: Axis,
+    part: &[CompiledCell],
+    having: Columns<B::Words>,
+    starts: &mut [Columns<B::Words>],
+    scanned: &mut [Columns<B::Words>],
+) -> bool
+    requires whole { HasCells part.now }
+    requires only { BeginsOnlyOn (B.grid board.now) (B.table board.now) axis part.now having }
+    requires room { SIDE_LIMIT ≤ length starts.old }
+    requires scanned { SIDE_LIMIT ≤ length scanned.old }
+    ensures begins { BeginsSomewhere (B.grid board.now) (B.table board.now) axis part.now result }
+    ensures long { length starts.new ≡ length starts.old }
+{
+    let (_width, height) = board.size();
+    let count = rows_with_room(axis, height, part.len());
+    let rows = having.both(Columns::below(count));
+    let mut left = rows;
+    let Some(first) = left.take_first() else {
+        return false;
+    };
+    let end = end_of(rows, first, count);
+    find_between(board, axis, part, first, end, starts, scanned);
+    have_begun_between(rows, first, end, starts)
 }
 
 /// Finds the columns of each of some rows of the board in which a part begins, where it begins on no other, and answers
@@ -396,5 +461,31 @@ impl<W: ColumnWords> RowScratch<Columns<W>> {
             self.starts.as_mut_slice(),
             self.scanned.as_mut_slice(),
         )
+    }
+    /// Whether the only part of a row begins somewhere as the board is. No memory is taken.
+    #[inline(always)]
+    pub fn has_part<B: Scan<Words = W>>(
+        &mut self,
+        board: &B,
+        axis: Axis,
+        part: &[CompiledCell],
+    ) -> bool
+        requires { HasCells part.now }
+        ensures none { let meant = part_meaning (B.table board.now) part.now in
+            result ≡ false → places (B.grid board.now) (direction_of axis) (meant ∷ []) ≡ [] }
+        ensures some { let meant = part_meaning (B.table board.now) part.now in
+            result ≡ true → places (B.grid board.now) (direction_of axis) (meant ∷ []) ≢ [] }
+    {
+        recall_shape(board);
+        let rows = rows_of_part(board, axis, part);
+        if rows.is_empty() {
+            return false;
+        }
+        let starts = self.starts.as_mut_slice();
+        let scanned = self.scanned.as_mut_slice();
+        if rows.has_few() {
+            return !find_rows_among(board, axis, part, rows, starts, scanned).is_empty();
+        }
+        begins_on_rows(board, axis, part, rows, starts, scanned)
     }
 }

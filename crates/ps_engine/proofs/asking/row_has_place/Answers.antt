@@ -1,4 +1,4 @@
-use Rattle.std.proofs.Common.{◌∙◌, ap, sym, ◌≡◌, ◌≢◌, [], ◌∷◌, map, not, true, false, subst, List, Bool}
+use Rattle.std.proofs.Common.{◌∙◌, ap, sym, ◌≡◌, ◌≢◌, [], ◌∷◌, map, subst, List}
 use Rattle.ps_model.specs.board.Places.{places}
 use Rattle.ps_program.specs.Axes.{direction_of}
 use Rattle.ps_program.specs.declared.cells.CompiledCell.{CompiledCell}
@@ -8,10 +8,6 @@ use Rattle.ps_places.specs.Lines.{part_meaning}
 use Rattle.ps_engine.proofs.Combinations.{all_fit_there}
 use Rattle.ps_engine.proofs.Within.{none_of_some, only_of}
 use Rattle.ps_engine.proofs.asking.row_has_place.Goals as goal
-
-negated : (b made : Bool) → not b ≡ made → b ≡ not made
-negated true made e = ap not e
-negated false made e = ap not e
 
 pub returns-clause-none : goal.returns-clause-none
 returns-clause-none g c = λ no.
@@ -32,7 +28,7 @@ returns-then-parts-eq1-clause-none g c = λ no.
     ∙ only_of c.as_slice-parts.result.now c.index-parts-0.result c.if-parts-eq1.true c.index-parts-0.is
     ∙ ap (λ (p : List CompiledCell). p ∷ []) (sym c.as_slice.ensures) in
     subst (λ (ps : List (List CompiledCell)). places grid (direction_of row.axis) (map (part_meaning table) ps) ≡ [])
-    (sym only) (c.find_part.ensures.none (c.is_empty.ensures.none (negated c.is_empty.result false no)))
+    (sym only) (c.has_part.ensures.none no)
 
 pub returns-then-parts-eq1-clause-some : goal.returns-then-parts-eq1-clause-some
 returns-then-parts-eq1-clause-some g c = λ yes.
@@ -45,7 +41,7 @@ returns-then-parts-eq1-clause-some g c = λ yes.
     ∙ only_of c.as_slice-parts.result.now c.index-parts-0.result c.if-parts-eq1.true c.index-parts-0.is
     ∙ ap (λ (p : List CompiledCell). p ∷ []) (sym c.as_slice.ensures) in
     subst (λ (ps : List (List CompiledCell)). places grid (direction_of row.axis) (map (part_meaning table) ps) ≢ [])
-    (sym only) (c.find_part.ensures.some (c.is_empty.ensures.some (negated c.is_empty.result true yes)))
+    (sym only) (c.has_part.ensures.some yes)
 
 pub returns-clause-some : goal.returns-clause-some
 returns-clause-some g c = λ yes.

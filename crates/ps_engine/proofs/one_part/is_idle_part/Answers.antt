@@ -1,5 +1,6 @@
 use Rattle.std.proofs.Common.{◌∙◌, Option, List, ℕ, [], ◌∷◌, map, ap, refl, length}
 use Rattle.std.proofs.lemmas.List.{length-set}
+use Rattle.std.proofs.lemmas.Bool.{not-true}
 use Rattle.ps_model.specs.declared.pieces.Direction.{Direction}
 use Rattle.ps_model.specs.board.Grid.{Grid}
 use Rattle.ps_model.specs.board.Places.{places}
@@ -31,13 +32,13 @@ returns-clause-idle g c = λ empty.
     let m : List CellMeaning = part_meaning table c.args.part.now in
     ap (λ (rows : List (List (List CellMeaning))). combinations (map (places grid direction) rows))
     (only_part_meant table rule.rows c.args.part.now c.requires.only)
-    ∙ none_alone (places grid direction (m ∷ [])) (c.find_part.ensures.none (c.is_empty.ensures.none empty))
+    ∙ none_alone (places grid direction (m ∷ [])) (c.has_part.ensures.none (not-true c.has_part.result empty))
 
 pub returns-then-begins_nowhere-clause-long : goal.returns-then-begins_nowhere-clause-long
 returns-then-begins_nowhere-clause-long g c = refl
 
 pub returns-clause-long : goal.returns-clause-long
-returns-clause-long g c = length-set c.args.scratch.now 0 c.find_part.new.self
+returns-clause-long g c = length-set c.args.scratch.now 0 c.has_part.new.self
 
 pub bounds-scratch-0 : goal.bounds-scratch-0
 bounds-scratch-0 g c =
