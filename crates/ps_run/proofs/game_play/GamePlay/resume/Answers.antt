@@ -3,4 +3,7 @@ use Rattle.ps_stage.specs.Standings.{SessionParts}
 use Rattle.ps_run.proofs.game_play.GamePlay.resume.Goals as goal
 
 pub resume-requires : goal.resume-requires
-resume-requires c = ap (λ (game : SessionParts). game.names) c.copied.ensures ∙ c.requires.names
+resume-requires c = ap (λ (game : SessionParts). game.names) c.copied.ensures.game ∙ c.requires
+
+pub returns-clause-script : goal.returns-clause-script
+returns-clause-script c = c.in_ok-play.ensures.script ∙ c.copied.ensures.script
