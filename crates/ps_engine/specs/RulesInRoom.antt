@@ -14,7 +14,7 @@ rule_meaning table rule = record {
   direction = direction_of rule.axis;
   rows = map (row_meaning table) rule.rows;
   rewrites = rule.rewrites;
-  commands = commands_shown rule.commands.now;
+  commands = commands_shown rule.commands.value;
 }
 
 abbrev pub rules_meaning : Option (List ℕ) → List CompiledRule → List RuleMeaning

@@ -64,6 +64,6 @@ pub fn attempt_commands<'r, B: Scan>(
 {
     recall_shape(work.board);
     if rows_have_places(work.board, rule, work.scratch) {
-        work.queue.enter(&rule.commands);
+        work.queue.enter(rule);
     }
 }

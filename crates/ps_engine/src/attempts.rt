@@ -109,7 +109,7 @@ pub fn attempt_rows<'r, B: Scan>(
     if !choose_first(work.board, rule, work.scratch) {
         return false;
     }
-    work.queue.enter(&rule.commands);
+    work.queue.enter(rule);
     walk(work.board, rows, work.scratch, rule.sleeps)
 }
 

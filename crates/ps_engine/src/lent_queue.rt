@@ -6,7 +6,7 @@ ghost use Rattle.ps_model.specs.board.Attempts.{both, queued};
 ghost use Rattle.ps_program.specs.CommandsShown.{commands_shown};
 
 use ps_model::Extent;
-use ps_program::Commands;
+use ps_program::{Commands, CompiledRule};
 use ps_text::Text;
 use std::marker::Model;
 
@@ -131,9 +131,10 @@ impl<'r> LentQueue<'r> {
 
     /// The commands of a rule enter the queue: after `cancel` nothing does, after `restart` nothing but a rule with
     /// `cancel`; a rule with `cancel` or `restart` empties the queue first.
-    pub fn enter(&mut self, commands: &'r Commands)
-        ensures { self.new ≡ queued self.old (commands_shown commands.entry.now) }
+    pub fn enter(&mut self, rule: &'r CompiledRule)
+        ensures { self.new ≡ queued self.old (commands_shown rule.entry.now.commands.value) }
     {
+        let commands: &'r Commands = &rule.commands;
         if self.cancel || (self.restart && !commands.cancel) {
             return;
         }

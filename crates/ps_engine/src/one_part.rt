@@ -76,12 +76,12 @@ fn rewrite_found<'r, B: Scan>(
 {
     let row_scratch = &mut work.scratch[0];
     if row_scratch.are_independent(rule.axis, part, starts) {
-        work.queue.enter(&rule.commands);
+        work.queue.enter(rule);
         return row_scratch.rewrite_places(work.board, rule.axis, part, starts);
     }
     match rule.axis {
         Axis::Down => {
-            work.queue.enter(&rule.commands);
+            work.queue.enter(rule);
             row_scratch.rewrite_in_turn(work.board, part, starts)
         }
         Axis::Right => attempt_rows(rule, work),

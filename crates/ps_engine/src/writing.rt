@@ -115,7 +115,7 @@ pub fn attempt_writer<'r, B: Scan>(
     if rows.is_empty() {
         return false;
     }
-    work.queue.enter(&rule.commands);
+    work.queue.enter(rule);
     let offset = CellOffset {
         axis: row.axis,
         steps: writer.cell,

@@ -15,7 +15,7 @@ returns-then-lacks_last-clause-attempt g c =
     let table : Option (List ℕ) = g.B.Board.table c.args.work.now.board.now in
     let rule = c.args.rule.now in
     attempt_none (direction_of rule.axis) (rows_meaning table rule.rows) rule.rewrites
-    (commands_shown rule.commands.now) grid c.args.work.now.queue.now
+    (commands_shown rule.commands.value) grid c.args.work.now.queue.now
     (combinations_on grid (rule_meaning table rule)) (c.lacks_last.ensures c.if-lacks_last.true)
 
 pub returns-then-lacks_last-clause-fixed : goal.returns-then-lacks_last-clause-fixed

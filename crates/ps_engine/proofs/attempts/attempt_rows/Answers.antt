@@ -20,7 +20,7 @@ returns-then-not-choose_first-clause-attempt g c =
     let rule = c.args.rule.now in
     let no : c.choose_first.result ≡ false = c.if-not-choose_first.true in
     attempt_none (direction_of rule.axis) (rows_meaning table rule.rows) rule.rewrites
-    (commands_shown rule.commands.now) grid c.args.work.now.queue.now
+    (commands_shown rule.commands.value) grid c.args.work.now.queue.now
     (combinations_on grid (rule_meaning table rule)) (c.choose_first.ensures.none no)
 
 pub walk-requires-clause-lines : goal.walk-requires-clause-lines
@@ -58,7 +58,7 @@ returns-clause-attempt g c =
           after.changed;
     } in r) c.enter.ensures
     ∙ attempt_walked (direction_of rule.axis) (rows_meaning table rule.rows) rule.rewrites
-    (commands_shown rule.commands.now) grid c.args.work.now.queue.now
+    (commands_shown rule.commands.value) grid c.args.work.now.queue.now
     (combinations_on grid (rule_meaning table rule)) (chosen choices) (behind choices) after all does made
 
 pub choose_first-requires : goal.choose_first-requires

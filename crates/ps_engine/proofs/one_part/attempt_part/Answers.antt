@@ -28,7 +28,7 @@ returns-then-is_empty-clause-attempt g c =
     let only : meant ≡ (m ∷ []) ∷ [] = only_part_meant table rule.rows c.args.part.now c.requires.only in
     let empty : c.is_empty.result ≡ true = c.if-is_empty.true in
     let none : places grid direction (m ∷ []) ≡ [] = c.find_part-starts.ensures.none (c.is_empty.ensures.none empty) in
-    attempt_none direction meant rule.rewrites (commands_shown rule.commands.now) grid c.args.work.now.queue.now
+    attempt_none direction meant rule.rewrites (commands_shown rule.commands.value) grid c.args.work.now.queue.now
     (combinations (map (places grid direction) meant))
     (ap (λ (rows : List (List (List CellMeaning))). combinations (map (places grid direction) rows)) only
     ∙ none_alone (places grid direction (m ∷ [])) none)

@@ -31,7 +31,7 @@ returns-then-are_independent-clause-attempt g c =
       changed =
           after.changed;
     } in r) c.enter.ensures
-    ∙ attempt_part-written table direction rule.rows c.args.part.now rule.rewrites (commands_shown rule.commands.now)
+    ∙ attempt_part-written table direction rule.rows c.args.part.now rule.rewrites (commands_shown rule.commands.value)
     grid c.args.work.now.queue.now after c.requires.only c.requires.rewrites
     (c.requires.some) c.rewrite_places.ensures.rewritten
 
@@ -49,7 +49,7 @@ returns-in-Down-clause-attempt g c =
       changed =
           after.changed;
     } in r) c.enter-in-Down.ensures
-    ∙ attempt_part-written table direction rule.rows c.args.part.now rule.rewrites (commands_shown rule.commands.now)
+    ∙ attempt_part-written table direction rule.rows c.args.part.now rule.rewrites (commands_shown rule.commands.value)
     grid c.args.work.now.queue.now after c.requires.only c.requires.rewrites
     (c.requires.some)
     (c.rewrite_in_turn.ensures.rewritten

@@ -17,7 +17,7 @@ returns-then-asks_for_others-clause-attempt g c =
     let table : Option (List ℕ) = g.B.Board.table c.args.run.now.board.now in
     let rule = c.args.rule.now in
     attempt_none (direction_of rule.axis) (rows_meaning table rule.rows) rule.rewrites
-    (commands_shown rule.commands.now) grid c.args.run.now.queue.now
+    (commands_shown rule.commands.value) grid c.args.run.now.queue.now
     (combinations_on grid (rule_meaning table rule)) (c.asks_for_others.ensures c.if-asks_for_others.true)
 
 pub returns-then-asks_for_others-clause-fixed : goal.returns-then-asks_for_others-clause-fixed

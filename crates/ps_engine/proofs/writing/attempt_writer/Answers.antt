@@ -24,7 +24,7 @@ returns-then-is_empty-clause-attempt g c =
     c.index-as_slice-0.is ∙ ap (λ (rs : List CompiledRow). slice_index_or rs 0 row) c.as_slice.ensures in
     let empty : c.is_empty.result ≡ true = search rules in
     attempt_none (direction_of rule.axis) (rows_meaning table rule.rows) rule.rewrites
-    (commands_shown rule.commands.now) grid c.args.work.now.queue.now
+    (commands_shown rule.commands.value) grid c.args.work.now.queue.now
     (combinations_on grid (rule_meaning table rule))
     (none_here grid table rule c.args.writer row c.writing_cell-cell.result.now c.recall_shape.ensures.shape
     c.requires.writer row_is
@@ -77,7 +77,7 @@ returns-clause-attempt g c =
           after.changed;
     } in r) c.enter.ensures
     ∙ attempt_written (direction_of rule.axis) (rows_meaning table rule.rows) rule.rewrites
-    (commands_shown rule.commands.now) grid c.args.work.now.queue.now
+    (commands_shown rule.commands.value) grid c.args.work.now.queue.now
     all after c.requires.rewrites some made
 
 pub returns-then-is_empty-clause-fixed : goal.returns-then-is_empty-clause-fixed
