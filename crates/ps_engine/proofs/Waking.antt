@@ -1,4 +1,4 @@
--- What is known of sections that are woken, forgotten, or looked at anew.
+-- What is known of sections that are woken, or looked at anew.
 use Rattle.std.proofs.Common.{◌≡◌, ◌≢◌, ◌∙◌, ℕ, zero, suc, ◌+◌, ◌*◌, ◌<◌, ◌≤◌, ◌++◌, inl, inr, Bool, true}
 use Rattle.std.proofs.Common.{Option, Some, None, List, []}
 use Rattle.std.proofs.Common.{◌∷◌, length, get_or, refl, sym, ap, ap₂, subst, arith}
@@ -15,8 +15,8 @@ use Rattle.ps_board.specs.ColumnSets.{both_columns, set_columns}
 use Rattle.ps_match.specs.Topics.{DifferOnlyAbout}
 use Rattle.ps_program.specs.declared.program.CompiledSection.{CompiledSection}
 use Rattle.ps_engine.specs.TopicsAsked.{HasGroup}
-use Rattle.ps_engine.specs.Waking.{AreForgotten, AreUnknown, AreWoken, IsSameBut, IsUnknown}
-use Rattle.ps_engine.specs.QuietGroups.{AreKnown, IsIdleOn, IsKnown}
+use Rattle.ps_engine.specs.Waking.{AreUnknown, AreWoken, IsSameBut, IsUnknown}
+use Rattle.ps_engine.specs.QuietGroups.{AreKnown, IsIdleOn, IsKnown, IsKnownOfEach}
 use Rattle.ps_engine.specs.declared.quiet_groups.KnownSection.{KnownSection}
 use Rattle.ps_engine.proofs.Stirred.{differ_back, section_idle}
 
@@ -111,17 +111,6 @@ known_unknown kept sections known unknown n section known_section at there =
     record {
       asks = told.asks;
       idle = λ g table is quiet. absurd (false≢true (sym told.loud ∙ quiet));
-    }
-
-pub known_forgotten : (kept again : Option (Grid × Option (List ℕ))) (sections : List CompiledSection)
-    (known after : List KnownSection) → AreKnown kept sections known → AreForgotten known after →
-    AreKnown again sections after
-known_forgotten kept again sections known after told forgotten n section known_section at there =
-    let was = forgotten n known_section there in
-    record {
-      asks = λ rules is. subst (λ (topics : List Bool). HasGroup topics section) (sym was.2.0)
-          (told n section was.0 at was.1).asks rules is;
-      idle = λ g table is quiet. absurd (false≢true (sym was.2.1 ∙ quiet));
     }
 
 area : (g h : Grid) → g.width ≡ h.width → g.height ≡ h.height → g.width * g.height ≡ h.width * h.height
@@ -246,3 +235,19 @@ pub found_at : {X : Type 0} (xs : List X) (n : ℕ) → n < length xs → (x : X
 found_at [] n low = absurd (omega (arith, low))
 found_at (x ∷ xs) zero low = (x, refl)
 found_at (x ∷ xs) (suc n) low = found_at xs n (omega (arith, low))
+
+-- of no section anything is known, so that what is known is so
+pub known_nothing : (kept : Option (Grid × Option (List ℕ))) (sections : List CompiledSection) →
+    AreKnown kept sections []
+known_nothing kept sections n section known_section at there = absurd (false≢true (ap is_some there))
+
+-- where a board is kept, something is known of each section
+pub known_of_each : {B : Type 0} (board : Option B) (sections : List CompiledSection) (known : List KnownSection) →
+    is_some board ≡ true → IsKnownOfEach board sections known → length known ≡ length sections
+known_of_each None sections known some each = absurd (false≢true some)
+known_of_each (Some board) sections known some each = each
+
+pub still_each : {B : Type 0} (board : Option B) (sections : List CompiledSection) (known after : List KnownSection) →
+    length after ≡ length known → IsKnownOfEach board sections known → IsKnownOfEach board sections after
+still_each None sections known after same each = tt
+still_each (Some board) sections known after same each = same ∙ each

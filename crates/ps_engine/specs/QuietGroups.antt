@@ -1,5 +1,5 @@
 -- What is known of a program's groups: those that have no combination on a grid that is kept.
-use Rattle.std.specs.Prelude.{◌≡◌, ℕ, true, Option, Some, List, [], All, slice_get}
+use Rattle.std.specs.Prelude.{◌≡◌, ℕ, true, Option, Some, List, [], All, IfSome, length, slice_get}
 use Rattle.ps_model.specs.board.Grid.{Grid}
 use Rattle.ps_model.specs.board.Attempts.{combinations_on}
 use Rattle.ps_program.specs.declared.rules.CompiledRule.{CompiledRule}
@@ -35,3 +35,7 @@ pub record IsKnown (kept : Option (Grid × Option (List ℕ))) (section : Compil
 abbrev pub AreKnown : Option (Grid × Option (List ℕ)) → List CompiledSection → List KnownSection → Type 0
 AreKnown kept sections known = (n : ℕ) (section : CompiledSection) (known_section : KnownSection) →
     slice_get sections n ≡ Some section → slice_get known n ≡ Some known_section → IsKnown kept section known_section
+
+-- where a board is kept, something is known of each section
+abbrev pub IsKnownOfEach : {B : Type 0} → Option B → List CompiledSection → List KnownSection → Type 0
+IsKnownOfEach board sections known = IfSome board (λ _. length known ≡ length sections)

@@ -28,14 +28,6 @@ abbrev pub AreUnknown : List CompiledSection → List KnownSection → Type 0
 AreUnknown sections known = (n : ℕ) (section : CompiledSection) (known_section : KnownSection) →
     slice_get sections n ≡ Some section → slice_get known n ≡ Some known_section → IsUnknown section known_section
 
--- it asks about the same, and isn't known to be quiet
-abbrev pub IsForgotten : KnownSection → KnownSection → Type 0
-IsForgotten before after = (after.topics ≡ before.topics) × (after.quiet ≡ false)
-
-abbrev pub AreForgotten : List KnownSection → List KnownSection → Type 0
-AreForgotten before after = (n : ℕ) (known_section : KnownSection) → slice_get after n ≡ Some known_section →
-    (was : KnownSection) × (slice_get before n ≡ Some was) × IsForgotten was known_section
-
 -- a grid differs from another one of its sides in nothing but what a set of topics has, and both are on one table
 pub record IsSameBut (stirred : List Bool) (g : Grid) (table : Option (List ℕ)) (kept : Grid)
     (kept_table : Option (List ℕ)) : Type 0 where

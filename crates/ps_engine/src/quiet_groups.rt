@@ -15,7 +15,7 @@ ghost use Rattle.ps_model.specs.board.Grid.{Grid};
 ghost use Rattle.ps_engine.specs.QuietGroups.{AreIdleOn, IsIdleOn};
 ghost use Rattle.ps_engine.specs.declared.quiet_groups.KnownSection.{KnownSection};
 ghost use Rattle.ps_engine.specs.Runs.{fixed_in_run, state_of_run};
-ghost use Rattle.ps_engine.specs.Waking.{AreForgotten, AreUnknown, AreWoken, IsSameBut, IsWoken};
+ghost use Rattle.ps_engine.specs.Waking.{AreUnknown, AreWoken, IsSameBut, IsWoken};
 
 use crate::attempts::is_idle;
 use crate::lacking::behind_lacking;
@@ -37,7 +37,7 @@ const CELLS_OF_SECTION: usize = 256;
 /// After this many more runs of little gain a program rests.
 const PATIENCE: u32 = 2;
 
-/// For this many runs it isn't searched for quiet groups then.
+/// For this many runs it isn't searched for quiet groups then. Nor is it in its first runs: many programs have no more.
 const REST: u32 = 32;
 
 /// What is known of a section.
@@ -56,12 +56,13 @@ struct Pace {
     rest: u32,
 }
 
-/// The sections of a program, lent, with what is known of them, and the board that is kept, if one is. Contracts see
-/// the sections and what the board shows.
+/// The sections of a program, lent, and a board that is kept, if one is, with what is known of the sections there.
+/// Contracts see the sections and what the board shows.
 #[derive(Drop)]
 pub struct QuietGroups<'p, B: Scan> {
     alloc: Global,
     sections: &'p [CompiledSection],
+    /// What is known of each section, where a board is kept.
     known: Vec<KnownSection>,
     board: Option<B>,
     /// How many sections were passed over since the board was last renewed.
@@ -70,8 +71,8 @@ pub struct QuietGroups<'p, B: Scan> {
 }
 
 impl<'p, B: Scan> Model for QuietGroups<'p, B> {
-    ghost use Rattle.std.specs.Prelude.{◌≡◌, length, option_map};
-    ghost use Rattle.ps_engine.specs.QuietGroups.{AreKnown, QuietGroupsShown};
+    ghost use Rattle.std.specs.Prelude.{option_map};
+    ghost use Rattle.ps_engine.specs.QuietGroups.{AreKnown, IsKnownOfEach, QuietGroupsShown};
 
     ghost Value = { QuietGroupsShown };
 
@@ -80,7 +81,7 @@ impl<'p, B: Scan> Model for QuietGroups<'p, B> {
       kept = option_map (λ board. (B.grid board, B.table board)) w.board;
     } };
 
-    ghost invariant = { λ w. (length w.known.items ≡ length w.sections.now)
+    ghost invariant = { λ w. IsKnownOfEach w.board w.sections.now w.known.items
         × AreKnown (option_map (λ board. (B.grid board, B.table board)) w.board) w.sections.now w.known.items };
 }
 
@@ -218,40 +219,22 @@ fn note(known: &mut Vec<KnownSection>, number: usize, quiet: bool)
     known[number] = KnownSection { topics, quiet };
 }
 
-/// Of no section it is known any more that it is quiet.
-fn forget(known: &mut Vec<KnownSection>)
-    ensures forgotten { AreForgotten known.old.items known.new.items }
-    ensures long { length known.new.items ≡ length known.old.items }
-{
-    for number in 0..known.len() {
-        known[number] = KnownSection {
-            topics: known[number].topics,
-            quiet: false,
-        };
-    }
-}
-
 impl<'p, B: Scan> QuietGroups<'p, B> {
-    /// A program of these sections, of which nothing is known, without a board.
-    ///
-    /// # Errors
-    ///
-    /// `Memory`.
-    pub fn try_new(
-        alloc: Global,
-        sections: &'p [CompiledSection],
-    ) -> Result<QuietGroups<'p, B>, Memory>
-        ensures { IfOk result (λ program. program.sections ≡ sections.entry.now) }
+    /// A program of these sections, of which nothing is known, without a board. No memory is taken.
+    pub fn new(alloc: Global, sections: &'p [CompiledSection]) -> QuietGroups<'p, B>
+        ensures { result.sections ≡ sections.entry.now }
     {
-        let known = unknown_sections(alloc, sections)?;
-        Ok(QuietGroups {
+        QuietGroups {
             alloc,
             sections,
-            known,
+            known: Vec::new(alloc),
             board: None,
             gains: 0,
-            pace: Pace { misses: 0, rest: 0 },
-        })
+            pace: Pace {
+                misses: 0,
+                rest: REST,
+            },
+        }
     }
 
     /// Whether it has no section, so that a run of it does nothing.
@@ -301,7 +284,7 @@ impl<'p, B: Scan> QuietGroups<'p, B> {
         true
     }
 
-    /// Keeps what a board shows, on a copy of it. Nothing is known any more.
+    /// Keeps what a board shows, on a copy of it. Nothing is known there yet, but what sections ask about.
     ///
     /// # Errors
     ///
@@ -311,7 +294,8 @@ impl<'p, B: Scan> QuietGroups<'p, B> {
         ensures kept { OnOk result (self.new.kept ≡ Some (B.grid board.now, B.table board.now)) }
     {
         let copy = board.try_copy(self.alloc)?;
-        forget(&mut self.known);
+        let known = unknown_sections(self.alloc, self.sections)?;
+        self.known = known;
         self.board = Some(copy);
         Ok(())
     }

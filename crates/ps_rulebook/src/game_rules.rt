@@ -84,7 +84,7 @@ impl<'p, B: Scan> GameRules<'p, B> {
         ensures { IfOk result (λ rules. rules ≡ sections.entry.now) }
     {
         let scratch = scratch_for(alloc, sections)?;
-        let program = QuietGroups::try_new(alloc, sections)?;
+        let program = QuietGroups::new(alloc, sections);
         Ok(GameRules {
             alloc,
             program,

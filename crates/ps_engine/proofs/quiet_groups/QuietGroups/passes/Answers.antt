@@ -6,7 +6,8 @@ use Rattle.ps_program.specs.declared.program.CompiledSection.{CompiledSection}
 use Rattle.ps_engine.specs.Scratch.{SectionHasScratch}
 use Rattle.ps_engine.specs.QuietGroups.{IsIdleOn, QuietGroupsShown}
 use Rattle.ps_engine.specs.declared.quiet_groups.KnownSection.{KnownSection}
-use Rattle.ps_engine.proofs.Waking.{each_there, known_idle, known_noted, section_there, watch_same, watch_there}
+use Rattle.ps_engine.proofs.Waking.{each_there, known_idle, known_noted, known_of_each, section_there, still_each}
+use Rattle.ps_engine.proofs.Waking.{watch_same, watch_there}
 use Rattle.ps_engine.specs.Workspaces.{fixed_by}
 use Rattle.ps_engine.proofs.quiet_groups.QuietGroups.passes.Goals as goal
 
@@ -22,7 +23,10 @@ returns-then-index-clause-idle g c = λ section at e.
     let here : slice_get inside.sections.now n ≡ Some section =
     ap (λ (w : QuietGroupsShown). slice_get w.sections n) c.self.view_is ∙ at in
     let there : slice_get inside.known.items n ≡ Some known_section =
-    watch_there inside.sections.now inside.known.items n section known_section here c.self.invariant.0 c.index-2.ensures in
+    watch_there inside.sections.now inside.known.items n section known_section here
+    (known_of_each c.self.inside.board c.self.inside.sections.now c.self.inside.known.items
+    (c.is_none.ensures ∙ ap not c.if-is_none.false) c.self.invariant.0)
+    c.index-2.ensures in
     let first : c.index.result.now ≡ known_section =
     watch_same inside.known.items n c.index.result.now known_section c.index.ensures there in
     let apart : set_columns (both_columns known_section.topics c.args.stirred) ≡ [] =
@@ -47,8 +51,12 @@ invariant_of-self-2 g c =
     (ap (λ (w : QuietGroupsShown). w.sections) c.self.view_is) c.requires.number
     c.index-sections-number.is in
     let there : slice_get inside.known.items n ≡ Some known_section =
-    watch_there inside.sections.now inside.known.items n section known_section here c.self.invariant.0 c.index.ensures in (
-      c.note.ensures.long ∙ c.self.invariant.0,
+    watch_there inside.sections.now inside.known.items n section known_section here
+    (known_of_each c.self.inside.board c.self.inside.sections.now c.self.inside.known.items
+    (c.is_none.ensures ∙ ap not c.if-is_none.false) c.self.invariant.0)
+    c.index.ensures in (
+      still_each inside.board inside.sections.now inside.known.items c.note.new.known.items c.note.ensures.long
+          c.self.invariant.0,
       known_noted (λ board. (g.B.Board.grid board, g.B.Board.table board)) inside.sections.now inside.known.items n
           section known_section c.args.stirred (g.B.Board.grid c.args.run.now.board.now) (g.B.Board.table c.args.run.now.board.now)
           c.recall_shape.ensures.shape here there (c.is_apart.ensures c.if-not-is_apart.false) inside.board
@@ -96,7 +104,9 @@ is_idle_section-idle-requires-clause-scratch g c =
 pub note-requires : goal.note-requires
 note-requires g c = within c.args.number (length c.self.inside.sections.now) (length c.args.self.now.sections)
     (length c.self.inside.known.items) c.requires.number
-    (ap (λ (w : QuietGroupsShown). length w.sections) c.self.view_is) c.self.invariant.0
+    (ap (λ (w : QuietGroupsShown). length w.sections) c.self.view_is)
+    (known_of_each c.self.inside.board c.self.inside.sections.now c.self.inside.known.items
+    (c.is_none.ensures ∙ ap not c.if-is_none.false) c.self.invariant.0)
 
 pub invariant_of-self : goal.invariant_of-self
 invariant_of-self g c = c.self.invariant
@@ -106,14 +116,18 @@ index-requires g c =
     subst (λ (n : ℕ). c.args.number < n) (sym c.self.inside.known.ok.0)
     (within c.args.number (length c.self.inside.sections.now) (length c.args.self.now.sections)
     (length c.self.inside.known.items) c.requires.number
-    (ap (λ (w : QuietGroupsShown). length w.sections) c.self.view_is) c.self.invariant.0)
+    (ap (λ (w : QuietGroupsShown). length w.sections) c.self.view_is)
+    (known_of_each c.self.inside.board c.self.inside.sections.now c.self.inside.known.items
+    (c.is_none.ensures ∙ ap not c.if-is_none.false) c.self.invariant.0))
 
 pub index-requires-2 : goal.index-requires-2
 index-requires-2 g c =
     subst (λ (n : ℕ). c.args.number < n) (sym c.self.inside.known.ok.0)
     (within c.args.number (length c.self.inside.sections.now) (length c.args.self.now.sections)
     (length c.self.inside.known.items) c.requires.number
-    (ap (λ (w : QuietGroupsShown). length w.sections) c.self.view_is) c.self.invariant.0)
+    (ap (λ (w : QuietGroupsShown). length w.sections) c.self.view_is)
+    (known_of_each c.self.inside.board c.self.inside.sections.now c.self.inside.known.items
+    (c.is_none.ensures ∙ ap not c.if-is_none.false) c.self.invariant.0))
 
 pub bounds-sections-number : goal.bounds-sections-number
 bounds-sections-number g c =

@@ -1,13 +1,14 @@
 use Rattle.std.proofs.Common.{◌∙◌, Option, List, ℕ, refl, ap, subst, true≢false, sym}
 use Rattle.std.specs.Prelude.{option_map}
 use Rattle.ps_model.specs.board.Grid.{Grid}
-use Rattle.ps_engine.specs.QuietGroups.{AreKnown, QuietGroupsShown}
+use Rattle.ps_engine.specs.QuietGroups.{AreKnown, IsKnownOfEach, QuietGroupsShown}
 use Rattle.ps_engine.proofs.Waking.{known_woken, two_same}
 use Rattle.ps_engine.proofs.quiet_groups.QuietGroups.renew.Goals as goal
 
 pub invariant_of-self-then-not-is_alike : goal.invariant_of-self-then-not-is_alike
 invariant_of-self-then-not-is_alike g c = (
-  c.self.invariant.0,
+  subst (λ board. IsKnownOfEach board c.self.inside.sections.now c.self.inside.known.items) c.in-Some.is
+      c.self.invariant.0,
   subst (λ (kept : Option (Grid × Option (List ℕ))). AreKnown kept c.self.inside.sections.now
       c.self.inside.known.items)
       (ap (option_map (λ board. (g.B.Board.grid board, g.B.Board.table board))) c.in-Some.is) c.self.invariant.1,
@@ -25,7 +26,9 @@ invariant_of-self-2 g c =
     (c.if-not-is_alike.ensures.width refl) (c.if-not-is_alike.ensures.height refl)
     (c.if-not-is_alike.ensures.table refl)
     c.topics_differing-stirred.ensures known c.wake.ensures.woken in (
-      c.wake.ensures.long ∙ c.self.invariant.0,
+      c.wake.ensures.long
+      ∙ subst (λ board. IsKnownOfEach board c.self.inside.sections.now c.self.inside.known.items) c.in-Some.is
+      c.self.invariant.0,
       subst (λ (shown : Option (Grid × Option (List ℕ))). AreKnown shown c.self.inside.sections.now
           c.wake.new.known.items)
           (two_same (g.B.Board.grid c.args.board.now) (g.B.Board.grid c.copy_into.new.other)
