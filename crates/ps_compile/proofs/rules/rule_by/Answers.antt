@@ -15,6 +15,7 @@ returns c =
       c.in_ok-made.ensures.rows,
       c.in_ok-made.ensures.rewrites,
       c.in_ok-made.ensures.commands,
+      c.in_ok-commands.ensures.cases,
     )
     (made-rule c.args.names.now c.args.occurrences.now (rule_shown c.rule-rule.result.now)
     (reading_shown c.args.reading.now) (direction_of c.axis_of-axis.result) c.faces_back-backwards.result
