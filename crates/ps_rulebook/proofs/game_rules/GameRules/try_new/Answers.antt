@@ -10,5 +10,5 @@ invariant_of-result g c = λ k d low.
     let long : vec_len c.in_ok-scratch.scratch ≡ count = search rules in
     let Have : ℕ → List CompiledSection → Type 0 = λ n sections.
     k < length sections → SectionHasScratch n (slice_index_or sections k d) in
-    subst (λ (n : ℕ). Have n c.in_ok-program.program.sections) (sym long)
-    (subst (Have count) (sym c.in_ok-program.ensures) (c.in_ok-scratch.ensures k d)) low
+    subst (λ (n : ℕ). Have n c.new-program.result.sections) (sym long)
+    (subst (Have count) (sym c.new-program.ensures) (c.in_ok-scratch.ensures k d)) low
