@@ -8,7 +8,9 @@ use Rattle.ps_program.specs.declared.program.CompiledSection.{CompiledSection}
 use Rattle.ps_stage.specs.Standings.{SessionParts, script_for}
 use Rattle.ps_stage.proofs.Scripts.{same_script}
 use Rattle.ps_rulebook.specs.PlayedGames.{AreCompiled, meant_of}
+use Rattle.ps_run.specs.GameScripts.{script_shown}
 use Rattle.ps_run.specs.GamesInPlay.{GameInPlay, script_in, script_on}
+use Rattle.ps_run.specs.declared.game_script.GameScript.{GameScript}
 
 -- boards of rows keep the table of their game
 abbrev pub own_table : List ℕ → Option (List ℕ)
@@ -27,6 +29,13 @@ script_same game game' plain late plain' late' g p l =
     script_is game' plain' late'
     ∙ same_script own_table game game' (meant_of plain) (meant_of late) (meant_of plain') (meant_of late') g p l
     ∙ sym (script_is game plain late)
+
+-- what is lent once more is the same script
+pub lent_again : (script again : GameScript) → again.game ≡ script.game → again.plain.now ≡ script.plain.now →
+    again.late.now ≡ script.late.now → script_shown again ≡ script_shown script
+lent_again script again game plain late =
+    script_same script.game again.game script.plain.now script.late.now again.plain.now again.late.now game
+    (ap meant_of plain) (ap meant_of late)
 
 -- the names of a game in play are those of its script
 pub names_in : (play : GameInPlay) (game : SessionParts) (plain late : List CompiledSection) →

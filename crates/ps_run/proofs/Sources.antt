@@ -11,7 +11,7 @@ use Rattle.ps_rulebook.proofs.PlayedGames.{games-play_as_written}
 use Rattle.ps_rulebook.proofs.RowRooms.{rows_give_room}
 use Rattle.ps_run.specs.GameScripts.{script_shown}
 use Rattle.ps_run.specs.GamesInPlay.{script_on}
-use Rattle.ps_run.specs.declared.scripts.GameScript.{GameScript}
+use Rattle.ps_run.specs.declared.game_script.GameScript.{GameScript}
 use Rattle.ps_run.proofs.Scripts.{own_table, script_is}
 use Rattle.ps_stage.specs.Standings.{SessionParts}
 

@@ -7,7 +7,7 @@ ghost use Rattle.ps_run.specs.GamesInPlay.{HasBegun, IsTurned, script_in};
 ghost use Rattle.ps_run.specs.SizedPlays.{play_in, rested_in};
 
 use crate::rested_play::RestedPlay;
-use crate::scripts::GameScript;
+use crate::game_script::GameScript;
 use crate::sized_play::SizedPlay;
 use ps_model::{Ending, Key, Memory};
 use ps_program::CompiledSection;

@@ -6,7 +6,7 @@ ghost use Rattle.ps_run.specs.Runs.{ComesOrStops};
 
 use crate::game_play::GamePlay;
 use crate::play::Play;
-use crate::scripts::GameScript;
+use crate::game_script::GameScript;
 use crate::writing::{room_for_texts, write_output};
 use ps_devices::{ByteReader, ByteWriter, RunFault};
 use ps_keys::Keys;

@@ -4,18 +4,19 @@
 mod faults;
 mod game_play;
 mod game_run;
+mod game_script;
 mod laws;
 mod play;
 mod player;
 mod read_run;
 mod rested_play;
 mod row_play;
-mod scripts;
 mod sized_play;
 mod text_run;
 mod writing;
 
 pub use game_play::GamePlay;
+pub use game_script::GameScript;
 pub use laws::answers_carry_over;
 pub use player::GamePlayer;
 pub use ps_devices::{ByteReader, ByteWriter, LevelFault, Player, RunFault};
@@ -23,6 +24,5 @@ pub use ps_model::{Ending, Fault, FaultKind};
 pub use read_run::parts_of_game;
 pub use rested_play::RestedPlay;
 pub use row_play::{RestedRows, RowPlay};
-pub use scripts::GameScript;
 pub use sized_play::SizedPlay;
 pub use text_run::{run, run_from_level};

@@ -11,7 +11,7 @@ ghost use Rattle.ps_stage.specs.Playable.{ArePlayable, EntriesFit};
 ghost use Rattle.ps_run.specs.Answering.{RunsRightlyIn};
 
 use crate::game_run::run_game;
-use crate::scripts::GameScript;
+use crate::game_script::GameScript;
 use ps_compile::compile;
 use ps_devices::{ByteReader, ByteWriter, RunFault};
 use ps_game::Game;

@@ -7,7 +7,7 @@ ghost use Rattle.ps_session.specs.RestedSessions.{without_history};
 ghost use Rattle.ps_run.specs.GameScripts.{script_shown};
 ghost use Rattle.ps_run.specs.GamesInPlay.{HasBegun, IsKeyed, script_in};
 
-use crate::scripts::GameScript;
+use crate::game_script::GameScript;
 use ps_board::ColumnWords;
 use ps_model::{Ending, Key, Memory};
 use ps_rulebook::{GameRules, RowBoard, RowHistory, rules_of_sections};

@@ -10,7 +10,7 @@ ghost use Rattle.ps_run.specs.SizedPlays.{play_in, rested_in};
 
 use crate::rested_play::RestedPlay;
 use crate::row_play::RowPlay;
-use crate::scripts::GameScript;
+use crate::game_script::GameScript;
 use ps_board::{ManyWords, OneWord, WORD_BITS};
 use ps_model::{Ending, Key, Memory};
 use ps_screen::OutputText;

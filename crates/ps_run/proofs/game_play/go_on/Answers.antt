@@ -6,6 +6,7 @@ use Rattle.ps_stage.specs.Standings.{SessionParts}
 use Rattle.ps_stage.proofs.EntriesFound.{side_fits}
 use Rattle.ps_run.specs.GamesInPlay.{HasBegun}
 use Rattle.ps_run.specs.SizedPlays.{play_in}
+use Rattle.ps_run.proofs.Scripts.{lent_again}
 use Rattle.ps_run.proofs.game_play.go_on.Goals as goal
 
 pub start_at-requires : goal.start_at-requires
@@ -16,4 +17,5 @@ start_at-requires c =
 pub returns-clause-begun : goal.returns-clause-begun
 returns-clause-begun c =
     subst (λ (script : Script). HasBegun script c.args.entry (play_in c.in_ok-next.next) c.args.output.now
-    c.start_at.new.output) c.copied.ensures.script c.in_ok-next.ensures
+    c.start_at.new.output) (lent_again c.args.script.now c.copied.result c.copied.ensures.game c.copied.ensures.plain
+    c.copied.ensures.late) c.in_ok-next.ensures

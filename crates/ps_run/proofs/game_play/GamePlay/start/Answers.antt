@@ -9,6 +9,7 @@ use Rattle.ps_stage.specs.Standings.{SessionParts}
 use Rattle.ps_stage.proofs.EntriesFound.{side_fits}
 use Rattle.ps_run.specs.GameScripts.{script_shown}
 use Rattle.ps_run.proofs.Opened.{opened_session, opened_text}
+use Rattle.ps_run.proofs.Scripts.{lent_again}
 use Rattle.ps_run.proofs.game_play.GamePlay.start.Goals as goal
 
 pub start_at-requires : goal.start_at-requires
@@ -18,13 +19,15 @@ start_at-requires c =
     (side_fits SIDE_LIMIT c.args.script.game.entries c.first_entry-entry.result c.args.script.fit)
 
 pub returns-clause-script : goal.returns-clause-script
-returns-clause-script c = c.in_ok-play.ensures.plays ∙ c.copied.ensures.script
+returns-clause-script c = c.in_ok-play.ensures.plays ∙ (lent_again c.args.script c.copied.result c.copied.ensures.game c.copied.ensures.plain
+    c.copied.ensures.late)
 
 pub returns-clause-session : goal.returns-clause-session
 returns-clause-session c =
     opened_session c.args.script.game c.args.script.plain.now c.args.script.late.now _
     (c.in_ok-play.ensures.session
-    ∙ ap (λ (script : Script). (enter script c.first_entry-entry.result).session) c.copied.ensures.script
+    ∙ ap (λ (script : Script). (enter script c.first_entry-entry.result).session) (lent_again c.args.script c.copied.result c.copied.ensures.game c.copied.ensures.plain
+    c.copied.ensures.late)
     ∙ ap (λ (entry : ℕ). (enter (script_shown c.args.script) entry).session) c.first_entry-entry.ensures)
 
 pub returns-clause-written : goal.returns-clause-written
@@ -35,6 +38,7 @@ returns-clause-written c =
     c.args.output.now ++ written_line (codes "= ") title) c.title.ensures)
     (c.in_ok-play.ensures.text
     ∙ ap (λ (script : Script). c.add_line.new.self ++ (enter script c.first_entry-entry.result).text)
-    c.copied.ensures.script
+    (lent_again c.args.script c.copied.result c.copied.ensures.game c.copied.ensures.plain
+    c.copied.ensures.late)
     ∙ ap (λ (entry : ℕ). c.add_line.new.self ++ (enter (script_shown c.args.script) entry).text)
     c.first_entry-entry.ensures)

@@ -4,7 +4,6 @@ ghost use Rattle.std.specs.Prelude.{◌≡◌};
 ghost use Rattle.ps_model.specs.declared.limits.TheConstants.{SIDE_LIMIT};
 ghost use Rattle.ps_program.specs.ProgramShown.{sections_shown};
 ghost use Rattle.ps_stage.specs.Playable.{EntriesFit};
-ghost use Rattle.ps_run.specs.GameScripts.{script_shown};
 
 use ps_compile::CompiledPrograms;
 use ps_program::CompiledSection;
@@ -12,6 +11,7 @@ use ps_session::SessionGame;
 
 /// All that a game is played by, lent: the game without its rules, and the sections of its compiled rules, those of a
 /// turn and those of its late part. Each of its levels has boards with room for it.
+#[derive(Drop)]
 pub struct GameScript<'g> {
     pub game: SessionGame<'g>,
     pub plain: &'g [CompiledSection],
@@ -37,7 +37,8 @@ impl<'g> GameScript<'g> {
     /// The same, lent once more.
     pub fn copied(&self) -> GameScript<'g>
         ensures game { result.game ≡ self.now.game }
-        ensures script { script_shown result ≡ script_shown self.now }
+        ensures plain { result.plain.now ≡ self.now.plain.now }
+        ensures late { result.late.now ≡ self.now.late.now }
     {
         GameScript {
             game: self.game.copied(),
