@@ -400,8 +400,8 @@ impl<W: ColumnWords> RowBoard<W> {
         !other.may_move
     }
 
-    /// Whether it is known that nothing moves on the board, nor on another one of the same size for the same game. Where
-    /// neither says so at once it is looked for, if that pays.
+    /// Whether it is known that nothing moves on the board, nor on another one of the same size for the same game.
+    /// Where neither says so at once it is looked for, if that pays.
     fn rest_alike(&self, other: &RowBoard<W>, pays: bool) -> bool
         requires height { other.now.planes.height ≡ self.now.planes.height }
         requires table { other.now.members.table.items ≡ self.now.members.table.items }
