@@ -10,3 +10,4 @@ pub mod SearchedAfter
 pub mod Statuses
 pub mod Told
 pub mod ViewedGames
+pub mod Viewings

@@ -1,9 +1,11 @@
 //! A game that is played.
 
-ghost use Rattle.std.specs.Prelude.{◌≡◌, false, IfErr, None, OnOk};
+ghost use Rattle.std.specs.Prelude.{◌≡◌, ◌||◌, [], false, is_none, IfErr, None, OnOk, Some};
 ghost use Rattle.ps_model.specs.declared.play.Ending.{Ending};
 ghost use Rattle.ps_command.specs.Statuses.{stop_of_level};
 ghost use Rattle.ps_command.specs.Told.{EndsRightly, PlaysToAnEnd, RunsToEndFrom, StopsRightlyFrom};
+ghost use Rattle.ps_command.specs.Viewings.{EndsInView, EndsOn, PlaysInView};
+ghost use Rattle.ps_view.specs.Takers.{taker_of};
 
 use crate::command::Play;
 use crate::files::read_text;
@@ -11,7 +13,7 @@ use crate::sizes::FileSizes;
 use crate::stops::{Stop, stop_for};
 use crate::viewed_games::{drawn, viewed_game};
 use ps_devices::{ByteReader, ByteWriter, FromStd, LevelFault, Player, RunFault};
-use ps_view::{Lent, Size, Viewed};
+use ps_view::{Size, SizeTeller, Viewed, play_viewed, play_viewed_from_level};
 use std::alloc::Global;
 use std::fs;
 use std::rt::Files;
@@ -38,6 +40,9 @@ pub fn play_asked<R: Files + AllocGlobal, P: Player, I: ByteReader, O: ByteWrite
     requires well { (O.state screen.old).has_failed ≡ false }
     ensures ended { asked.entry.size ≡ None → OnOk result
         (PlaysToAnEnd asked.entry.level (O.state screen.old) (O.state screen.new)) }
+    ensures viewed { (size : _) → asked.entry.size ≡ Some size → OnOk result
+        (PlaysInView asked.entry.level size (is_none asked.entry.sizes) (O.state screen.old).contents
+        (O.state screen.new).contents) }
 {
     let text = read_text(rt, asked.game, keys)?;
     let start = Start {
@@ -50,7 +55,7 @@ pub fn play_asked<R: Files + AllocGlobal, P: Player, I: ByteReader, O: ByteWrite
     }
 }
 
-/// Plays a game in a view of that size.
+/// Plays a game in a view of that size. Where it ends well, the screen was handed the view of what the run wrote.
 fn play_in_view<R: Files + AllocGlobal, P: Player, I: ByteReader, O: ByteWriter>(
     rt: &R,
     player: &P,
@@ -62,12 +67,66 @@ fn play_in_view<R: Files + AllocGlobal, P: Player, I: ByteReader, O: ByteWriter>
 ) -> Result<(), Stop>
     requires heard { (I.state keys.old).has_failed ≡ false }
     requires well { (O.state screen.old).has_failed ≡ false }
+    ensures ended { OnOk result (EndsInView start.entry.level start.entry.text.now size (is_none asked.entry.sizes)
+        (O.state screen.old).contents (O.state screen.new).contents) }
 {
     let game = viewed_game(rt.alloc(), start.text)?;
     let sizes = FileSizes::new(rt, asked.sizes);
-    let mut view = Viewed::new(rt.alloc(), game, size, sizes, Lent::new(screen));
-    let played = play_from(rt, player, start, asked.keys, keys, &mut view);
+    let mut view = Viewed::new(rt.alloc(), game, size, sizes, screen);
+    let played = show_from(rt, player, start, asked.keys, keys, &mut view);
     drawn(played, view.wants_memory())
+}
+
+/// Plays a game in a view, with keys from a file, which is opened once the game's text was read; or from a reader,
+/// where no file is named.
+fn show_from<R: Files + AllocGlobal, P: Player, I: ByteReader, O: ByteWriter, S: SizeTeller>(
+    rt: &R,
+    player: &P,
+    start: Start<'_>,
+    file: Option<&str>,
+    keys: &mut I,
+    view: &mut Viewed<'_, O, S>,
+) -> Result<(), Stop>
+    requires heard { (I.state keys.old).has_failed ≡ false }
+    requires well { ((O.state view.old.writer.now).has_failed || (view.old.wants_memory || view.old.is_worn)) ≡ false }
+    ensures same_reference { view.new.writer.ghost_name ≡ view.old.writer.ghost_name }
+    ensures ended { OnOk result (EndsOn start.entry.level start.entry.text.now view.old.past.begun
+        (taker_of view.old.past.pieces false view.old.calls view.old.empty_calls)
+        (O.state view.new.writer.now).contents) }
+{
+    let Some(file) = file else {
+        return show(rt.alloc(), player, start, keys, view);
+    };
+    let file = fs::open(rt, file).map_err(|error| stop_for(error, Stop::Run(RunFault::Read)))?;
+    let mut keys = FromStd::new(file);
+    show(rt.alloc(), player, start, &mut keys, view)
+}
+
+/// Plays a game in a view, with keys from a reader.
+fn show<P: Player, I: ByteReader, O: ByteWriter, S: SizeTeller>(
+    alloc: Global,
+    player: &P,
+    start: Start<'_>,
+    keys: &mut I,
+    view: &mut Viewed<'_, O, S>,
+) -> Result<(), Stop>
+    requires heard { (I.state keys.old).has_failed ≡ false }
+    requires well { ((O.state view.old.writer.now).has_failed || (view.old.wants_memory || view.old.is_worn)) ≡ false }
+    ensures same_reference { view.new.writer.ghost_name ≡ view.old.writer.ghost_name }
+    ensures ended { OnOk result (EndsOn start.entry.level start.entry.text.now view.old.past.begun
+        (taker_of view.old.past.pieces false view.old.calls view.old.empty_calls)
+        (O.state view.new.writer.now).contents) }
+{
+    let Some(level) = start.level else {
+        return match play_viewed(alloc, player, start.text, keys, view) {
+            Ok(_ending) => Ok(()),
+            Err(fault) => Err(Stop::Run(fault)),
+        };
+    };
+    match play_viewed_from_level(alloc, player, start.text, level, keys, view) {
+        Ok(_ending) => Ok(()),
+        Err(fault) => Err(stop_of_level(level, fault)),
+    }
 }
 
 /// Plays a game with keys from a file, which is opened once the game's text was read; or from a reader, where no file

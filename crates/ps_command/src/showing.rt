@@ -9,7 +9,7 @@ use crate::stops::{Stop, stop_for};
 use crate::viewed_games::{drawn, viewed_game};
 use ps_devices::{ByteReader, ByteWriter, FromStd, RunFault, write_whole};
 use ps_model::CALL_LIMIT;
-use ps_view::{Lent, Viewed};
+use ps_view::Viewed;
 use std::fs;
 use std::rt::Files;
 
@@ -40,7 +40,7 @@ fn show_in_view<R: Files + AllocGlobal, I: ByteReader, O: ByteWriter>(
 {
     let game = viewed_game(rt.alloc(), text)?;
     let sizes = FileSizes::new(rt, asked.sizes);
-    let mut view = Viewed::new(rt.alloc(), game, asked.size, sizes, Lent::new(screen));
+    let mut view = Viewed::new(rt.alloc(), game, asked.size, sizes, screen);
     let shown = show_from(rt, asked.output, input, &mut view);
     drawn(shown, view.wants_memory())
 }

@@ -1,6 +1,6 @@
 //! The size of a terminal, as a word gives it, on a command line or in a file.
 
-ghost use Rattle.std.specs.Prelude.{IfSome};
+ghost use Rattle.std.specs.Prelude.{◌≡◌, None, is_none, true, IfSome};
 ghost use Rattle.ps_command.specs.Given.{IsSizeIn};
 
 use ps_view::{Size, SizeTeller};
@@ -32,6 +32,14 @@ fn size_in<R: Files>(rt: &R, path: &str) -> Option<Size> {
     size_of(text.strip_suffix('\n').unwrap_or(text))
 }
 
+/// The size that a file gives, if one is named.
+fn size_named<R: Files>(rt: &R, path: Option<&str>) -> Option<Size>
+    ensures { is_none path.entry ≡ true → result ≡ None }
+{
+    let path = path?;
+    size_in(rt, path)
+}
+
 /// Tells the size that a file gives, as often as it is asked; none where there is no file, or no size in it.
 #[derive(Drop)]
 pub struct FileSizes<'r, R: Files> {
@@ -42,7 +50,9 @@ pub struct FileSizes<'r, R: Files> {
 
 impl<'r, R: Files> FileSizes<'r, R> {
     /// Tells the size that this file gives, if one is named.
-    pub fn new(rt: &'r R, path: Option<&'r str>) -> FileSizes<'r, R> {
+    pub fn new(rt: &'r R, path: Option<&'r str>) -> FileSizes<'r, R>
+        ensures { result.path ≡ path }
+    {
         FileSizes {
             rt,
             path,
@@ -54,11 +64,10 @@ impl<'r, R: Files> FileSizes<'r, R> {
 impl<'r, R: Files> SizeTeller for FileSizes<'r, R> {
     ghost told = { λ teller. teller.told };
 
+    ghost is_silent = { λ teller. is_none teller.path };
+
     fn size_now(&mut self) -> Option<Size> {
-        self.told = match self.path {
-            None => None,
-            Some(path) => size_in(self.rt, path),
-        };
+        self.told = size_named(self.rt, self.path);
         self.told
     }
 }

@@ -13,3 +13,6 @@ pub mod Sight
 pub mod FrameRows
 pub mod AlikeRows
 pub mod KeptFrames
+pub mod Marks
+mod PiecesTaken
+pub mod Unmarked

@@ -13,5 +13,8 @@ pub mod Screens
 pub mod ToldLines
 pub mod Views
 pub mod Pieces
+pub mod Beginnings
+pub mod Shown
+pub mod Takers
 pub mod Bounds
 pub mod Sight

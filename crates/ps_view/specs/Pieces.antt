@@ -24,6 +24,10 @@ pub record Piece : Type 0 where
   pub told : Option Size
   pub bytes : List ℕ
 
+-- these bytes, behind that size
+abbrev pub piece_of : Option Size → List ℕ → Piece
+piece_of told bytes = record { told = told; bytes = bytes }
+
 -- the view behind pieces
 abbrev pub view_behind_pieces : View → List Piece → View
 view_behind_pieces view [] = view

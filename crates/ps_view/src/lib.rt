@@ -14,11 +14,12 @@ mod frames;
 mod harmless_texts;
 mod heard_keys;
 mod laws;
-mod lent;
 mod line_kinds;
 mod lines;
 mod parts;
+mod pasts;
 mod players;
+mod plays;
 mod row_shares;
 mod rows;
 mod screens;
@@ -35,9 +36,9 @@ pub use laws::{
     one_size_is_as_the_whole, pieces_are_as_the_whole, players_are_in_sight, screens_are_harmless,
     screens_fit,
 };
-pub use lent::Lent;
 pub use ps_devices::{ByteWriter, Failed};
 pub use ps_model::Memory;
+pub use plays::{play_viewed, play_viewed_from_level};
 pub use sizes::Size;
 pub use tellers::SizeTeller;
 pub use viewed::Viewed;

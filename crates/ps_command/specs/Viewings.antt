@@ -1,0 +1,40 @@
+-- What a terminal has of a game that is played in a view.
+use Rattle.std.specs.Prelude.{◌≡◌, ℕ, Bool, true, false, Option, List, []}
+use Rattle.ps_model.specs.game.Tellings.{WriterState}
+use Rattle.ps_devices.specs.Devices.{Grows}
+use Rattle.ps_view.specs.declared.sizes.Size.{Size}
+use Rattle.ps_view.specs.Beginnings.{Beginning}
+use Rattle.ps_view.specs.Pieces.{Piece, output_of}
+use Rattle.ps_view.specs.Shown.{IsShown}
+use Rattle.ps_view.specs.Takers.{taker_of}
+use Rattle.ps_view.specs.Views.{view_of}
+use Rattle.ps_command.specs.Told.{EndsRightly}
+use Rattle.ps_command.specs.ViewedGames.{IsToldOf}
+
+-- a text's game was played to an end, with some keys: what the run wrote on a writer that was this one are these pieces.
+-- The terminal was handed the view of them, by the sizes that were told before them, and nothing else. Where no other
+-- size is told, that is the view of the whole output
+pub record EndsOn (level : Option ℕ) (text : List ℕ) (begun : Beginning) (taker : WriterState) (after : Option (List ℕ)) :
+    Type 0 where
+  pub pieces : List Piece
+  pub calls : ℕ
+  pub empty_calls : ℕ
+  pub ended : EndsRightly level text taker (taker_of pieces false calls empty_calls)
+  pub shown : IsShown begun pieces after
+  pub whole : begun.keeps_size ≡ true → Grows begun.before after (view_of begun.game begun.size (output_of pieces))
+
+-- the same on a writer that had taken nothing, in a view that began with what the text's game is known by, with a
+-- terminal of this size, and with what the terminal had been handed before
+pub record EndsInView (level : Option ℕ) (text : List ℕ) (size : Size) (keeps_size : Bool)
+    (before after : Option (List ℕ)) : Type 0 where
+  pub begun : Beginning
+  pub known : IsToldOf text begun.game.players begun.game.heard
+  pub sized : begun.size ≡ size
+  pub keeps : begun.keeps_size ≡ keeps_size
+  pub had : begun.before ≡ before
+  pub ended : EndsOn level text begun (taker_of [] false 0 0) after
+
+-- so for some text
+pub record PlaysInView (level : Option ℕ) (size : Size) (keeps_size : Bool) (before after : Option (List ℕ)) : Type 0 where
+  pub text : List ℕ
+  pub ended : EndsInView level text size keeps_size before after
