@@ -77,7 +77,7 @@ spelled begun x = begun.reference ∷ begun.size.rows ∷ begun.size.columns ∷
     ∷ (mark_of_numbers begun.game.players ++ (mark_of_told begun.before ++ x))
 
 mark_before : (begun : Beginning) (x : List ℕ) → mark begun ++ x ≡ spelled begun x
-unfolding mark, spelled
+unfolding mark spelled
 mark_before begun x =
     ap (λ (rest : List ℕ). begun.reference ∷ begun.size.rows ∷ begun.size.columns ∷ mark_of_truth begun.keeps_size
     ∷ mark_of_truth begun.game.heard.acts ∷ mark_of_truth begun.game.heard.undoes ∷ mark_of_truth begun.game.heard.restarts ∷ rest)

@@ -36,9 +36,9 @@ pub use laws::{
     one_size_is_as_the_whole, pieces_are_as_the_whole, players_are_in_sight, screens_are_harmless,
     screens_fit,
 };
+pub use plays::{play_viewed, play_viewed_from_level};
 pub use ps_devices::{ByteWriter, Failed};
 pub use ps_model::Memory;
-pub use plays::{play_viewed, play_viewed_from_level};
 pub use sizes::Size;
 pub use tellers::SizeTeller;
 pub use viewed::Viewed;

@@ -49,7 +49,13 @@ pub struct Viewed<'w, W: ByteWriter, S: SizeTeller> {
 impl<'w, W: ByteWriter, S: SizeTeller> Viewed<'w, W, S> {
     /// A view of a game for a terminal of that size, above a writer, and beside what tells other sizes. Nothing is
     /// written yet.
-    pub fn new(alloc: Global, game: ViewedGame, size: Size, sizes: S, writer: &'w mut W) -> Viewed<'w, W, S>
+    pub fn new(
+        alloc: Global,
+        game: ViewedGame,
+        size: Size,
+        sizes: S,
+        writer: &'w mut W,
+    ) -> Viewed<'w, W, S>
         requires well { (W.state writer.old).has_failed ≡ false }
         ensures same_reference { result.writer.ghost_name ≡ writer.entry.ghost_name }
         ensures writer { result.writer.now ≡ writer.old }
@@ -67,7 +73,13 @@ impl<'w, W: ByteWriter, S: SizeTeller> Viewed<'w, W, S> {
     }
 
     /// The same, with what proofs alone know of the beginning.
-    fn begin(alloc: Global, game: ViewedGame, size: Size, sizes: S, writer: &'w mut W) -> Viewed<'w, W, S>
+    fn begin(
+        alloc: Global,
+        game: ViewedGame,
+        size: Size,
+        sizes: S,
+        writer: &'w mut W,
+    ) -> Viewed<'w, W, S>
         ghost begun: { Beginning }
         requires well { (W.state writer.old).has_failed ≡ false }
         requires game { begun.game ≡ known_of game }
@@ -133,41 +145,18 @@ impl<'w, W: ByteWriter, S: SizeTeller> Viewed<'w, W, S> {
         }
         Ok(())
     }
-}
-
-/// Gathers what a view hands on for a size, if one is told, and for bytes of the output behind it.
-fn orders_for(
-    view: &mut TerminalView,
-    told: Option<Size>,
-    bytes: &[u8],
-    orders: &mut Line,
-) -> Result<(), Memory>
-    ensures view { OnOk result (view.new ≡ (piece_step view.old told bytes.now).view) }
-    ensures orders { OnOk result (orders.new ≡ (piece_step view.old told bytes.now).bytes) }
-{
-    orders.clear();
-    view.take_piece(told, bytes, orders)
-}
-
-impl<'w, W: ByteWriter, S: SizeTeller> ByteWriter for Viewed<'w, W, S> {
-    ghost state = { λ device. record {
-      contents = Some (mark device.past.begun ++ output_of device.past.pieces);
-      has_failed = (W.state device.writer.now).has_failed || (device.wants_memory || device.is_worn);
-      calls = device.calls;
-      empty_calls = device.empty_calls;
-      short_calls = 0;
-    } };
 
     /// Asks for the size of the terminal, takes all of `bytes`, and hands on what the view makes of both, which may be
-    /// nothing: then the writer below isn't called. It fails where a growth is refused, with the writer not called;
-    /// where that writer fails, which has a front of what was to be handed on then; and behind the `u64::MAX`th call.
-    fn write_some(&mut self, bytes: &[u8]) -> Result<usize, Failed>
+    /// nothing: then the writer below isn't called.
+    ///
+    /// # Errors
+    ///
+    /// `Failed` where a growth is refused, with the writer not called; where that writer fails, which has a front of
+    /// what was to be handed on then; and behind the `u64::MAX`th call. No byte is taken then.
+    fn take(&mut self, bytes: &[u8]) -> Result<(), Failed>
         requires well { ((W.state self.old.writer.now).has_failed || (self.old.wants_memory || self.old.is_worn))
             ≡ false }
-        ensures count { IfOk result (λ count. count ≡ length bytes.now) }
-        ensures taken { IfOk result (λ count.
-            Grows (Some (mark self.old.past.begun ++ output_of self.old.past.pieces))
-            (Some (mark self.new.past.begun ++ output_of self.new.past.pieces)) (take count bytes.now)) }
+        ensures taken { OnOk result (output_of self.new.past.pieces ≡ output_of self.old.past.pieces ++ bytes.now) }
         ensures pieces { OnOk result (self.new.past.pieces
             ≡ self.old.past.pieces ++ piece_of (S.told self.new.sizes) bytes.now ∷ []) }
         ensures begun { self.new.past.begun ≡ self.old.past.begun }
@@ -201,6 +190,36 @@ impl<'w, W: ByteWriter, S: SizeTeller> ByteWriter for Viewed<'w, W, S> {
         }
         write_whole(self.orders.bytes(), &mut *self.writer)?;
         self.past.note(&told, bytes);
+        Ok(())
+    }
+}
+
+/// Gathers what a view hands on for a size, if one is told, and for bytes of the output behind it.
+fn orders_for(
+    view: &mut TerminalView,
+    told: Option<Size>,
+    bytes: &[u8],
+    orders: &mut Line,
+) -> Result<(), Memory>
+    ensures view { OnOk result (view.new ≡ (piece_step view.old told bytes.now).view) }
+    ensures orders { OnOk result (orders.new ≡ (piece_step view.old told bytes.now).bytes) }
+{
+    orders.clear();
+    view.take_piece(told, bytes, orders)
+}
+
+impl<'w, W: ByteWriter, S: SizeTeller> ByteWriter for Viewed<'w, W, S> {
+    ghost state = { λ device. record {
+      contents = Some (mark device.past.begun ++ output_of device.past.pieces);
+      has_failed = (W.state device.writer.now).has_failed || (device.wants_memory || device.is_worn);
+      calls = device.calls;
+      empty_calls = device.empty_calls;
+      short_calls = 0;
+    } };
+
+    /// Takes all of `bytes`, or fails.
+    fn write_some(&mut self, bytes: &[u8]) -> Result<usize, Failed> {
+        self.take(bytes)?;
         Ok(bytes.len())
     }
 }

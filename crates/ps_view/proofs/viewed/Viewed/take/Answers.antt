@@ -4,7 +4,7 @@ use Rattle.std.specs.Prelude.{is_err}
 use Rattle.ps_view.specs.Beginnings.{Beginning}
 use Rattle.ps_view.proofs.PiecesTaken.{front_shown, not_failed, on_no_error, piece_behind, piece_shown, shown_in_part}
 use Rattle.ps_view.proofs.PiecesTaken.{still_well, unsized_then}
-use Rattle.ps_view.proofs.viewed.ViewedByteWriter.write_some.Goals as goal
+use Rattle.ps_view.proofs.viewed.Viewed.take.Goals as goal
 
 -- where the writer below fails
 pub invariant_of-self-in-Break-branch-2 : goal.invariant_of-self-in-Break-branch-2
