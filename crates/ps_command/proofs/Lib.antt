@@ -9,3 +9,4 @@ pub mod ReplaysTold
 pub mod ReportsTold
 pub mod TracesEnded
 pub mod WordsToSolve
+mod PlayedInView

@@ -74,7 +74,9 @@ fn play_in_view<R: Files + AllocGlobal, P: Player, I: ByteReader, O: ByteWriter>
     let sizes = FileSizes::new(rt, asked.sizes);
     let mut view = Viewed::new(rt.alloc(), game, size, sizes, screen);
     let played = show_from(rt, player, start, asked.keys, keys, &mut view);
-    drawn(played, view.wants_memory())
+    let wants_memory = view.wants_memory();
+    let _screen = view.into_writer();
+    drawn(played, wants_memory)
 }
 
 /// Plays a game in a view, with keys from a file, which is opened once the game's text was read; or from a reader,

@@ -51,7 +51,7 @@ pub struct FileSizes<'r, R: Files> {
 impl<'r, R: Files> FileSizes<'r, R> {
     /// Tells the size that this file gives, if one is named.
     pub fn new(rt: &'r R, path: Option<&'r str>) -> FileSizes<'r, R>
-        ensures { result.path ≡ path }
+        ensures { result.path ≡ path.entry }
     {
         FileSizes {
             rt,

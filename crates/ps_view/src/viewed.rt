@@ -56,7 +56,6 @@ impl<'w, W: ByteWriter, S: SizeTeller> Viewed<'w, W, S> {
         sizes: S,
         writer: &'w mut W,
     ) -> Viewed<'w, W, S>
-        requires well { (W.state writer.old).has_failed ≡ false }
         ensures same_reference { result.writer.ghost_name ≡ writer.entry.ghost_name }
         ensures writer { result.writer.now ≡ writer.old }
         ensures sizes { result.sizes ≡ sizes }
@@ -81,7 +80,6 @@ impl<'w, W: ByteWriter, S: SizeTeller> Viewed<'w, W, S> {
         writer: &'w mut W,
     ) -> Viewed<'w, W, S>
         ghost begun: { Beginning }
-        requires well { (W.state writer.old).has_failed ≡ false }
         requires game { begun.game ≡ known_of game }
         requires size { begun.size ≡ size }
         requires keeps_size { begun.keeps_size ≡ S.is_silent sizes }
@@ -115,6 +113,25 @@ impl<'w, W: ByteWriter, S: SizeTeller> Viewed<'w, W, S> {
         ensures { result ≡ self.now.wants_memory }
     {
         self.wants_memory
+    }
+
+    /// Ends the view, and gives the writer back.
+    pub fn into_writer(self) -> &'w mut W
+        ensures same_reference { result.ghost_name ≡ self.entry.writer.ghost_name }
+        ensures writer { result.now ≡ self.entry.writer.now }
+    {
+        let Viewed {
+            writer,
+            sizes: _sizes,
+            view: _view,
+            orders: _orders,
+            past: _past,
+            wants_memory: _wants_memory,
+            is_worn: _is_worn,
+            calls: _calls,
+            empty_calls: _empty_calls,
+        } = self;
+        writer
     }
 
     /// Counts one more call, of a piece with bytes or without. It fails where the count can't grow.
