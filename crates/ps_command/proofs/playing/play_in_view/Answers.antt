@@ -1,5 +1,5 @@
 -- The view began with the text's game, the size and the screen, and the screen that comes back is what it wrote to.
-use Rattle.std.proofs.Common.{◌≡◌, ◌∙◌, Bool, sym, ap, subst, rules}
+use Rattle.std.proofs.Common.{◌≡◌, ◌∙◌, Bool, sym, ap, subst}
 use Rattle.std.specs.Prelude.{Option, is_none}
 use Rattle.ps_view.specs.Games.{KnownGame}
 use Rattle.ps_command.specs.Viewings.{EndsInView}
@@ -9,7 +9,9 @@ use Rattle.ps_command.proofs.playing.play_in_view.Goals as goal
 
 pub returns : goal.returns
 returns g c =
-    let back : c.screen-1.given ≡ c.show_from-played.new.view.writer.now = search rules in
+    let back : c.screen-1.given.0 ≡ c.show_from-played.new.view.writer.now = c.screen-1.given.1
+        (sym (c.into_writer-screen.ensures.same_reference ∙ c.show_from-played.ensures.same_reference
+        ∙ c.new-view.ensures.same_reference)) ∙ c.into_writer-screen.ensures.writer in
     let Told : KnownGame → Type 0 = λ known. IsToldOf c.args.start.text.now known.players known.heard in
     let began = c.new-view.ensures in
     record {
