@@ -108,19 +108,19 @@ unsized_all size (piece ∷ pieces) e =
     let each = both (is_none piece.told) (are_unsized pieces) e in
     All-cons (HasSize size) piece pieces (no_other size piece.told each.0) (unsized_all size pieces each.1)
 
--- a view that has failed is none that goes on
-pub not_worn : (a b : Bool) {X : Type 0} → (a || (b || true)) ≡ false → X
-not_worn true b e = absurd (true≢false e)
-not_worn false true e = absurd (true≢false e)
-not_worn false false e = absurd (true≢false e)
-
-pub not_wanting : (a b : Bool) {X : Type 0} → (a || (true || b)) ≡ false → X
-not_wanting true b e = absurd (true≢false e)
-not_wanting false b e = absurd (true≢false e)
-
+-- a view whose writer has failed is none that goes on
 pub not_failed : (a b : Bool) {X : Type 0} → a ≡ true → (a || b) ≡ false → X
 not_failed true b is e = absurd (true≢false e)
 not_failed false b is e = absurd (true≢false (sym is))
+
+-- of a view that goes on the writer below hasn't failed
+pub writer_well : (a b : Bool) → (a || b) ≡ false → a ≡ false
+writer_well false b e = refl
+writer_well true b e = absurd (true≢false e)
+
+-- what goes where the writer below hasn't failed, goes for one that has
+pub has_failed : (a : Bool) {X : Type 0} → a ≡ true → a ≡ false → X
+has_failed a is e = absurd (true≢false (sym is ∙ e))
 
 pub still_well : (a a' b b' d d' : Bool) → a' ≡ a → b' ≡ b → d' ≡ d → (a || (b || d)) ≡ false → (a' || (b' || d')) ≡ false
 still_well a a' b b' d d' p q r e =

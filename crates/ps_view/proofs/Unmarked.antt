@@ -87,11 +87,6 @@ level_ends_well text level k l before after ending r = r.tells.writer_failed ∙
 
 -- what a run leaves of a view -----------------------------------------------------------------------------------------
 
--- a fact that holds where a run ended
-on_ok : {T E : Type 0} {P Q : Type 0} (answer : Result T E) → (P → Q) → OnOk answer P → OnOk answer Q
-on_ok (Ok value) goes is = goes is
-on_ok (Err fault) goes is = tt
-
 pub ok_is_well : (text : List ℕ) (k l : ReaderState) (before after : WriterState) (answer : Result Ending RunFault) →
     RunsRightly text k l before after (answer_of answer) → OnOk answer (after.has_failed ≡ false)
 ok_is_well text k l before after (Ok ending) r = ends_well text k l before after ending r
@@ -108,12 +103,10 @@ pub same_name : (a b : Beginning) (m n : ℕ) → b ≡ a → m ≡ a.reference 
 same_name a b m n same is then = then ∙ ap (λ (x : Beginning). x.reference) same ∙ sym is
 
 -- what is shown, from the same beginning
-pub shown_from : {T E : Type 0} (a b : Beginning) (q : List Piece) (after : Option (List ℕ)) (failed : Bool)
-    (answer : Result T E) → b ≡ a → OnOk answer (failed ≡ false) → (failed ≡ false → IsShown b q after) →
-    OnOk answer (IsShown a q after)
-shown_from a b q after failed answer same well shown =
-    let From : Beginning → Type 0 = λ x. IsShown x q after in
-    on_ok answer (λ e. subst From same (shown e)) well
+pub shown_from : (a b : Beginning) (q : List Piece) (after : Option (List ℕ)) (failed : Bool) → b ≡ a →
+    (failed ≡ false → IsShown b q after) → failed ≡ false → IsShown a q after
+shown_from a b q after failed same shown well =
+    let From : Beginning → Type 0 = λ x. IsShown x q after in subst From same (shown well)
 
 pub in_part_from : (a b : Beginning) (q : List Piece) (after : Option (List ℕ)) → b ≡ a → IsShownInPart b q after →
     IsShownInPart a q after
@@ -126,10 +119,9 @@ whole_of a q after none shown =
     let Grown : List ℕ → Type 0 = λ bytes. Grows a.before after bytes in
     subst Grown (one_size_is_as_the_whole a.game a.size q (unsized_all a.size q none)) shown
 
-pub whole_from : {T E : Type 0} (a b : Beginning) (q : List Piece) (after : Option (List ℕ)) (failed : Bool)
-    (answer : Result T E) → b ≡ a → OnOk answer (failed ≡ false) → (failed ≡ false → IsShown b q after) →
-    (b.keeps_size ≡ true → are_unsized q ≡ true) → a.keeps_size ≡ true →
-    OnOk answer (Grows a.before after (view_of a.game a.size (output_of q)))
-whole_from a b q after failed answer same well shown unsized keeps =
-    on_ok answer (whole_of a q after (unsized (ap (λ (x : Beginning). x.keeps_size) same ∙ keeps)))
-    (shown_from a b q after failed answer same well shown)
+pub whole_from : (a b : Beginning) (q : List Piece) (after : Option (List ℕ)) (failed : Bool) → b ≡ a →
+    (failed ≡ false → IsShown b q after) → (b.keeps_size ≡ true → are_unsized q ≡ true) → a.keeps_size ≡ true →
+    failed ≡ false → Grows a.before after (view_of a.game a.size (output_of q))
+whole_from a b q after failed same shown unsized keeps well =
+    whole_of a q after (unsized (ap (λ (x : Beginning). x.keeps_size) same ∙ keeps))
+    (shown_from a b q after failed same shown well)

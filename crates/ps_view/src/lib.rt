@@ -23,6 +23,7 @@ mod plays;
 mod row_shares;
 mod rows;
 mod screens;
+mod shows;
 mod sizes;
 mod tellers;
 mod texts;
@@ -39,6 +40,7 @@ pub use laws::{
 pub use plays::{play_viewed, play_viewed_from_level};
 pub use ps_devices::{ByteWriter, Failed};
 pub use ps_model::Memory;
+pub use shows::{ShowFault, show_all};
 pub use sizes::Size;
 pub use tellers::SizeTeller;
 pub use viewed::Viewed;

@@ -41,11 +41,11 @@ pub fn play_viewed<P: Player, I: ByteReader, W: ByteWriter, S: SizeTeller>(
     ensures true_of_text { IsTrueOfText text.now (answer_of result) }
     ensures well { OnOk result
         (((W.state view.new.writer.now).has_failed || (view.new.wants_memory || view.new.is_worn)) ≡ false) }
-    ensures shown { OnOk result
-        (IsShown view.old.past.begun view.new.past.pieces (W.state view.new.writer.now).contents) }
-    ensures as_whole { view.old.past.begun.keeps_size ≡ true → OnOk result (Grows view.old.past.begun.before
-        (W.state view.new.writer.now).contents
-        (view_of view.old.past.begun.game view.old.past.begun.size (output_of view.new.past.pieces))) }
+    ensures shown { (W.state view.new.writer.now).has_failed ≡ false
+        → IsShown view.old.past.begun view.new.past.pieces (W.state view.new.writer.now).contents }
+    ensures as_whole { view.old.past.begun.keeps_size ≡ true → (W.state view.new.writer.now).has_failed ≡ false
+        → Grows view.old.past.begun.before (W.state view.new.writer.now).contents
+        (view_of view.old.past.begun.game view.old.past.begun.size (output_of view.new.past.pieces)) }
     ensures in_part { IsShownInPart view.old.past.begun view.new.past.pieces (W.state view.new.writer.now).contents }
 {
     player.play(alloc, text, keys, view)
@@ -75,11 +75,11 @@ pub fn play_viewed_from_level<P: Player, I: ByteReader, W: ByteWriter, S: SizeTe
     ensures true_of_level { IsTrueOfLevel text.now level (level_answer_of result) }
     ensures well { OnOk result
         (((W.state view.new.writer.now).has_failed || (view.new.wants_memory || view.new.is_worn)) ≡ false) }
-    ensures shown { OnOk result
-        (IsShown view.old.past.begun view.new.past.pieces (W.state view.new.writer.now).contents) }
-    ensures as_whole { view.old.past.begun.keeps_size ≡ true → OnOk result (Grows view.old.past.begun.before
-        (W.state view.new.writer.now).contents
-        (view_of view.old.past.begun.game view.old.past.begun.size (output_of view.new.past.pieces))) }
+    ensures shown { (W.state view.new.writer.now).has_failed ≡ false
+        → IsShown view.old.past.begun view.new.past.pieces (W.state view.new.writer.now).contents }
+    ensures as_whole { view.old.past.begun.keeps_size ≡ true → (W.state view.new.writer.now).has_failed ≡ false
+        → Grows view.old.past.begun.before (W.state view.new.writer.now).contents
+        (view_of view.old.past.begun.game view.old.past.begun.size (output_of view.new.past.pieces)) }
     ensures in_part { IsShownInPart view.old.past.begun view.new.past.pieces (W.state view.new.writer.now).contents }
 {
     player.play_from_level(alloc, text, level, keys, view)

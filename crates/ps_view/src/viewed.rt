@@ -41,7 +41,7 @@ pub struct Viewed<'w, W: ByteWriter, S: SizeTeller> {
     ghost one_size: { past.begun.keeps_size ≡ true → are_unsized past.pieces ≡ true },
     ghost goes_on: { ((W.state writer.now).has_failed || (wants_memory || is_worn)) ≡ false
         → view ≡ view_then past.begun past.pieces },
-    ghost shown: { ((W.state writer.now).has_failed || (wants_memory || is_worn)) ≡ false
+    ghost shown: { (W.state writer.now).has_failed ≡ false
         → IsShown past.begun past.pieces (W.state writer.now).contents } by { Prim.hlevel props },
     ghost in_part: { IsShownInPart past.begun past.pieces (W.state writer.now).contents },
 }
@@ -170,7 +170,7 @@ impl<'w, W: ByteWriter, S: SizeTeller> Viewed<'w, W, S> {
     ///
     /// `Failed` where a growth is refused, with the writer not called; where that writer fails, which has a front of
     /// what was to be handed on then; and behind the `u64::MAX`th call. No byte is taken then.
-    fn take(&mut self, bytes: &[u8]) -> Result<(), Failed>
+    pub(super) fn take(&mut self, bytes: &[u8]) -> Result<(), Failed>
         requires well { ((W.state self.old.writer.now).has_failed || (self.old.wants_memory || self.old.is_worn))
             ≡ false }
         ensures taken { OnOk result (output_of self.new.past.pieces ≡ output_of self.old.past.pieces ++ bytes.now) }

@@ -21,18 +21,18 @@ returns-clause-well g c = ok_is_well c.args.text.now _ _ _ _ c.play.result c.pla
 pub returns-clause-shown : goal.returns-clause-shown
 returns-clause-shown g c =
     let right = c.play.ensures.rightly in
-    shown_from c.args.view.now.past.begun c.play.new.writer.past.begun c.play.new.writer.past.pieces _ _ c.play.result
+    shown_from c.args.view.now.past.begun c.play.new.writer.past.begun c.play.new.writer.past.pieces _ _
     (begins_alike _ _ c.args.view.now.past.begun c.play.new.writer.past.begun c.args.view.now.past.pieces
     c.play.new.writer.past.pieces _ _ _ _ _ _ right.told right.tells)
-    (ok_is_well c.args.text.now _ _ _ _ c.play.result right) c.play.new.writer.shown
+    c.play.new.writer.shown
 
 pub returns-clause-as_whole : goal.returns-clause-as_whole
 returns-clause-as_whole g c =
     let right = c.play.ensures.rightly in
-    whole_from c.args.view.now.past.begun c.play.new.writer.past.begun c.play.new.writer.past.pieces _ _ c.play.result
+    whole_from c.args.view.now.past.begun c.play.new.writer.past.begun c.play.new.writer.past.pieces _ _
     (begins_alike _ _ c.args.view.now.past.begun c.play.new.writer.past.begun c.args.view.now.past.pieces
     c.play.new.writer.past.pieces _ _ _ _ _ _ right.told right.tells)
-    (ok_is_well c.args.text.now _ _ _ _ c.play.result right) c.play.new.writer.shown c.play.new.writer.one_size
+    c.play.new.writer.shown c.play.new.writer.one_size
 
 pub returns-clause-in_part : goal.returns-clause-in_part
 returns-clause-in_part g c =

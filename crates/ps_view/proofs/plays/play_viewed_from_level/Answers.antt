@@ -22,18 +22,18 @@ returns-clause-well g c = level_ok_is_well c.args.text.now c.args.level _ _ _ _ 
 pub returns-clause-shown : goal.returns-clause-shown
 returns-clause-shown g c =
     let right = c.play_from_level.ensures.rightly in
-    shown_from c.args.view.now.past.begun c.play_from_level.new.writer.past.begun c.play_from_level.new.writer.past.pieces _ _ c.play_from_level.result
+    shown_from c.args.view.now.past.begun c.play_from_level.new.writer.past.begun c.play_from_level.new.writer.past.pieces _ _
     (begins_alike _ _ c.args.view.now.past.begun c.play_from_level.new.writer.past.begun c.args.view.now.past.pieces
     c.play_from_level.new.writer.past.pieces _ _ _ _ _ _ right.told right.tells)
-    (level_ok_is_well c.args.text.now c.args.level _ _ _ _ c.play_from_level.result right) c.play_from_level.new.writer.shown
+    c.play_from_level.new.writer.shown
 
 pub returns-clause-as_whole : goal.returns-clause-as_whole
 returns-clause-as_whole g c =
     let right = c.play_from_level.ensures.rightly in
-    whole_from c.args.view.now.past.begun c.play_from_level.new.writer.past.begun c.play_from_level.new.writer.past.pieces _ _ c.play_from_level.result
+    whole_from c.args.view.now.past.begun c.play_from_level.new.writer.past.begun c.play_from_level.new.writer.past.pieces _ _
     (begins_alike _ _ c.args.view.now.past.begun c.play_from_level.new.writer.past.begun c.args.view.now.past.pieces
     c.play_from_level.new.writer.past.pieces _ _ _ _ _ _ right.told right.tells)
-    (level_ok_is_well c.args.text.now c.args.level _ _ _ _ c.play_from_level.result right) c.play_from_level.new.writer.shown c.play_from_level.new.writer.one_size
+    c.play_from_level.new.writer.shown c.play_from_level.new.writer.one_size
 
 pub returns-clause-in_part : goal.returns-clause-in_part
 returns-clause-in_part g c =

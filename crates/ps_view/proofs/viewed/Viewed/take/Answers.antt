@@ -2,8 +2,8 @@
 use Rattle.std.proofs.Common.{◌≡◌, ◌∙◌, Bool, false, List, refl, sym, ap, rules}
 use Rattle.std.specs.Prelude.{is_err}
 use Rattle.ps_view.specs.Beginnings.{Beginning}
-use Rattle.ps_view.proofs.PiecesTaken.{front_shown, not_failed, on_no_error, piece_behind, piece_shown, shown_in_part}
-use Rattle.ps_view.proofs.PiecesTaken.{still_well, unsized_then}
+use Rattle.ps_view.proofs.PiecesTaken.{front_shown, has_failed, not_failed, on_no_error, piece_behind, piece_shown}
+use Rattle.ps_view.proofs.PiecesTaken.{shown_in_part, still_well, unsized_then, writer_well}
 use Rattle.ps_view.proofs.viewed.Viewed.take.Goals as goal
 
 -- where the writer below fails
@@ -19,12 +19,12 @@ invariant_of-self-in-Break-branch-2 g c =
       silent = c.size_now-told.ensures.stays ∙ c.count_call.new.self.silent;
       one_size = c.count_call.new.self.one_size;
       goes_on = λ e. not_failed _ _ c.in_err-write_whole.ensures.told e;
-      shown = λ e. not_failed _ _ c.in_err-write_whole.ensures.told e;
+      shown = λ e. has_failed _ c.in_err-write_whole.ensures.told e;
       in_part =
           front_shown c.count_call.new.self.past.begun c.count_call.new.self.past.pieces
           (g.W.ByteWriter.state c.count_call.new.self.writer.now).contents _ c.count_call.new.self.view
           c.size_now-told.result c.args.bytes.now c.bytes.result.now c.in_err-write_whole.ensures.front.0
-          (c.count_call.new.self.goes_on well) (c.count_call.new.self.shown well)
+          (c.count_call.new.self.goes_on well) (c.count_call.new.self.shown (writer_well _ _ well))
           (c.bytes.ensures ∙ on_no_error c.orders_for.result done c.orders_for.ensures.orders)
           c.in_err-write_whole.ensures.front.2;
     }
@@ -64,7 +64,7 @@ invariant_of-self-2-clause-shown g c = λ _.
     piece_shown c.count_call.new.self.past.begun c.note.new.self.begun c.count_call.new.self.past.pieces
     c.note.new.self.pieces (g.W.ByteWriter.state c.count_call.new.self.writer.now).contents _
     c.count_call.new.self.view c.size_now-told.result c.args.bytes.now c.bytes.result.now
-    (c.count_call.new.self.goes_on well) (c.count_call.new.self.shown well)
+    (c.count_call.new.self.goes_on well) (c.count_call.new.self.shown (writer_well _ _ well))
     (c.bytes.ensures ∙ on_no_error c.orders_for.result done c.orders_for.ensures.orders)
     c.in_ok-write_whole.ensures.taken c.note.ensures.0 c.note.ensures.1
 
@@ -78,6 +78,6 @@ invariant_of-self-2-clause-in_part g c =
     (piece_shown c.count_call.new.self.past.begun c.note.new.self.begun c.count_call.new.self.past.pieces
     c.note.new.self.pieces (g.W.ByteWriter.state c.count_call.new.self.writer.now).contents _
     c.count_call.new.self.view c.size_now-told.result c.args.bytes.now c.bytes.result.now
-    (c.count_call.new.self.goes_on well) (c.count_call.new.self.shown well)
+    (c.count_call.new.self.goes_on well) (c.count_call.new.self.shown (writer_well _ _ well))
     (c.bytes.ensures ∙ on_no_error c.orders_for.result done c.orders_for.ensures.orders)
     c.in_ok-write_whole.ensures.taken c.note.ensures.0 c.note.ensures.1)
