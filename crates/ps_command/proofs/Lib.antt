@@ -5,8 +5,9 @@ pub mod LinesMatched
 pub mod LinesOnLed
 pub mod LinesOnLevels
 pub mod NumbersRead
+mod PlayedInView
 pub mod ReplaysTold
 pub mod ReportsTold
+mod ShownInView
 pub mod TracesEnded
 pub mod WordsToSolve
-mod PlayedInView

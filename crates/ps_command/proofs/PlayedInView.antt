@@ -1,6 +1,6 @@
 -- What a terminal has of a game that was played in a view to an end.
-use Rattle.std.proofs.Common.{◌≡◌, ◌∙◌, ℕ, Bool, true, false, List, [], refl, sym, ap, subst}
-use Rattle.std.specs.Prelude.{Option, Some, None, Result, Ok, Err, OnOk}
+use Rattle.std.proofs.Common.{◌≡◌, ◌∙◌, ℕ, Bool, true, false, true≢false, List, [], refl, sym, ap, subst}
+use Rattle.std.specs.Prelude.{◌||◌, Option, Some, None, Result, Ok, Err, OnOk}
 use Rattle.ps_model.specs.declared.play.Ending.{Ending}
 use Rattle.ps_model.specs.game.Tellings.{ReaderState, WriterState}
 use Rattle.ps_devices.specs.Devices.{Grows}
@@ -10,20 +10,25 @@ use Rattle.ps_view.specs.Pieces.{Piece, output_of}
 use Rattle.ps_view.specs.Shown.{IsShown}
 use Rattle.ps_view.specs.Takers.{taker_of}
 use Rattle.ps_view.specs.Views.{view_of}
-use Rattle.ps_command.specs.Told.{EndsRightly, RunsToEndFrom}
-use Rattle.ps_command.specs.Viewings.{EndsOn, EndsInView, PlaysInView}
-use Rattle.ps_command.specs.ViewedGames.{IsToldOf}
+use Rattle.ps_command.specs.Told.{RunsToEndFrom}
+use Rattle.ps_command.specs.Viewings.{BeginsWith, EndsOn, EndsInView, PlaysInView}
 use Rattle.ps_command.specs.declared.stops.Stop.{Stop}
+
+-- of two that are both false the first is
+pub first_false : (a b : Bool) → (a || b) ≡ false → a ≡ false
+first_false false b e = refl
+first_false true b e = absurd (true≢false e)
 
 -- from what a player leaves of the view
 pub ends_on : (given level : Option ℕ) (text : List ℕ) (begun : Beginning) (taker : WriterState) (after : Option (List ℕ))
-    (keys left : ReaderState) (ending : Ending) (pieces : List Piece) (failed : Bool) (calls empty_calls : ℕ) →
+    (keys left : ReaderState) (ending : Ending) (pieces : List Piece) (lost other : Bool) (calls empty_calls : ℕ) →
     given ≡ level →
-    RunsToEndFrom level text keys left taker (taker_of pieces failed calls empty_calls) ending → failed ≡ false →
-    IsShown begun pieces after →
-    (begun.keeps_size ≡ true → Grows begun.before after (view_of begun.game begun.size (output_of pieces))) →
+    RunsToEndFrom level text keys left taker (taker_of pieces (lost || other) calls empty_calls) ending →
+    (lost || other) ≡ false → (lost ≡ false → IsShown begun pieces after) →
+    (begun.keeps_size ≡ true → lost ≡ false →
+    Grows begun.before after (view_of begun.game begun.size (output_of pieces))) →
     EndsOn given text begun taker after
-ends_on given level text begun taker after keys left ending pieces failed calls empty_calls is right well shown whole =
+ends_on given level text begun taker after keys left ending pieces lost other calls empty_calls is right well shown whole =
     let At : Option ℕ → Type 0 = λ l. EndsOn l text begun taker after in
     let Right : Bool → Type 0 = λ x. RunsToEndFrom level text keys left taker (taker_of pieces x calls empty_calls) ending in
     subst At (sym is) (record {
@@ -31,8 +36,8 @@ ends_on given level text begun taker after keys left ending pieces failed calls 
       calls = calls;
       empty_calls = empty_calls;
       ended = record { ending = ending; keys = keys; left = left; rightly = subst Right well right };
-      shown = shown;
-      whole = whole;
+      shown = shown (first_false lost other well);
+      whole = λ keeps. whole keeps (first_false lost other well);
     })
 
 -- what goes for a call's answer goes for what is made of it, if that is the same where the call succeeds
@@ -44,27 +49,23 @@ drawn_ok X false outcome result stop short same is =
     let On : Result (Unit {0}) Stop → Type 0 = λ r. OnOk r X in subst On (sym (same refl)) is
 
 -- where a call succeeds, what it ensures comes to something else
-on_ok : {X Y : Type 0} (answer : Result (Unit {0}) Stop) → (X → Y) → OnOk answer X → OnOk answer Y
+pub on_ok : {X Y : Type 0} (answer : Result (Unit {0}) Stop) → (X → Y) → OnOk answer X → OnOk answer Y
 on_ok (Ok value) goes is = goes is
 on_ok (Err stop) goes is = tt
 
 -- a view that had taken nothing, and began with what is known of the game
 pub in_view : (answer : Result (Unit {0}) Stop) (level : Option ℕ) (text : List ℕ) (size : Size) (keeps_size : Bool)
     (before after : Option (List ℕ)) (begun : Beginning) (pieces : List Piece) (calls empty_calls : ℕ) →
-    IsToldOf text begun.game.players begun.game.heard → begun.size ≡ size → begun.keeps_size ≡ keeps_size →
-    begun.before ≡ before → pieces ≡ [] → calls ≡ 0 → empty_calls ≡ 0 →
+    BeginsWith text size keeps_size before begun → pieces ≡ [] → calls ≡ 0 → empty_calls ≡ 0 →
     OnOk answer (EndsOn level text begun (taker_of pieces false calls empty_calls) after) →
     OnOk answer (EndsInView level text size keeps_size before after)
-in_view answer level text size keeps_size before after begun pieces calls empty_calls known sized keeps had none new empty is =
+in_view answer level text size keeps_size before after begun pieces calls empty_calls begins none new empty is =
     let Pieces : List Piece → Type 0 = λ taken. EndsOn level text begun (taker_of taken false calls empty_calls) after in
     let Calls : ℕ → Type 0 = λ n. EndsOn level text begun (taker_of [] false n empty_calls) after in
     let Empty : ℕ → Type 0 = λ n. EndsOn level text begun (taker_of [] false 0 n) after in
     on_ok answer (λ ended. record {
       begun = begun;
-      known = known;
-      sized = sized;
-      keeps = keeps;
-      had = had;
+      is = begins;
       ended = subst Empty empty (subst Calls new (subst Pieces none ended));
     }) is
 

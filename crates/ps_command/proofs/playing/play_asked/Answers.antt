@@ -1,5 +1,4 @@
 -- A view has the size that was asked for.
-use Rattle.std.proofs.Common.{◌≡◌}
 use Rattle.std.specs.Prelude.{is_none}
 use Rattle.ps_command.proofs.PlayedInView.{some_text}
 use Rattle.ps_command.proofs.playing.play_asked.Goals as goal
