@@ -8,6 +8,7 @@ use Rattle.std.proofs.lemmas.Bool.{le-ltb}
 use Rattle.std.proofs.lemmas.List.{get_or-replicate, length-replicate}
 use Rattle.std.proofs.lemmas.List.Folds.{list_all_more, list_any_more}
 use Rattle.ps_model.specs.declared.limits.TheConstants.{SIDE_LIMIT}
+use Rattle.ps_model.specs.declared.compiled.LayeredObject.{LayeredObject}
 use Rattle.ps_model.specs.declared.pieces.Slot.{Slot}
 use Rattle.ps_model.specs.board.Grid.{Grid, cell_at}
 use Rattle.ps_model.specs.board.Places.{fits_there}
@@ -19,7 +20,7 @@ use Rattle.ps_board.specs.ColumnSets.{row_fits}
 use Rattle.ps_board.proofs.ColumnLaws.{columns-agree}
 use Rattle.ps_rows.specs.Showing.{cells_shown, grid_shown}
 use Rattle.ps_rows.specs.Planes.{IsSet}
-use Rattle.ps_rows.specs.RowTests.{IsRowOf, IsWithin, held_all, held_of_each, is_free, moved_all, narrowed}
+use Rattle.ps_rows.specs.RowTests.{IsRowOf, IsWithin, held_all, held_any, held_of_each, is_free, moved_all, narrowed}
 use Rattle.ps_rows.specs.RowsKept.{AreKept, IsKept, are_away}
 use Rattle.ps_rows.proofs.Rows.{row_told}
 use Rattle.ps_rows.proofs.Scans.{and3, mask_free, mask_narrowed}
@@ -84,6 +85,30 @@ module _ (g : Grid) (row : ℕ) (columns : List Bool) (test : List Slot → Bool
             sym (ap (λ (b : Bool). column_at columns x && not b) none ∙ and-true (column_at columns x));
         within = λ inside. inside;
         set = λ so. so;
+      }
+
+  -- its columns that aren't in the set of those of its columns that don't pass
+  turned_round : (own passes : Bool) → (own && not (own && not passes)) ≡ (own && passes)
+  turned_round true true = refl
+  turned_round true false = refl
+  turned_round false passes = refl
+
+  pub kept_round : (away kept : List Bool) → g.width ≤ SIDE_LIMIT →
+      IsKept g row columns away (λ cell. not (test cell)) → kept ≡ columns_without columns away →
+      IsKept g row columns kept test
+  kept_round away kept narrow out is =
+      record {
+        part = λ x h.
+            let own : Bool = column_at columns x in
+            ap (λ (w : List Bool). column_at w x) is ∙ without_at columns away x (omega (arith, h, narrow))
+            ∙ ap (λ (b : Bool). own && not b) (out.part x h)
+            ∙ turned_round own (test (cell_at g (x * g.height + row)));
+        within = λ inside x off low.
+            ap (λ (w : List Bool). column_at w x) is ∙ without_at columns away x low
+            ∙ ap (λ (b : Bool). b && not (column_at away x)) (inside x off low);
+        set = λ so.
+            let P : List Bool → Type 0 = λ w. IsSet w in
+            subst P (sym is) (set_where (λ x. column_at columns x && not (column_at away x)));
       }
 
   -- another test that says the same
@@ -231,6 +256,24 @@ module _ (g : Grid) (first : ℕ) where
       (kept_twice old mid new (λ cell. not (list_any (q cell) (take i xs))) (λ cell. not (q cell (get_or xs i d)))
       front here)
 
+-- of all columns those in which one of some objects stands: all without those in which none does
+pub kept_any : (g : Grid) (first count : ℕ) (full : List Bool) (objects : List LayeredObject)
+    (away new : List (List Bool)) → g.width ≤ SIDE_LIMIT →
+    AreKept g first (replicate count full) away (are_away objects) →
+    ((k : ℕ) → k < length away → slice_index_or new k [] ≡ columns_without full (slice_index_or away k [])) →
+    length new ≡ length away → AreKept g first (replicate count full) new (held_any objects)
+kept_any g first count full objects away new narrow out round long =
+    record {
+      long = long ∙ out.long;
+      each = λ k below.
+          let low : k < count = rw (length-replicate count full) at below in
+          let own : slice_index_or (replicate count full) k [] ≡ full = get_or-replicate count k full [] low in
+          kept_round g (first + k) (slice_index_or (replicate count full) k []) (held_any objects)
+          (slice_index_or away k []) (slice_index_or new k []) narrow (out.each k below)
+          (round k (rw out.long below)
+          ∙ ap (λ (w : List Bool). columns_without w (slice_index_or away k [])) (sym own));
+    }
+
 -- a whole mask -------------------------------------------------------------------------------------------------------
 
 module _ (table : List ℕ) (width height layers : ℕ) (words : List (List Bool)) (first : ℕ) (full : List Bool)
@@ -299,3 +342,29 @@ module _ (table : List ℕ) (width height layers : ℕ) (words : List (List Bool
       scanned_of k last h
       (mask_narrowed g (first + k) word last mask (told_of (first + k) word (is_free mask) one) more.part)
       (more.within (one.within within_of)) (more.set (one.set set_of))
+
+  -- where nothing is needed, and what the lists ask comes first
+  lists_first : (listed barred moving : Bool) →
+      ((listed && not barred) && moving) ≡ (not barred && (listed && moving))
+  lists_first true true moving = refl
+  lists_first true false moving = refl
+  lists_first false true moving = refl
+  lists_first false false moving = refl
+
+  pub rows_listed : (new : List (List Bool)) → AreKept g first filled all (held_of_each mask.one_of) →
+      AreKept g first all free (are_away mask.barred) → AreKept g first free new (moved_all mask.motions) →
+      mask.needed ≡ [] → AreRowsScanned g (meaning_of_mask mask) first new
+  rows_listed new a b n none k under =
+      let h : k < count = rw (← long_filled, ← a.long, ← b.long, ← n.long) under in
+      let apart : List Slot → Bool = λ cell. held_of_each mask.one_of cell && are_away mask.barred cell in
+      let last : List Bool = slice_index_or new k [] in
+      let kept = kept_by g first filled new (λ cell. apart cell && moved_all mask.motions cell) (mask_fits mask)
+      (λ cell.
+      lists_first (held_of_each mask.one_of cell) (held_any mask.barred cell) (moved_all mask.motions cell)
+      ∙ sym (ap (λ objects. held_all objects cell && (not (held_any mask.barred cell)
+      && (held_of_each mask.one_of cell && moved_all mask.motions cell))) none))
+      (kept_twice g first filled free new apart (moved_all mask.motions)
+      (kept_twice g first filled all free (held_of_each mask.one_of) (are_away mask.barred) a b) n) in
+      let P : List Bool → Type 0 = λ w. IsKept g (first + k) w last (mask_fits mask) in
+      let one = subst P (at_first k h) (kept.each k (rw long_filled h)) in
+      scanned_of k last h (told_of (first + k) last (mask_fits mask) one) (one.within within_of) (one.set set_of)

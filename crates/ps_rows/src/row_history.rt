@@ -34,6 +34,8 @@ pub struct RowHistory<W: ColumnWords> {
     steps: HeapCircularBuffer<RowStep<W>>,
     /// The step from the latest board to the one that is ready to enter.
     ready: Option<RowStep<W>>,
+    /// The board that was the only one before a step back: the next that comes alone is written over it.
+    spare: Option<Box<RowBoard<W>>>,
 }
 
 impl<W: ColumnWords> Model for RowHistory<W> {
@@ -70,6 +72,30 @@ fn copied<W: ColumnWords>(alloc: Global, board: &RowBoard<W>) -> Result<Box<RowB
     let copy = board.try_copy(alloc)?;
     let boxed = Box::new(alloc, copy)?;
     Ok(boxed)
+}
+
+/// A copy of a board, behind a pointer: in place of a spare one, if there is one alike, which takes no memory.
+///
+/// # Errors
+///
+/// `Memory`.
+fn copied_over<W: ColumnWords>(
+    alloc: Global,
+    spare: Option<Box<RowBoard<W>>>,
+    board: &RowBoard<W>,
+) -> Result<Box<RowBoard<W>>, Memory>
+    ensures { let b = board.now in IfOk result (λ copy. let c = copy.value in
+        shown (kept c.members.table.items c.width c.planes.height c.layers c.planes.words.items)
+        ≡ shown (kept b.members.table.items b.width b.planes.height b.layers b.planes.words.items)) }
+{
+    let Some(mut spare) = spare else {
+        return copied(alloc, board);
+    };
+    if !board.is_alike(&spare) {
+        return copied(alloc, board);
+    }
+    board.copy_into(&mut spare);
+    Ok(spare)
 }
 
 /// The step from a board to another one that shows the same objects outside of these rows; nothing, where the boards
@@ -194,6 +220,7 @@ impl<W: ColumnWords> History<RowBoard<W>> for RowHistory<W> {
             latest: None,
             steps,
             ready: None,
+            spare: None,
         })
     }
 
@@ -207,7 +234,7 @@ impl<W: ColumnWords> History<RowBoard<W>> for RowHistory<W> {
     /// Where rows are given and nothing moves on either board, these rows alone are compared.
     fn make_ready(&mut self, board: &RowBoard<W>, rows: Option<&Columns<W>>) -> Result<(), Memory> {
         let step = match &self.latest {
-            None => BoardStep::Whole(copied(self.alloc, board)?),
+            None => BoardStep::Whole(copied_over(self.alloc, self.spare.take(), board)?),
             Some(latest) => step_to(self.alloc, latest, board, rows)?,
         };
         self.ready = Some(step);
@@ -233,6 +260,7 @@ impl<W: ColumnWords> History<RowBoard<W>> for RowHistory<W> {
             return;
         };
         let Some(step) = self.steps.pop_back() else {
+            self.spare = Some(latest);
             return;
         };
         let (board, _forth) = taken(latest, step);

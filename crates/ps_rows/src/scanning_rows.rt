@@ -4,11 +4,11 @@
 ghost use Rattle.std.specs.Prelude.{◌≡◌, ◌+◌, ◌<◌, ◌≤◌, ◌&&◌, ◌∷◌, ℕ, [], IfSome, false, length, nat_lt, replicate};
 ghost use Rattle.std.specs.Prelude.{slice_get, slice_index_or, slice_set, true};
 ghost use Rattle.ps_model.specs.board.Movement.{is_number};
-ghost use Rattle.ps_board.specs.ColumnSets.{both_columns, column_at};
+ghost use Rattle.ps_board.specs.ColumnSets.{both_columns, column_at, columns_without};
 ghost use Rattle.ps_program.specs.ProgramShown.{mask_shown};
 ghost use Rattle.ps_match.specs.InRoom.{meaning_of_mask};
 ghost use Rattle.ps_match.specs.ScannedRows.{AreRowsScanned};
-ghost use Rattle.ps_rows.specs.RowTests.{IsRowOf, held, held_all, held_of_each, moved, moved_all, narrowed};
+ghost use Rattle.ps_rows.specs.RowTests.{IsRowOf, held, held_all, held_any, held_of_each, moved, moved_all, narrowed};
 ghost use Rattle.ps_rows.specs.RowsKept.{AreBoth, AreKept, AreWithout, IsKept, are_away, is_away};
 
 use crate::motions::motion_plane;
@@ -55,6 +55,17 @@ fn fill<W: ColumnWords>(found: &mut [Columns<W>], columns: Columns<W>)
     ensures { found.new ≡ replicate (length found.old) columns }
 {
     found.fill(columns);
+}
+
+/// Makes each set those of these columns that aren't in it.
+fn turn_round<W: ColumnWords>(found: &mut [Columns<W>], columns: Columns<W>)
+    ensures round { (k : ℕ) → k < length found.old →
+        slice_index_or found.new k [] ≡ columns_without columns (slice_index_or found.old k []) }
+    ensures long { length found.new ≡ length found.old }
+{
+    for step in 0..found.len() {
+        found[step] = columns.without(found[step]);
+    }
 }
 
 /// Makes each set those of these columns that are in the set at the same place of others.
@@ -217,6 +228,17 @@ impl<W: ColumnWords> RowBoard<W> {
         }
     }
 
+    /// Makes each row the columns in which one of the objects stands: all columns, without those in which none does.
+    fn start_any(&self, objects: &[LayeredObject], first: u32, found: &mut [Columns<W>])
+        requires { first + length found.old ≤ self.now.planes.height }
+        ensures { let all = replicate (length found.old) self.now.all_columns in
+            AreKept (⟦<RowBoard<W> as Board>⟧.grid self.now) first all found.new (held_any objects.now) }
+    {
+        fill(found, self.all_columns);
+        self.keep_none(objects, first, found);
+        turn_round(found, self.all_columns);
+    }
+
     /// Those of some columns of a row in which one object of each list stands. Where none is left nothing is read.
     fn listed_row(&self, lists: &[List<LayeredObject>], row: u32, columns: Columns<W>) -> Columns<W>
         requires { row < self.now.planes.height }
@@ -238,6 +260,22 @@ impl<W: ColumnWords> RowBoard<W> {
         }
         for step in 0..found.len() {
             found[step] = self.listed_row(lists, first + step as u32, found[step]);
+        }
+    }
+
+    /// Makes each row the columns in which one object of each list stands. The objects of the first list are joined in
+    /// all rows in one go.
+    fn start_listed(&self, lists: &[List<LayeredObject>], first: u32, found: &mut [Columns<W>])
+        requires { first + length found.old ≤ self.now.planes.height }
+        ensures { let all = replicate (length found.old) self.now.all_columns in
+            AreKept (⟦<RowBoard<W> as Board>⟧.grid self.now) first all found.new (held_of_each lists.now) }
+    {
+        match lists.split_first() {
+            None => fill(found, self.all_columns),
+            Some((objects, others)) => {
+                self.start_any(objects.as_slice(), first, found);
+                self.keep_listed(others, first, found);
+            }
         }
     }
 
@@ -323,6 +361,19 @@ impl<W: ColumnWords> RowBoard<W> {
         self.keep_moving(mask.motions.as_slice(), first, found);
     }
 
+    /// The cells of rows that fit a mask which needs no object: its lists come first.
+    fn rows_by_lists(&self, mask: &CellMask, first: u32, found: &mut [Columns<W>])
+        requires rows { first + length found.old ≤ self.now.planes.height }
+        requires needed { (mask_shown mask.now).needed ≡ [] }
+        ensures found { let grid = ⟦<RowBoard<W> as Board>⟧.grid self.now in
+            AreRowsScanned grid (meaning_of_mask (mask_shown mask.now)) first found.new }
+        ensures long { length found.new ≡ length found.old }
+    {
+        self.start_listed(mask.one_of.as_slice(), first, found);
+        self.keep_none(mask.barred.as_slice(), first, found);
+        self.keep_moving(mask.motions.as_slice(), first, found);
+    }
+
     /// The cells of rows that fit a mask, of the first row and of as many below it as there is room for.
     pub(crate) fn mask_rows(&self, mask: &CellMask, first: u32, found: &mut [Columns<W>])
         requires { first + length found.old ≤ self.now.planes.height }
@@ -330,6 +381,10 @@ impl<W: ColumnWords> RowBoard<W> {
             AreRowsScanned grid (meaning_of_mask (mask_shown mask.now)) first found.new }
         ensures long { length found.new ≡ length found.old }
     {
+        if mask.needed.as_slice().is_empty() {
+            self.rows_by_lists(mask, first, found);
+            return;
+        }
         self.start_all(mask.needed.as_slice(), first, found);
         self.keep_none(mask.barred.as_slice(), first, found);
         if asks_no_more(mask) {

@@ -3,10 +3,12 @@ mod GreatestObjects
 mod Groups
 mod KeptRows
 mod LookedUp
+mod MixedObjects
 mod Objects
 mod Painting
 mod PlainFrames
 mod PlainRows
+mod StandingApart
 mod Taken
 mod TopmostObjects
 mod WindowFrames

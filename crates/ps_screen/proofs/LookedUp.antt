@@ -15,7 +15,7 @@ use Rattle.ps_model.specs.session.Frames.{same_objects}
 use Rattle.ps_screen.specs.Glyphs.{AreLookedUp, character_for, single_place}
 
 -- each of a list has that number
-abbrev have_number : ℕ → List ObjectId → Bool
+abbrev pub have_number : ℕ → List ObjectId → Bool
 have_number n objects = list_all (λ object. nat_eq n object.0) objects
 
 -- what is among objects of one number has it
@@ -60,7 +60,7 @@ place_told count first rest place true e is =
       (here, and_from (nat_eq place first.0) (have_number place rest) here (rw (← at) parts.1)),
     )
 
-place_made : (count : ℕ) (first : ObjectId) (rest : List ObjectId) (place : ℕ) → place < count →
+pub place_made : (count : ℕ) (first : ObjectId) (rest : List ObjectId) (place : ℕ) → place < count →
     have_number place (first ∷ rest) ≡ true → single_place count (first ∷ rest) ≡ Some place
 place_made count first rest place low each =
     let parts = and_parts (nat_eq place first.0) (have_number place rest) each in

@@ -37,7 +37,7 @@ last_topmost objects object =
     ∙ ap Some (get_or_push objects object object (length objects) refl))
 
 -- and is so of those that meet a condition, which it meets
-last_kept : (p : ObjectId → Bool) (objects : List ObjectId) (object : ObjectId) → p object ≡ true →
+pub last_kept : (p : ObjectId → Bool) (objects : List ObjectId) (object : ObjectId) → p object ≡ true →
     is_among (filter p (objects ++ object ∷ [])) object ≡ true
 last_kept p objects object meets =
     let kept : filter p (object ∷ []) ≡ object ∷ [] = ap (λ (b : Bool). cond b (object ∷ []) []) meets in
@@ -46,7 +46,7 @@ last_kept p objects object meets =
     ∙ last_among (filter p objects) object
 
 -- an object that isn't among one list, but among another: they don't have the same objects
-all_among : (own objects : List ObjectId) (object : ObjectId) → list_all (is_among own) objects ≡ true →
+pub all_among : (own objects : List ObjectId) (object : ObjectId) → list_all (is_among own) objects ≡ true →
     is_among objects object ≡ true → is_among own object ≡ true
 all_among own [] object all among = absurd (false≢true among)
 all_among own (first ∷ rest) object all among =

@@ -3,11 +3,10 @@
 
 ghost use Rattle.std.specs.Prelude.{◌≡◌, IfOk, map};
 ghost use Rattle.ps_model.specs.names.Names.{members};
-ghost use Rattle.ps_model.specs.session.Frames.{same_objects};
 ghost use Rattle.ps_names.specs.GlyphsShown.{glyph_shown};
+ghost use Rattle.ps_screen.specs.Glyphs.{AreByGreatest, with_greatest};
 ghost use Rattle.ps_screen.specs.GreatestObjects.{greater, greatest};
 
-use crate::meanings::are_same;
 use ps_model::{Memory, ObjectId};
 use ps_names::Glyph;
 use std::alloc::Global;
@@ -40,7 +39,7 @@ fn greater(first: u32, second: u32) -> u32
 /// # Errors
 ///
 /// `Memory`.
-pub fn greatest_of_each(alloc: Global, glyphs: &[&Glyph]) -> Result<Vec<u32>, Memory>
+fn greatest_of_each(alloc: Global, glyphs: &[&Glyph]) -> Result<Vec<u32>, Memory>
     ensures { IfOk result (λ mosts. mosts.items
         ≡ map (λ glyph. greatest (members (glyph_shown glyph.now).meaning)) glyphs.now) }
 {
@@ -51,15 +50,48 @@ pub fn greatest_of_each(alloc: Global, glyphs: &[&Glyph]) -> Result<Vec<u32>, Me
     Ok(mosts)
 }
 
-/// Whether a glyph shows just these objects, by the greatest number among its own and that among these: where they
-/// aren't the same, the glyph isn't looked at.
-pub fn shows_by(glyph: &Glyph, most: u32, objects: &[ObjectId], other: u32) -> bool
-    requires glyph { most ≡ greatest (members (glyph_shown glyph.now).meaning) }
-    requires objects { other ≡ greatest objects.now }
-    ensures { result ≡ same_objects (members (glyph_shown glyph.now).meaning) objects.now }
+/// Of some glyphs those among whose objects this number is the greatest, in their order.
+///
+/// # Errors
+///
+/// `Memory`.
+fn with_greatest<'g>(
+    alloc: Global,
+    glyphs: &[&'g Glyph],
+    mosts: &[u32],
+    number: u32,
+) -> Result<Vec<&'g Glyph>, Memory>
+    requires { mosts.now ≡ map (λ glyph. greatest (members (glyph_shown glyph.now).meaning)) glyphs.now }
+    ensures { IfOk result (λ found. map (λ glyph. glyph_shown glyph.now) found.items
+        ≡ with_greatest (map (λ glyph. glyph_shown glyph.now) glyphs.now) number) }
 {
-    if most != other {
-        return false;
+    let mut found = Vec::new(alloc);
+    for index in 0..glyphs.len() {
+        let glyph = glyphs[index];
+        if mosts[index] == number {
+            found.push(glyph)?;
+        }
     }
-    are_same(glyph.meaning.members(), objects)
+    Ok(found)
+}
+
+/// For each number below a count those of some glyphs among whose objects it is the greatest, in their order.
+///
+/// # Errors
+///
+/// `Memory`.
+pub fn by_greatest<'g>(
+    alloc: Global,
+    glyphs: &[&'g Glyph],
+    count: u32,
+) -> Result<Vec<Vec<&'g Glyph>>, Memory>
+    ensures { IfOk result (λ lists. AreByGreatest (map (λ glyph. glyph_shown glyph.now) glyphs.now)
+        (map (λ list. map (λ glyph. glyph_shown glyph.now) list.items) lists.items)) }
+{
+    let mosts = greatest_of_each(alloc, glyphs)?;
+    let mut lists = Vec::new(alloc);
+    for number in 0..count {
+        lists.push(with_greatest(alloc, glyphs, &mosts, number)?)?;
+    }
+    Ok(lists)
 }

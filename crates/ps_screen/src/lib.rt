@@ -11,6 +11,7 @@ mod glyphs;
 mod greatest;
 mod look;
 mod meanings;
+mod mixing;
 mod output_text;
 mod patching;
 mod picture;

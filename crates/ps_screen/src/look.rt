@@ -1,16 +1,16 @@
 //! What frames look up of a game's names, made ready once.
 
-ghost use Rattle.std.specs.Prelude.{◌≡◌, [], ◌∷◌, IfOk, IfSome, Some, map};
+ghost use Rattle.std.specs.Prelude.{◌≡◌, [], ◌∷◌, IfOk, IfSome, None, Some, false, map};
 ghost use Rattle.std.specs.List.{list_all};
-ghost use Rattle.ps_model.specs.names.Names.{members, same_object};
+ghost use Rattle.ps_model.specs.names.Names.{same_object};
 ghost use Rattle.ps_model.specs.board.Levels.{is_ground};
 ghost use Rattle.ps_names.specs.GlyphsShown.{glyph_shown};
-ghost use Rattle.ps_screen.specs.Glyphs.{Covers, character_for, single_place};
-ghost use Rattle.ps_screen.specs.GreatestObjects.{greatest};
+ghost use Rattle.ps_screen.specs.Glyphs.{AreByGreatest, Covers, CoversApart, IsAlone, character_for, single_place};
 
 use crate::covering::covering_characters;
-use crate::greatest::{greatest, greatest_of_each, shows_by};
-use crate::meanings::ground_layer;
+use crate::greatest::{by_greatest, greatest};
+use crate::meanings::{are_same, ground_layer};
+use crate::mixing::mixed_objects;
 use ps_model::{LayerId, Memory, ObjectId};
 use ps_names::{Glyph, Names};
 use std::alloc::Global;
@@ -27,10 +27,12 @@ pub struct Look<'g> {
     single: Vec<Option<char>>,
     /// The glyphs that show several objects, in order of declaration.
     mixed: Vec<&'g Glyph>,
-    /// For each of these the greatest number among its objects.
-    mosts: Vec<u32>,
+    /// By the objects' numbers, those of them among whose objects that number is the greatest.
+    by_greatest: Vec<Vec<&'g Glyph>>,
     /// By the objects' numbers, the character of each object that shows each cell in which it is the topmost one.
     covering: Vec<Option<char>>,
+    /// By the objects' numbers, whether a glyph may show the object together with another one.
+    mixes: Vec<bool>,
 }
 
 impl<'g> Model for Look<'g> {
@@ -38,9 +40,7 @@ impl<'g> Model for Look<'g> {
     ghost use Rattle.ps_model.specs.names.Names.{Names as Meant};
     ghost use Rattle.ps_model.specs.board.Levels.{background_layer};
     ghost use Rattle.ps_names.specs.GlyphsShown.{glyph_shown};
-    ghost use Rattle.ps_model.specs.names.Names.{members};
-    ghost use Rattle.ps_screen.specs.Glyphs.{AreCovering, AreLookedUp};
-    ghost use Rattle.ps_screen.specs.GreatestObjects.{greatest};
+    ghost use Rattle.ps_screen.specs.Glyphs.{AreByGreatest, AreCovering, AreLookedUp, AreMixed};
 
     ghost Value = { Meant };
 
@@ -48,8 +48,9 @@ impl<'g> Model for Look<'g> {
 
     ghost invariant = { λ l. (l.ground.0 ≡ background_layer l.names.now)
         × (AreLookedUp l.names.now.glyphs l.single.items (map (λ glyph. glyph_shown glyph.now) l.mixed.items)
-        × (AreCovering l.names.now l.covering.items
-        × (l.mosts.items ≡ map (λ glyph. greatest (members (glyph_shown glyph.now).meaning)) l.mixed.items))) };
+        × (AreCovering l.names.now l.covering.items × (AreMixed l.names.now.glyphs l.mixes.items
+        × AreByGreatest (map (λ glyph. glyph_shown glyph.now) l.mixed.items)
+        (map (λ list. map (λ glyph. glyph_shown glyph.now) list.items) l.by_greatest.items)))) };
 }
 
 /// Whether each of a list is that object.
@@ -73,20 +74,30 @@ fn single_place(objects: &[ObjectId], count: usize) -> Option<usize>
     None
 }
 
-/// The character of the first of some glyphs that shows just these objects. Of each glyph the greatest number among its
-/// objects is given: most glyphs are skipped by it.
-fn first_glyph(glyphs: &[&Glyph], mosts: &[u32], objects: &[ObjectId]) -> Option<char>
-    requires { mosts.now ≡ map (λ glyph. greatest (members (glyph_shown glyph.now).meaning)) glyphs.now }
+/// The character of the first of some glyphs that shows just these objects.
+fn first_glyph(glyphs: &[&Glyph], objects: &[ObjectId]) -> Option<char>
     ensures { result ≡ character_for (map (λ glyph. glyph_shown glyph.now) glyphs.now) objects.now }
 {
-    let most = greatest(objects);
-    for index in 0..glyphs.len() {
-        let glyph = glyphs[index];
-        if shows_by(glyph, mosts[index], objects, most) {
+    for glyph in glyphs {
+        if are_same(glyph.meaning.members(), objects) {
             return Some(glyph.character);
         }
     }
     None
+}
+
+/// The character of the first of some glyphs that shows just these objects. Those are given, too, by the greatest number
+/// among their objects: others than those that have the same one as these objects aren't looked at.
+fn first_mixed(mixed: &[&Glyph], by_greatest: &[Vec<&Glyph>], objects: &[ObjectId]) -> Option<char>
+    requires { AreByGreatest (map (λ glyph. glyph_shown glyph.now) mixed.now)
+        (map (λ list. map (λ glyph. glyph_shown glyph.now) list.items) by_greatest.now) }
+    ensures { result ≡ character_for (map (λ glyph. glyph_shown glyph.now) mixed.now) objects.now }
+{
+    let most = greatest(objects) as usize;
+    if most < by_greatest.len() {
+        return first_glyph(by_greatest[most].as_slice(), objects);
+    }
+    first_glyph(mixed, objects)
 }
 
 impl<'g> Look<'g> {
@@ -108,14 +119,16 @@ impl<'g> Look<'g> {
             }
         }
         let covering = covering_characters(alloc, names, &single, &mixed)?;
-        let mosts = greatest_of_each(alloc, &mixed)?;
+        let mixes = mixed_objects(alloc, names)?;
+        let by_greatest = by_greatest(alloc, &mixed, names.object_count())?;
         Ok(Look {
             names,
             ground: ground_layer(names),
             single,
             mixed,
-            mosts,
+            by_greatest,
             covering,
+            mixes,
         })
     }
 
@@ -132,7 +145,7 @@ impl<'g> Look<'g> {
     {
         match single_place(objects, self.single.len()) {
             Some(place) => self.single[place],
-            None => first_glyph(self.mixed.as_slice(), self.mosts.as_slice(), objects),
+            None => first_mixed(self.mixed.as_slice(), self.by_greatest.as_slice(), objects),
         }
     }
 
@@ -146,6 +159,30 @@ impl<'g> Look<'g> {
             return None;
         }
         self.covering[place]
+    }
+
+    /// Whether a glyph may show an object together with another one.
+    #[inline(always)]
+    pub fn mixes(&self, object: ObjectId) -> bool
+        ensures { result ≡ false → IsAlone self.now.glyphs object }
+    {
+        let place = object.0 as usize;
+        if self.mixes.len() <= place {
+            return true;
+        }
+        self.mixes[place]
+    }
+
+    /// The character of an object above the ground that stands apart from those below it in a cell; `?`, where no glyph
+    /// shows it alone.
+    pub fn apart(&self, object: ObjectId) -> Option<char>
+        ensures { IfSome result (λ character. CoversApart self.now object character) }
+    {
+        let place = object.0 as usize;
+        if self.is_ground(object) || self.single.len() <= place {
+            return None;
+        }
+        Some(self.single[place].unwrap_or('?'))
     }
 
     /// The character of an object that stands alone, if a glyph shows just that one.

@@ -20,7 +20,7 @@ returns-then-asks_no_more-clause-found g c =
     rows_free b.members.table.items b.width b.planes.height b.layers b.planes.words.items c.args.first
     b.all_columns (length c.args.found.now) (mask_shown c.args.mask.now) filled c.start_all.new.found
     c.keep_none.new.found b.columns b.all c.requires refl
-    (subst All c.as_slice.ensures c.start_all.ensures) (subst Away c.as_slice-2.ensures c.keep_none.ensures)
+    (subst All c.as_slice-2.ensures c.start_all.ensures) (subst Away c.as_slice-3.ensures c.keep_none.ensures)
     (c.asks_no_more.ensures.lists c.if-asks_no_more.true) (c.asks_no_more.ensures.motions c.if-asks_no_more.true)
 
 pub returns-clause-found : goal.returns-clause-found
@@ -35,5 +35,5 @@ returns-clause-found g c =
     rows_narrowed b.members.table.items b.width b.planes.height b.layers b.planes.words.items c.args.first
     b.all_columns (length c.args.found.now) (mask_shown c.args.mask.now) filled c.start_all.new.found
     c.keep_none.new.found b.columns b.all c.requires refl c.keep_narrowed.new.found
-    (subst All c.as_slice.ensures c.start_all.ensures) (subst Away c.as_slice-2.ensures c.keep_none.ensures)
+    (subst All c.as_slice-2.ensures c.start_all.ensures) (subst Away c.as_slice-3.ensures c.keep_none.ensures)
     c.keep_narrowed.ensures

@@ -5,7 +5,7 @@ use Rattle.ps_board.specs.Rows.{DifferOnlyOn}
 use Rattle.ps_rows.specs.RowHistories.{HistoryShown, kept, shown}
 use Rattle.ps_rows.specs.Showing.{grid_shown}
 use Rattle.ps_rows.proofs.RowHistories.{latest_shown}
-use Rattle.ps_rows.proofs.row_history.RowHistoryHistoryRowBoard.make_ready.Goals.{in-None+in_ok-copied-in-None}
+use Rattle.ps_rows.proofs.row_history.RowHistoryHistoryRowBoard.make_ready.Goals.{in-None+in_ok-copied_over-in-None}
 use Rattle.ps_rows.proofs.row_history.RowHistoryHistoryRowBoard.make_ready.Goals.{in-Some+in_ok-step-in-Some}
 use Rattle.ps_rows.proofs.row_history.RowHistoryHistoryRowBoard.make_ready.Goals as goal
 
@@ -23,8 +23,11 @@ step_to-requires g c =
     rw c.deref.ensures (subst P known c.requires)
 
 pub invariant_of-self : goal.invariant_of-self
-invariant_of-self g c = elim c.match-self.branch [
-  | in-None+in_ok-copied-in-None w ↦ rw (w.step-is, w.self-inside-is) (
+invariant_of-self g c = c.self.invariant
+
+pub invariant_of-self-2 : goal.invariant_of-self-2
+invariant_of-self-2 g c = elim c.match-self.branch [
+  | in-None+in_ok-copied_over-in-None w ↦ rw (w.step-is, w.self-inside-is) (
     c.self.invariant.0,
     (c.self.invariant.1.0, rw w.in-None.is tt),
   )
@@ -42,7 +45,7 @@ invariant_of-self g c = elim c.match-self.branch [
 
 pub returns-clause-boards : goal.returns-clause-boards
 returns-clause-boards g c = elim c.match-self.branch [
-  | in-None+in_ok-copied-in-None w ↦ rw w.self-inside-is
+  | in-None+in_ok-copied_over-in-None w ↦ rw w.self-inside-is
       (ap (λ (history : HistoryShown). history.boards) c.self.view_is)
   | in-Some+in_ok-step-in-Some w ↦ rw w.self-inside-is
       (ap (λ (history : HistoryShown). history.boards) c.self.view_is)
@@ -50,8 +53,8 @@ returns-clause-boards g c = elim c.match-self.branch [
 
 pub returns-clause-ready : goal.returns-clause-ready
 returns-clause-ready g c = elim c.match-self.branch [
-  | in-None+in_ok-copied-in-None w ↦ rw (w.step-is, w.self-inside-is, w.in-None.is)
-      (ap Some w.in_ok-copied-in-None.ensures)
+  | in-None+in_ok-copied_over-in-None w ↦ rw (w.step-is, w.self-inside-is, w.in-None.is)
+      (ap Some w.in_ok-copied_over-in-None.ensures)
   | in-Some+in_ok-step-in-Some w ↦ rw (w.step-is, w.self-inside-is, w.in-Some.is)
       (ap Some (rw w.deref.ensures at w.in_ok-step-in-Some.ensures.shown))
 ]
