@@ -63,7 +63,7 @@ same_greatest first second same =
     let high : greatest second ≤ greatest first = all_below second first parts.1 in
     omega (arith, low, high)
 
--- glyphs whose objects have that greatest number are enough, and those passed over fit nothing
+-- glyphs whose objects have that greatest number are enough: no other one fits
 pub greatest_enough : (glyphs : List Glyph) (objects : List ObjectId) →
     character_for (with_greatest glyphs (greatest objects)) objects ≡ character_for glyphs objects
 greatest_enough [] objects = refl
