@@ -1,6 +1,6 @@
 all_many.game:46:14: error: `Krate` isn't a key word, and is declared neither in OBJECTS nor in LEGEND. Line 17 declares `Crate`. [RU2]
 all_many.game:47:25: error: No `]` closes this `[` on its side of `->`. [RU1]
-all_many.game:48:17: error: `Thing` on the right means that of the same cell on the left, or else the only one there: the left has 0. [RU7]
+all_many.game:48:17: error: `Thing` on the right has to be on the left too, to say which one is meant: there is none to the left of `->`, `no` aside. [RU7]
 all_many.game:50:8: error: A `late` rule runs after the movement, so its brackets can't have movement words: take out `>`, or `late`. [RU8]
 all_many.game:51:1: error: The loop of line 49 is still open: loops don't nest. [RU11]
 all_many.game:52:1: error: A rule begins with `+`, but there is no rule above it, or none since the last loop line. Write it without: `[ A ] -> [ B ]`. [RU9]
