@@ -12,7 +12,7 @@ use Rattle.ps_causes.specs.Causes.{IsSlip}
 use Rattle.ps_facts.specs.LineWords.{IsWordOf, texts_of}
 use Rattle.ps_causes.specs.Meant.{names_in, meant, is_aggregate_at}
 use Rattle.ps_causes.specs.Pairs.{IsPairIn, IsPair}
-use Rattle.ps_causes.specs.RuleCauses.{IsSeveral, IsArrowOf}
+use Rattle.ps_causes.specs.RuleCauses.{IsArrowOf, IsBrokenArrow, IsSeveral}
 use Rattle.ps_causes.specs.Unbound.{IsSpot, IsUnbound, CouldBe, is_open, alike_on_left}
 use Rattle.ps_causes.specs.declared.causes.Could.{Could}
 use Rattle.ps_causes.specs.declared.causes.Shared.{Shared}
@@ -148,3 +148,29 @@ told-arrow text line words at d within each texts sign = record {
   parts = sym texts ∙ parts-at text_of words at d within;
   sign = sign;
 }
+
+-- a word at a place of a line without an arrow, and the next one
+pub told-broken : (text : List ℕ) (line : ℕ) (words : List Word) (at next : ℕ) (word other : Word) → next ≡ at + 1 →
+    next < length words → word ≡ get_or words next word → other ≡ get_or words at other →
+    All (IsWordOf text line) words → map text_of words ≡ texts_of text line →
+    has_sign Arrow (map text_of words) ≡ false → IsBrokenArrow text line word other
+told-broken text line words at next word other n within there here each texts none =
+    let rest : List Word = drop (at + 1) words in
+    let less : at < length words = omega arith in
+    let more : 0 < length rest = rw length-drop (omega arith) in
+    let place : at + 1 + 0 ≡ next = omega arith in
+    let first : text_of (get_or words at other) ≡ other.text.now = ap text_of (sym here) in
+    let second : text_of (get_or rest 0 word) ≡ word.text.now =
+    ap text_of (get_or-drop (at + 1) words 0 word ∙ ap (λ (k : ℕ). get_or words k word) place ∙ sym there) in
+    record {
+      stands = rw there (each next word within);
+      other_stands = rw here (each at other less);
+      before = map text_of (take at words);
+      behind = map text_of (drop 1 rest);
+      parts =
+          sym texts ∙ parts-at text_of words at other less ∙ ap (λ (t : List ℕ).
+          map text_of (take at words) ++ t ∷ map text_of rest) first ∙ ap (λ (t : List (List ℕ)).
+          map text_of (take at words) ++ other.text.now ∷ t)
+          (parts-at text_of rest 0 word more ∙ ap (λ (t : List ℕ). t ∷ map text_of (drop 1 rest)) second);
+      arrowless = ap (has_sign Arrow) (sym texts) ∙ none;
+    }

@@ -1,8 +1,8 @@
 -- What a section that isn't there may come from: a line written much like its header, a comment that nothing closes,
 -- line ends without a line feed, zero bytes.
-use Rattle.std.specs.Prelude.{◌≡◌, ◌≤◌, ◌+◌, ◌-◌, ℕ, ⊤, nat_eq, Bool, false, true, ◌||◌, if◌then◌else◌, Some, List, []}
+use Rattle.std.specs.Prelude.{◌≡◌, ◌≤◌, ◌+◌, ◌-◌, ℕ, ⊤, ◌==◌, nat_eq, Bool, false, true, ◌||◌, if◌then◌else◌, Some, List, []}
 use Rattle.std.specs.Prelude.{◌∷◌, drop, slice_get}
-use Rattle.std.specs.List.{list_any}
+use Rattle.std.specs.List.{list_all, list_any}
 use Rattle.std.specs.Option.{is_none}
 use Rattle.ps_model.specs.declared.texts.Section.{Section}
 use Rattle.ps_model.specs.declared.texts.Section.TheVariants.{Prelude}
@@ -11,7 +11,7 @@ use Rattle.ps_model.specs.text.Lines.{Line, depth_behind, is_line_feed}
 use Rattle.ps_model.specs.text.Sections.{is_of}
 use Rattle.ps_model.specs.text.TextFaults.{line_of_place}
 use Rattle.ps_causes.specs.declared.causes.Clue.{Clue}
-use Rattle.ps_causes.specs.declared.causes.Clue.TheVariants.{Nothing, Like, Open, Returns, Zero}
+use Rattle.ps_causes.specs.declared.causes.Clue.TheVariants.{Nothing, Empty, Like, Open, Returns, Zero}
 use Rattle.ps_causes.specs.LikeHeaders.{header_word, IsLikeHeaderOf}
 
 -- comments that are open so often before bytes are closed by none of them
@@ -33,9 +33,14 @@ pub record IsOpenAt (text : List ℕ) (line : ℕ) : Type 0 where
   pub a_comment : is_untaken (line_at text line) ≡ true
   pub unclosed : never_closes 1 (drop (place + 1) text) ≡ true
 
+-- the text has nothing but blanks and line ends
+abbrev pub is_empty : List ℕ → Bool
+is_empty text = list_all (λ byte. byte == 32 || (byte == 9 || (byte == 13 || byte == 10))) text
+
 -- what is said about a section that isn't there
 abbrev pub IsClue : List ℕ → Section → Clue → Type 0
 IsClue text section Nothing = ⊤
+IsClue text section Empty = is_empty text ≡ true
 IsClue text section (Like line) = IsLikeHeaderOf text (header_word section) line
 IsClue text section (Open line) = IsOpenAt text line
 IsClue text section (Returns place) =

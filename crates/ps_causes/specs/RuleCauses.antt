@@ -5,7 +5,7 @@ use Rattle.ps_model.specs.text.LineNumbers.{line_at, HasLine}
 use Rattle.ps_text.specs.declared.cutting.Word.{Word}
 use Rattle.ps_causes.specs.declared.causes.Further.{Further}
 use Rattle.ps_causes.specs.declared.causes.RuleCause.{RuleCause}
-use Rattle.ps_causes.specs.declared.causes.RuleCause.TheVariants.{Pair, Several, Unbound, Rows, Cells, GoesOn}
+use Rattle.ps_causes.specs.declared.causes.RuleCause.TheVariants.{BrokenArrow, Pair, Several, Unbound, Rows, Cells, GoesOn}
 use Rattle.ps_facts.specs.declared.signs.Sign.TheVariants.{Arrow}
 use Rattle.ps_facts.specs.Counts.{cell_counts}
 use Rattle.ps_causes.specs.GoingOn.{is_part}
@@ -14,7 +14,7 @@ use Rattle.ps_facts.specs.LineWords.{IsWordOf, texts_of}
 use Rattle.ps_causes.specs.LineEnds.{IsLastWordOf}
 use Rattle.ps_facts.specs.NamesShown.{is_own}
 use Rattle.ps_facts.specs.Places.{is_barred}
-use Rattle.ps_facts.specs.Signs.{is_sign}
+use Rattle.ps_facts.specs.Signs.{has_sign, is_sign}
 use Rattle.ps_causes.specs.Pairs.{IsPair}
 use Rattle.ps_causes.specs.Unbound.{IsUnbound}
 
@@ -51,6 +51,15 @@ pub record IsCells (text : List ℕ) (line : ℕ) (arrow : Word) (row left right
   pub on_the_right : slice_get (cell_counts behind) (row - 1) ≡ Some right
   pub differ : nat_eq left right ≡ false
 
+-- two words of a line, the other right before the word, where no word is the arrow
+pub record IsBrokenArrow (text : List ℕ) (line : ℕ) (word other : Word) : Type 0 where
+  pub stands : IsWordOf text line word
+  pub other_stands : IsWordOf text line other
+  pub before : List (List ℕ)
+  pub behind : List (List ℕ)
+  pub parts : texts_of text line ≡ before ++ other.text.now ∷ (word.text.now ∷ behind)
+  pub arrowless : has_sign Arrow (texts_of text line) ≡ false
+
 -- the next line, which is one of RULES and no whole rule
 pub record IsFurther (text : List ℕ) (line : ℕ) (further : Further) : Type 0 where
   pub next : further.line ≡ line + 1
@@ -65,4 +74,5 @@ IsToldOfRule text line (Several word declared) = IsSeveral text line word declar
 IsToldOfRule text line (Unbound word times could) = IsUnbound text line word times could
 IsToldOfRule text line (Rows arrow left right) = IsRows text line arrow left right
 IsToldOfRule text line (Cells arrow row left right) = IsCells text line arrow row left right
+IsToldOfRule text line (BrokenArrow word other) = IsBrokenArrow text line word other
 IsToldOfRule text line (GoesOn word further) = IsLastWordOf text line word × IsFurther text line further

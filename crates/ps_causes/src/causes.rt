@@ -182,6 +182,11 @@ pub enum RuleCause<'a> {
         left: usize,
         right: usize,
     },
+    /// The line has no `->`. The other word stands right before the word, and the two are written in its place.
+    BrokenArrow {
+        word: Word<'a>,
+        other: Word<'a>,
+    },
     /// A further line is no whole rule. The word is the last of the rule's line.
     GoesOn {
         word: Word<'a>,
@@ -319,6 +324,8 @@ pub enum WhyNoRow<'a> {
 pub enum Clue {
     /// No more is told.
     Nothing,
+    /// The text has nothing but blanks and line ends.
+    Empty,
     /// A line that is written much like the header isn't one.
     Like(u32),
     /// A `(` of a line begins a comment that nothing closes.

@@ -5,13 +5,14 @@ ghost use Rattle.ps_model.specs.text.LineNumbers.{HasLine};
 ghost use Rattle.ps_causes.specs.Causes.{IsToldAt};
 
 use crate::barred::barred_cause;
+use crate::broken_arrows::broken_arrow_cause;
 use crate::causes::Cause;
 use crate::counts::counts_cause;
 use crate::glyphs::glyph_cause;
 use crate::going_on::going_on_cause;
 use crate::headers::{late_cause, like_header_cause, missing_cause};
 use crate::hidden_headers::legend_cause;
-use crate::looked_for::{LONG_ARROW, MISPLACED, OTHER_LINES, slips_of};
+use crate::looked_for::{CAPTIONS, COMMENTED, LONG_ARROW, MISPLACED, OTHER_LINES, slips_of};
 use crate::loops::loop_cause;
 use crate::object_causes::{object_cause, row_name_cause};
 use crate::only_commas::commas_cause;
@@ -100,6 +101,28 @@ fn no_layer_cause<'a>(alloc: Global, source: &'a Source, line: u32) -> Result<Ca
     unlayered_cause(alloc, source, line)
 }
 
+/// A character of a row that is no name, or the blank within it. Where such a row is meant as a text, that is told.
+fn glyph_or_text_cause<'a>(
+    alloc: Global,
+    text: &[u8],
+    source: &'a Source,
+    line: u32,
+) -> Result<Cause<'a>, Memory>
+    requires line { HasLine source.now line }
+    requires text { source.now ≡ text.now }
+    ensures { IfOk result (IsToldAt source.now line) }
+{
+    let cause = glyph_cause(alloc, text, source, line)?;
+    let Cause::UnknownGlyph { .. } = cause else {
+        return Ok(cause);
+    };
+    let caption = slip_cause(alloc, source, line, &CAPTIONS)?;
+    if caption.is_told() {
+        return Ok(caption);
+    }
+    Ok(cause)
+}
+
 /// A comment of a row that begins as elsewhere, where `/` is no name; or else a word that is meant as `message`. If
 /// there is none, a character of the row that is no name.
 fn row_cause<'a>(
@@ -120,7 +143,7 @@ fn row_cause<'a>(
     if cause.is_told() {
         return Ok(cause);
     }
-    glyph_cause(alloc, text, source, line)
+    glyph_or_text_cause(alloc, text, source, line)
 }
 
 /// Where a line of LEGEND leaves its forms, or a comma of a line of COLLISIONLAYERS without a name.
@@ -141,19 +164,37 @@ fn bad_line_cause<'a>(
     commas_cause(alloc, text, source, line)
 }
 
-/// That a rule goes on in the next line, or else what is wrong with its arrow, rows and cells.
+/// An arrow in two words, or else what is wrong with brackets, bars and arrow of a rule.
+fn bracket_cause<'a>(alloc: Global, source: &'a Source, line: u32) -> Result<Cause<'a>, Memory>
+    requires { HasLine source.now line }
+    ensures { IfOk result (IsToldAt source.now line) }
+{
+    let cause = broken_arrow_cause(alloc, source, line)?;
+    if cause.is_told() {
+        return Ok(cause);
+    }
+    slip_cause(alloc, source, line, slips_of(FaultKind::BadBracket))
+}
+
+/// That a rule is a comment but for its arrow, or goes on in the next line; or else what is wrong with its arrow, rows
+/// and cells.
 fn shape_cause<'a>(alloc: Global, source: &'a Source, fault: Fault) -> Result<Cause<'a>, Memory>
     requires { HasLine source.now fault.line }
     ensures { IfOk result (IsToldAt source.now fault.line) }
 {
+    let cause = slip_cause(alloc, source, fault.line, &COMMENTED)?;
+    if cause.is_told() {
+        return Ok(cause);
+    }
     let cause = going_on_cause(alloc, source, fault.line)?;
     if cause.is_told() {
         return Ok(cause);
     }
-    if fault.kind == FaultKind::RowsDiffer {
-        return counts_cause(alloc, source, fault.line);
+    match fault.kind {
+        FaultKind::RowsDiffer => counts_cause(alloc, source, fault.line),
+        FaultKind::BadBracket => bracket_cause(alloc, source, fault.line),
+        _ => slip_cause(alloc, source, fault.line, slips_of(fault.kind)),
     }
-    slip_cause(alloc, source, fault.line, slips_of(fault.kind))
 }
 
 /// Whether a line with that fault may be meant as a comment, as a header, or for another section.

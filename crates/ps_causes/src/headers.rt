@@ -5,7 +5,7 @@ ghost use Rattle.ps_model.specs.text.LineNumbers.{HasLine, line_at};
 ghost use Rattle.ps_model.specs.text.Lines.{lines_of};
 ghost use Rattle.ps_model.specs.text.Sections.{rank, header_lines, has_section};
 ghost use Rattle.ps_causes.specs.Causes.{AreThereBefore, IsToldAt, IsLaterHeader, begins, is_needed};
-ghost use Rattle.ps_causes.specs.Clues.{IsClue};
+ghost use Rattle.ps_causes.specs.Clues.{IsClue, is_empty};
 ghost use Rattle.ps_causes.specs.LikeHeaders.{AreLike, AreNearly, IsLikeHeaderOf, header_word, letter, letters};
 ghost use Rattle.ps_causes.specs.LikeHeaders.{letters_of};
 ghost use Rattle.ps_model.specs.text.Lines.{folded};
@@ -222,11 +222,22 @@ fn first_like(alloc: Global, source: &Source, header: &str) -> Result<Option<u32
     Ok(None)
 }
 
+/// Whether a text has nothing but blanks and line ends.
+fn is_empty(text: &[u8]) -> bool
+    ensures { result ≡ is_empty text.now }
+{
+    text.iter()
+        .all(|byte| matches!(*byte, b' ' | b'\t' | b'\r' | b'\n'))
+}
+
 /// What the missing of a section may come from.
 fn clue_of(alloc: Global, text: &[u8], source: &Source, section: Section) -> Result<Clue, Memory>
     requires { source.now ≡ text.now }
     ensures { IfOk result (λ clue. IsClue source.now section clue) }
 {
+    if is_empty(text) {
+        return Ok(Clue::Empty);
+    }
     if let Some(place) = first_zero(text) {
         return Ok(Clue::Zero(place));
     }

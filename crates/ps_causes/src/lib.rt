@@ -5,6 +5,7 @@
 
 mod alike;
 mod barred;
+mod broken_arrows;
 mod broken_bytes;
 mod causes;
 mod comments;

@@ -55,6 +55,12 @@ pub const MISPLACED: [Slip; 7] = [
 /// That of a rule whose arrow is too long, so that its front is a word without a meaning.
 pub const LONG_ARROW: [Slip; 1] = [Slip::Shape(ShapeSlip::LongArrow)];
 
+/// That of a rule of which all else is a comment.
+pub const COMMENTED: [Slip; 1] = [Slip::Shape(ShapeSlip::NoCells)];
+
+/// That of a row that is meant as a text.
+pub const CAPTIONS: [Slip; 1] = [Slip::Form(FormSlip::Caption)];
+
 /// Those of a line that is meant as a comment, or for another section.
 pub const OTHER_LINES: [Slip; 4] = [
     Slip::Rule(RuleSlip::RuleComment),

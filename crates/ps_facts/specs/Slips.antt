@@ -9,7 +9,7 @@ use Rattle.ps_facts.specs.declared.slips.ShapeSlip.{ShapeSlip}
 use Rattle.ps_facts.specs.declared.slips.ShapeSlip.TheVariants.{LikeArrow, LikeBracket, NoArrow, SecondArrow}
 use Rattle.ps_facts.specs.declared.slips.ShapeSlip.TheVariants.{Nested, Unclosed}
 use Rattle.ps_facts.specs.declared.slips.ShapeSlip.TheVariants.{LoneClosing, NothingLeft, NothingRight, BarOutside}
-use Rattle.ps_facts.specs.declared.slips.ShapeSlip.TheVariants.{DirectionOutside, WordOutside, LongArrow}
+use Rattle.ps_facts.specs.declared.slips.ShapeSlip.TheVariants.{DirectionOutside, WordOutside, LongArrow, NoCells}
 use Rattle.ps_facts.specs.declared.slips.RuleSlip.{RuleSlip}
 use Rattle.ps_facts.specs.declared.slips.RuleSlip.TheVariants.{LoopWords, MessageAlone, LateMove, Chance}
 use Rattle.ps_facts.specs.declared.slips.RuleSlip.TheVariants.{Rigid}
@@ -25,7 +25,7 @@ use Rattle.ps_facts.specs.declared.slips.FormSlip.TheVariants.{NoQuantifier}
 use Rattle.ps_facts.specs.declared.slips.FormSlip.TheVariants.{NoOn, FurtherWord, WinEnds, SecondName, ThirdName}
 use Rattle.ps_facts.specs.declared.slips.FormSlip.TheVariants.{NameAgain, RealTime, WinComment}
 use Rattle.ps_facts.specs.declared.slips.FormSlip.TheVariants.{RoomSize, NoRoomSize, LikeMessage, LegendLine}
-use Rattle.ps_facts.specs.declared.slips.FormSlip.TheVariants.{RuleLine}
+use Rattle.ps_facts.specs.declared.slips.FormSlip.TheVariants.{Caption, RuleLine}
 use Rattle.ps_facts.specs.declared.slips.Slip.{Slip}
 use Rattle.ps_facts.specs.declared.slips.Slip.TheVariants.{Shape, Rule, Place, Form}
 use Rattle.ps_facts.specs.Places.{is_inside, comes_first, is_in_cell, parts_cells, ends_in, ends_parted}
@@ -54,6 +54,7 @@ section_of (Form RealTime) = Prelude
 section_of (Form RoomSize) = Prelude
 section_of (Form NoRoomSize) = Prelude
 section_of (Form LikeMessage) = Levels
+section_of (Form Caption) = Levels
 section_of (Form RuleLine) = Layers
 
 -- there are `count` words
@@ -91,6 +92,8 @@ has_shape_slip Unclosed before word behind =
 has_shape_slip LoneClosing before word behind = is_sign sign.Closing word && not (is_inside before)
 has_shape_slip NothingLeft before word behind = is_sign sign.Arrow word && not (has_sign sign.Opening before)
 has_shape_slip NothingRight before word behind = is_sign sign.Arrow word && are_so_many 0 behind
+has_shape_slip NoCells before word behind =
+    is_sign sign.Arrow word && (are_so_many 0 before && are_so_many 0 behind)
 has_shape_slip BarOutside before word behind = is_sign sign.Bar word && not (is_inside before)
 has_shape_slip DirectionOutside before word behind =
     is_direction word && (has_sign sign.Arrow before && not (is_inside before))
@@ -175,6 +178,8 @@ has_form_slip WinComment before word behind = are_so_many 0 before && begins_com
 has_form_slip RoomSize before word behind = are_so_many 1 before && has_sign sign.Rooms before
 has_form_slip NoRoomSize before word behind = are_so_many 0 behind && is_sign sign.Rooms word
 has_form_slip LikeMessage before word behind = are_so_many 0 before && not (is_sign sign.Message word)
+has_form_slip Caption before word behind =
+    are_so_many 0 before && (not (is_sign sign.Message word) && not (are_so_many 0 behind))
 has_form_slip RuleLine before word behind = begins_row word
 
 -- what is wrong with a word, with these words before it and after it in its line

@@ -2,6 +2,7 @@
 
 use crate::near::is_near;
 use crate::signs::is_one_of;
+use ps_text::Word;
 
 /// What is written for the arrow of a rule.
 const LIKE_ARROWS: [&str; 12] = [
@@ -70,6 +71,55 @@ fn begins_message(word: &[u8]) -> bool {
 /// Whether a word is written much like `message`, or goes on after that.
 pub fn is_like_message(word: &str) -> bool {
     is_near(word, MESSAGE) || begins_message(word.as_bytes())
+}
+
+/// How many letters a word has at least by which a line is meant as a text.
+const LEAST_LETTERS: usize = 3;
+
+/// Whether three letters that follow each other are one, as in a row of a level and in no word of a text.
+fn has_run(word: &[u8]) -> bool {
+    for at in 2..word.len() {
+        if word[at] == word[at - 1] && word[at] == word[at - 2] {
+            return true;
+        }
+    }
+    false
+}
+
+/// Whether a byte may stand in a word of a text: a letter, a part of a character that isn't ASCII, an apostrophe or a
+/// hyphen.
+fn is_of_text(byte: u8) -> bool {
+    byte.is_ascii_alphabetic() || byte >= 128 || byte == b'\'' || byte == b'-'
+}
+
+/// A word without the mark that it may end with.
+fn without_mark(word: &[u8]) -> &[u8] {
+    match word.split_last() {
+        Some((b'.' | b',' | b':' | b';' | b'!' | b'?', front)) => front,
+        _ => word,
+    }
+}
+
+/// Whether a word is one of a text, and no row of a level.
+fn is_text_word(word: &[u8]) -> bool {
+    let word = without_mark(word);
+    word.len() >= LEAST_LETTERS && !has_run(word) && word.iter().all(|byte| is_of_text(*byte))
+}
+
+/// Whether a line of these words is meant as a text: it begins with a letter or a digit, and one of its words is of a
+/// text.
+pub fn begins_text(word: &str, behind: &[Word<'_>]) -> bool {
+    let bytes = word.as_bytes();
+    let Some(first) = bytes.first() else {
+        return false;
+    };
+    if !first.is_ascii_alphanumeric() && *first < 128 {
+        return false;
+    }
+    is_text_word(bytes)
+        || behind
+            .iter()
+            .any(|other| is_text_word(other.text().as_bytes()))
 }
 
 /// Whether a word is written much like `startloop` or `endloop`, or in place of one of them.

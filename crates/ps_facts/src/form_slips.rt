@@ -4,7 +4,7 @@ ghost use Rattle.std.specs.Prelude.{◌≡◌, true, map};
 ghost use Rattle.ps_text.specs.WordViews.{text_of};
 ghost use Rattle.ps_facts.specs.Slips.{are_odd, has_form_slip};
 
-use crate::alike::is_like_message;
+use crate::alike::{begins_text, is_like_message};
 use crate::signs::{Sign, begins_comment, begins_row, has_sign, is_any, is_quantifier, is_sign};
 use crate::slips::FormSlip;
 use ps_text::Word;
@@ -44,6 +44,10 @@ fn has_end_slip(slip: FormSlip, before: &[Word<'_>], word: &str, behind: &[Word<
         FormSlip::LikeMessage => before.is_empty()
             && !is_sign(Sign::Message, word)
             && is_like_message(word),
+        FormSlip::Caption => before.is_empty()
+            && !behind.is_empty()
+            && !is_sign(Sign::Message, word)
+            && begins_text(word, behind),
         FormSlip::RuleLine => begins_row(word),
         _ => has_legend_slip(slip, before, word, behind),
     }

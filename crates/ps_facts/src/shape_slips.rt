@@ -40,6 +40,7 @@ fn has_edge_slip(slip: ShapeSlip, before: &[Word<'_>], word: &str, behind: &[Wor
         ShapeSlip::LoneClosing => is_sign(Sign::Closing, word) && !is_inside(before),
         ShapeSlip::NothingLeft => is_sign(Sign::Arrow, word) && !has_sign(Sign::Opening, before),
         ShapeSlip::NothingRight => is_sign(Sign::Arrow, word) && behind.is_empty(),
+        ShapeSlip::NoCells => is_sign(Sign::Arrow, word) && before.is_empty() && behind.is_empty(),
         _ => false,
     }
 }

@@ -28,6 +28,8 @@ pub enum ShapeSlip {
     NothingLeft,
     /// A `->` after which the line ends.
     NothingRight,
+    /// A `->` alone in its line.
+    NoCells,
     /// A `|` outside brackets.
     BarOutside,
     /// A direction word outside brackets, after the arrow.
@@ -123,6 +125,8 @@ pub enum FormSlip {
     NoRoomSize,
     /// The first word of a line of LEVELS is written much like `message`.
     LikeMessage,
+    /// The first of several words of a line of LEVELS that is meant as a text, and isn't `message`.
+    Caption,
     /// A word of a line of COLLISIONLAYERS that begins with `[`, as a row of a rule does.
     RuleLine,
 }
@@ -157,7 +161,7 @@ pub fn section_of(slip: Slip) -> Section
             | FormSlip::LegendLine
             | FormSlip::NameAgain => Section::Objects,
             FormSlip::RealTime | FormSlip::RoomSize | FormSlip::NoRoomSize => Section::Prelude,
-            FormSlip::LikeMessage => Section::Levels,
+            FormSlip::LikeMessage | FormSlip::Caption => Section::Levels,
             FormSlip::RuleLine => Section::Layers,
         },
     }

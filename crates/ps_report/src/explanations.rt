@@ -52,7 +52,8 @@ const EXPLANATIONS: [(FaultKind, &str); 45] = [
     ),
     (
         FaultKind::Cycle,
-        "A name of LEGEND stands for itself, directly or through other names.",
+        "A name of LEGEND stands for itself, directly or through other names. \
+        One of these lines has to name an object, as `Wall = Brick` does.",
     ),
     (
         FaultKind::AggregateInProperty,
@@ -70,8 +71,16 @@ const EXPLANATIONS: [(FaultKind, &str); 45] = [
         FaultKind::NoLayer,
         "No line of COLLISIONLAYERS gives the object a layer.",
     ),
-    (FaultKind::NoBackground, "Nothing declares `Background`."),
-    (FaultKind::NoPlayer, "Nothing declares `Player`."),
+    (
+        FaultKind::NoBackground,
+        "Nothing declares `Background`. \
+        Name an object so, or write a line such as `Background = Floor` in LEGEND.",
+    ),
+    (
+        FaultKind::NoPlayer,
+        "Nothing declares `Player`. \
+        Name an object so, or write a line such as `Player = Hero` in LEGEND.",
+    ),
     (
         FaultKind::BadBackground,
         "`Background` is an aggregate, a name for several objects at once, or its members lie on several layers.",
@@ -126,11 +135,13 @@ const EXPLANATIONS: [(FaultKind, &str); 45] = [
     ),
     (
         FaultKind::PlusAlone,
-        "A rule begins with `+`, but there is no rule above it, or none since the last loop line.",
+        "A rule begins with `+`, but there is no rule above it, or none since the last loop line. \
+        Write it without: `[ A ] -> [ B ]`.",
     ),
     (
         FaultKind::PlusLate,
-        "A rule with `+` is late and the one before isn't, or the other way round.",
+        "A rule with `+` is late and the one before isn't, or the other way round. \
+        Write `late` in both or in neither: `+ late [ A ] -> [ B ]`.",
     ),
     (
         FaultKind::Loop,
@@ -159,7 +170,8 @@ const EXPLANATIONS: [(FaultKind, &str); 45] = [
     ),
     (
         FaultKind::NoLevel,
-        "LEVELS has no level; messages don't count.",
+        "LEVELS has no level; messages don't count. \
+        A level is rows of characters such as `#P.#`, each a name of one character.",
     ),
     (
         FaultKind::TooManyEntries,

@@ -776,7 +776,8 @@ const EXPLANATIONS: [(Told, &[Line]); 5] = [
             reads: 0,
             status: 0,
             shown: "",
-            printed: "LEVELS has no level; messages don't count.\n",
+            printed: "LEVELS has no level; messages don't count. A level is rows of characters such as `#P.#`, \
+                each a name of one character.\n",
             complained: "",
         },
         &[(&["ps_play", "--explain", "LV4"], "")],
@@ -788,7 +789,7 @@ const EXPLANATIONS: [(Told, &[Line]); 5] = [
             reads: 0,
             status: 0,
             shown: "",
-            printed: "Nothing declares `Player`.\n",
+            printed: "Nothing declares `Player`. Name an object so, or write a line such as `Player = Hero` in LEGEND.\n",
             complained: "",
         },
         &[

@@ -15,6 +15,7 @@ use Rattle.ps_model.specs.game.Games.{Game, faults, faults_beside, game, game_of
 use Rattle.ps_laws.proofs.texts.OneGame.{fault_bars_game, first_is_fault}
 use Rattle.ps_warnings.specs.declared.kinds.Warning.{Warning}
 use Rattle.ps_warnings.specs.Brought.{objects_there}
+use Rattle.ps_warnings.specs.GroundWarnings.{ground_warnings}
 use Rattle.ps_warnings.specs.InOrder.{in_order}
 use Rattle.ps_warnings.specs.LayerWarnings.{layer_warnings}
 use Rattle.ps_warnings.specs.LevelStarts.{number_of}
@@ -176,13 +177,22 @@ wins_told lines wins read names there marks header before first w n t m h e =
 
 -- declarations --------------------------------------------------------------------------------------------------------
 
-pub declarations_told : (lines layers : List Line) (read : Game) (names : Names) (before first : List Warning) →
-    section_lines lines Layers ≡ layers → names ≡ read.names → first ≡ before ++ unused_in read lines →
-    first ++ layer_warnings names layers ≡ before ++ declarations_in read lines
-declarations_told lines layers read names before first l n e =
-    ap (λ (told : List Warning). told ++ layer_warnings names layers) e
-    ∙ append_assoc before (unused_in read lines) (layer_warnings names layers)
-    ∙ ap₂ (λ (own : Names) (ls : List Line). before ++ (unused_in read lines ++ layer_warnings own ls)) n (sym l)
+pub declarations_told : (lines layers : List Line) (read : Game) (names : Names) (before first none twice ones nothing
+    crowded others : List Warning) → section_lines lines Layers ≡ layers → names ≡ read.names →
+    first ≡ before ++ unused_in read lines → none ≡ [] → twice ≡ none ++ layer_warnings names layers → ones ≡ twice →
+    nothing ≡ [] → crowded ≡ nothing ++ ground_warnings read.names read.rules layers → others ≡ crowded →
+    first ++ in_order ones others ≡ before ++ declarations_in read lines
+declarations_told lines layers read names before first none twice ones nothing crowded others l n e m t o v c h =
+    let ground : List Line → List Warning = λ ls. ground_warnings read.names read.rules ls in
+    let told : in_order ones others ≡ in_order (layer_warnings read.names (section_lines lines Layers))
+    (ground (section_lines lines Layers)) =
+    ap₂ in_order
+    (o ∙ t ∙ ap (λ (xs : List Warning). xs ++ layer_warnings names layers) m
+    ∙ ap₂ (λ (own : Names) (ls : List Line). layer_warnings own ls) n (sym l))
+    (h ∙ c ∙ ap (λ (xs : List Warning). xs ++ ground layers) v ∙ ap ground (sym l)) in
+    ap₂ (λ (xs ys : List Warning). xs ++ ys) e told
+    ∙ append_assoc before (unused_in read lines) (in_order (layer_warnings read.names (section_lines lines Layers))
+    (ground (section_lines lines Layers)))
 
 -- the prelude ---------------------------------------------------------------------------------------------------------
 

@@ -1,4 +1,5 @@
 pub mod Brought
+pub mod GroundWarnings
 pub mod InOrder
 pub mod LayerWarnings
 pub mod LeftNames
@@ -6,6 +7,7 @@ pub mod LevelStarts
 pub mod LevelWarnings
 pub mod Marks
 pub mod MeaningsSeen
+pub mod Moved
 pub mod NameWarnings
 pub mod NearWords
 pub mod Needs

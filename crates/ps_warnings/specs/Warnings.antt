@@ -8,6 +8,7 @@ use Rattle.ps_model.specs.text.TextFaults.{text_fault}
 use Rattle.ps_model.specs.game.Games.{Game, game_of_lines}
 use Rattle.ps_warnings.specs.declared.kinds.Warning.{Warning}
 use Rattle.ps_warnings.specs.Brought.{objects_there}
+use Rattle.ps_warnings.specs.GroundWarnings.{ground_warnings}
 use Rattle.ps_warnings.specs.InOrder.{in_order}
 use Rattle.ps_warnings.specs.OptionWarnings.{option_warnings}
 use Rattle.ps_warnings.specs.RoomWarnings.{room_warnings}
@@ -36,7 +37,10 @@ unused_in read lines =
 
 -- those of OBJECTS, LEGEND and COLLISIONLAYERS of lines that are this game
 abbrev pub declarations_in : Game → List Line → List Warning
-declarations_in read lines = unused_in read lines ++ layer_warnings read.names (section_lines lines Layers)
+declarations_in read lines =
+    unused_in read lines
+    ++ in_order (layer_warnings read.names (section_lines lines Layers))
+    (ground_warnings read.names read.rules (section_lines lines Layers))
 
 -- those of the rules of lines that are this game
 abbrev pub rules_in : Game → List Line → List Warning

@@ -7,7 +7,7 @@ use Rattle.ps_warnings.specs.declared.kinds.WarningKind.TheVariants.{NearWord, I
 use Rattle.ps_warnings.specs.declared.kinds.WarningKind.TheVariants.{LongRow, RuleTwice, ShortRow, UnusedObject}
 use Rattle.ps_warnings.specs.declared.kinds.WarningKind.TheVariants.{ApartWin, LackingRule, LackingWin, UnusedName}
 use Rattle.ps_warnings.specs.declared.kinds.WarningKind.TheVariants.{IdleRooms, LateTwice, LayerTwice, NothingWins}
-use Rattle.ps_warnings.specs.declared.kinds.WarningKind.TheVariants.{NoText}
+use Rattle.ps_warnings.specs.declared.kinds.WarningKind.TheVariants.{NoRoom, NoText}
 use Rattle.ps_warnings.specs.PreludeWords.{word_text}
 
 -- a line of the prelude is surely meant to begin with the word
@@ -31,6 +31,8 @@ sentence IdleRooms = codes "this line has no effect, as no level is larger than 
 sentence UnusedObject = codes "no level, rule or win condition uses this object"
 sentence UnusedName = codes "no rule, win condition, layer or other name uses this name"
 sentence (LayerTwice line) = layer_sentence line
+sentence NoRoom =
+    codes "an object that moves is on the layer of Background, where it has no room: put Background on a line of its own"
 sentence IdleRule = codes "this rule has no effect"
 sentence LackingRule = codes "this rule can never apply, as it needs an object that no level has and no rule makes"
 sentence (RuleTwice line) = twice_sentence line

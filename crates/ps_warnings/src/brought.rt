@@ -19,7 +19,7 @@ use ps_text::List;
 use std::alloc::Global;
 
 /// Puts a name on the right of a rule last, unless its left has it.
-fn push_unless<'g>(
+pub fn push_unless<'g>(
     made: &mut Vec<&'g Meaning>,
     is_left: bool,
     meaning: &'g Meaning,

@@ -5,6 +5,8 @@ ghost use Rattle.ps_model.specs.text.Lines.{lines_of};
 ghost use Rattle.ps_sections.specs.SectionPlaces.{AreSections};
 ghost use Rattle.ps_warnings.specs.Warnings.{declarations_in};
 
+use crate::grounds::warn_of_ground;
+use crate::in_order::push_in_order;
 use crate::kinds::Warning;
 use crate::layers::warn_of_layers;
 use crate::unused::warn_of_unused;
@@ -26,5 +28,9 @@ pub fn warn_of_declarations(
     ensures { OnOk result (told.new.items ≡ told.old.items ++ declarations_in game.now (lines_of source.now)) }
 {
     warn_of_unused(alloc, source, sections, game, told)?;
-    warn_of_layers(alloc, source, &game.names, &sections.layers, told)
+    let mut twice = Vec::new(alloc);
+    warn_of_layers(alloc, source, &game.names, &sections.layers, &mut twice)?;
+    let mut crowded = Vec::new(alloc);
+    warn_of_ground(alloc, source, game, &sections.layers, &mut crowded)?;
+    push_in_order(told, &twice, &crowded)
 }

@@ -28,6 +28,8 @@ pub enum WarningKind {
     UnusedName,
     /// The line of COLLISIONLAYERS names an object that is on the layer of this line, which names it too.
     LayerTwice(u32),
+    /// An object that moves shares the layer of Background, which is this line: it never has room.
+    NoRoom,
     /// The rule can do nothing: whatever it may mean fits nothing, or changes nothing and asks for nothing.
     IdleRule,
     /// The rule can never apply: it needs an object that no level has and no rule makes.

@@ -84,7 +84,7 @@ fn first_by_words(
 }
 
 /// The number of the line that is the layer of that number; 0 where none is.
-fn number_at(numbers: &[u32], layer: u32) -> u32
+pub fn number_at(numbers: &[u32], layer: u32) -> u32
     ensures { result ≡ slice_index_or numbers.now layer 0 }
 {
     let number = numbers.get(layer as usize);
@@ -153,7 +153,7 @@ fn push_number(source: &Source, line: u32, numbers: &mut Vec<u32>) -> Result<(),
 }
 
 /// The numbers of the lines that are layers, from the lowest.
-fn layer_numbers(alloc: Global, source: &Source, lines: &Range<u32>) -> Result<Vec<u32>, Memory>
+pub fn layer_numbers(alloc: Global, source: &Source, lines: &Range<u32>) -> Result<Vec<u32>, Memory>
     requires { HasLines source.now lines.now.start lines.now.end }
     ensures { IfOk result (λ numbers. numbers.items
         ≡ layer_numbers (lines_between source.now lines.now.start lines.now.end)) }

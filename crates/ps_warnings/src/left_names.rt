@@ -51,7 +51,7 @@ fn is_in_items(meaning: &Meaning, items: &[Item]) -> bool
 }
 
 /// Whether a name stands on the left of a cell.
-fn is_in_cell(meaning: &Meaning, cell: &CellPair) -> bool
+pub fn is_in_cell(meaning: &Meaning, cell: &CellPair) -> bool
     ensures { result ≡ is_in_cell (meaning_shown meaning.now) (cell_shown cell.now) }
 {
     is_in_items(meaning, cell.left.as_slice())

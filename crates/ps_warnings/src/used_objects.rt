@@ -95,3 +95,13 @@ pub fn used_objects(
     mark_used(&mut marks, spoken, entries);
     Ok(marks)
 }
+
+/// A mark for each of `count` objects, which those of meanings have.
+pub fn objects_of(alloc: Global, count: usize, meant: &[&Meaning]) -> Result<Vec<bool>, Memory>
+    ensures { IfOk result (λ marks. marks.items
+        ≡ marked (replicate count false) (objects_meant (meanings_seen meant.now))) }
+{
+    let mut marks = Vec::from_elem(alloc, false, count)?;
+    mark_meant(&mut marks, meant);
+    Ok(marks)
+}

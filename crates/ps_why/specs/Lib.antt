@@ -10,6 +10,7 @@ pub mod Page
 pub mod RuleWording
 pub mod SectionNames
 pub mod Shown
+pub mod ShownLine
 pub mod SlipWords
 pub mod Told
 pub mod Wording

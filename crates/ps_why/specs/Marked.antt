@@ -12,7 +12,7 @@ use Rattle.ps_causes.specs.declared.causes.LoopCause.TheVariants.{Nested, Unbegu
 use Rattle.ps_causes.specs.declared.causes.ObjectCause.{ObjectCause}
 use Rattle.ps_causes.specs.declared.causes.ObjectCause.TheVariants.{RowName, Colourless, ShortSprite}
 use Rattle.ps_causes.specs.declared.causes.RuleCause.{RuleCause}
-use Rattle.ps_causes.specs.declared.causes.RuleCause.TheVariants.{Pair, Several, Unbound, Rows, Cells, GoesOn}
+use Rattle.ps_causes.specs.declared.causes.RuleCause.TheVariants.{BrokenArrow, Pair, Several, Unbound, Rows, Cells, GoesOn}
 use Rattle.ps_causes.specs.declared.causes.WholeCause.{WholeCause}
 use Rattle.ps_causes.specs.declared.causes.WholeCause.TheVariants.{AllAtOnce, AnyOfThem, OnTwoLayers, OnOneLayer}
 use Rattle.ps_why.specs.declared.marks.Mark.{Mark}
@@ -66,15 +66,17 @@ marked_in_rule (Several word declared) = word
 marked_in_rule (Unbound word times could) = word
 marked_in_rule (Rows arrow left right) = arrow
 marked_in_rule (Cells arrow row left right) = arrow
+marked_in_rule (BrokenArrow word other) = word
 marked_in_rule (GoesOn word further) = word
 
--- of two names both
+-- of two names both, and of the two words of an arrow
 abbrev pub marks_in_rule : RuleCause → Option Marks
 marks_in_rule (Pair word other shared) = marks_of_two word other
 marks_in_rule (Several word declared) = mark_of_word word
 marks_in_rule (Unbound word times could) = mark_of_word word
 marks_in_rule (Rows arrow left right) = mark_of_word arrow
 marks_in_rule (Cells arrow row left right) = mark_of_word arrow
+marks_in_rule (BrokenArrow word other) = marks_of_two word other
 marks_in_rule (GoesOn word further) = mark_of_word word
 
 -- the word of a line that begins or ends a loop

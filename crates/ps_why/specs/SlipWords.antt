@@ -4,7 +4,7 @@ use Rattle.ps_facts.specs.declared.slips.ShapeSlip.{ShapeSlip}
 use Rattle.ps_facts.specs.declared.slips.ShapeSlip.TheVariants.{LikeArrow, LikeBracket, NoArrow, SecondArrow}
 use Rattle.ps_facts.specs.declared.slips.ShapeSlip.TheVariants.{Nested, Unclosed}
 use Rattle.ps_facts.specs.declared.slips.ShapeSlip.TheVariants.{LoneClosing, NothingLeft, NothingRight, BarOutside}
-use Rattle.ps_facts.specs.declared.slips.ShapeSlip.TheVariants.{DirectionOutside, WordOutside, LongArrow}
+use Rattle.ps_facts.specs.declared.slips.ShapeSlip.TheVariants.{DirectionOutside, WordOutside, LongArrow, NoCells}
 use Rattle.ps_facts.specs.declared.slips.RuleSlip.{RuleSlip}
 use Rattle.ps_facts.specs.declared.slips.RuleSlip.TheVariants.{LoopWords, MessageAlone, LateMove, Chance}
 use Rattle.ps_facts.specs.declared.slips.RuleSlip.TheVariants.{Rigid}
@@ -20,7 +20,7 @@ use Rattle.ps_facts.specs.declared.slips.FormSlip.TheVariants.{NoQuantifier}
 use Rattle.ps_facts.specs.declared.slips.FormSlip.TheVariants.{NoOn, FurtherWord, WinEnds, SecondName, ThirdName}
 use Rattle.ps_facts.specs.declared.slips.FormSlip.TheVariants.{NameAgain, RealTime, WinComment}
 use Rattle.ps_facts.specs.declared.slips.FormSlip.TheVariants.{RoomSize, NoRoomSize, LikeMessage, LegendLine}
-use Rattle.ps_facts.specs.declared.slips.FormSlip.TheVariants.{RuleLine}
+use Rattle.ps_facts.specs.declared.slips.FormSlip.TheVariants.{Caption, RuleLine}
 use Rattle.ps_facts.specs.declared.slips.Slip.{Slip}
 use Rattle.ps_facts.specs.declared.slips.Slip.TheVariants.{Shape, Rule, Place, Form}
 
@@ -36,6 +36,7 @@ shape_front Unclosed = codes "No `]` closes this `"
 shape_front LoneClosing = codes "No `[` is open before this `"
 shape_front NothingLeft = codes "There are no brackets to the left of `"
 shape_front NothingRight = codes "Nothing comes after `"
+shape_front NoCells = codes "This rule has only `"
 shape_front BarOutside = codes "`"
 shape_front DirectionOutside = codes "`"
 shape_front WordOutside = codes "`"
@@ -52,6 +53,7 @@ shape_back Unclosed = codes "` on its side of `->`."
 shape_back LoneClosing = codes "` on its side of `->`."
 shape_back NothingLeft = codes "`."
 shape_back NothingRight = codes "`: a rule is written on one line."
+shape_back NoCells = codes "`: its cells have to be in `[` and `]`, as `(` begins a comment."
 shape_back BarOutside = codes "` is outside brackets: it separates the cells of a row."
 shape_back DirectionOutside = codes "` is after `->`: the directions of a rule come before the first `[`."
 shape_back WordOutside = codes "` is outside brackets."
@@ -131,6 +133,7 @@ form_front WinComment = codes "Comments are written between `(` and `)`: `"
 form_front LegendLine = codes "A line such as `X = Y` belongs below the header LEGEND, but this one is in OBJECTS: `"
 form_front RoomSize = codes "After `flickscreen` comes the size of a room in one word, such as `5x5`: here it is `"
 form_front NoRoomSize = codes "The size of a room, such as `5x5`, has to come after `"
+form_front Caption = codes "A text that is to be shown begins with `message`, as `message "
 form_front RuleLine = codes "A rule belongs below the header RULES, but this line is in COLLISIONLAYERS: `"
 form_front LikeMessage = codes "A message begins with the word `message` and a blank: this line begins with `"
 
@@ -153,6 +156,7 @@ form_back WinComment = codes "` doesn't begin one."
 form_back LegendLine = codes "` is its second word."
 form_back RoomSize = codes "`."
 form_back NoRoomSize = codes "`."
+form_back Caption = codes " ..` does."
 form_back RuleLine = codes "` begins a row of a rule."
 form_back LikeMessage = codes "`."
 

@@ -7,6 +7,7 @@ use Rattle.ps_why.specs.Columns.{column_of}
 use Rattle.ps_why.specs.Marked.{marks_of}
 use Rattle.ps_why.specs.Page.{line_shown}
 use Rattle.ps_why.specs.Shown.{shown_text}
+use Rattle.ps_why.specs.ShownLine.{shown_line}
 use Rattle.ps_why.specs.Wording.{sentence}
 
 -- lines on a line of a text, a column, and words, by a cause that is true of the text: the line with the marks of the
@@ -14,6 +15,7 @@ use Rattle.ps_why.specs.Wording.{sentence}
 pub record TellsTruth (text : List ℕ) (line column : ℕ) (lines words : List ℕ) : Type 0 where
   pub cause : Cause
   pub is_true : IsToldAt text line cause
-  pub are_lines : lines ≡ (if nat_lt TEXT_LIMIT (length text) then [] else line_shown text line (marks_of cause))
+  pub are_lines : lines ≡ (if nat_lt TEXT_LIMIT (length text) then []
+      else line_shown text (shown_line line cause) (marks_of cause))
   pub is_column : column ≡ column_of text line (marks_of cause)
   pub are_words : words ≡ shown_text (sentence cause)

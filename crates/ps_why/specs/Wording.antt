@@ -107,9 +107,15 @@ abbrev pub zero_words : ℕ → List ℕ
 zero_words place =
     codes " Byte " ++ (decimal place ++ codes " of the text is zero, as in UTF-16: save the text as UTF-8.")
 
+-- that a text is empty, and what a game needs, after a blank
+abbrev pub empty_words : List ℕ
+empty_words =
+    codes " The text is empty: a game needs OBJECTS with Background and Player, COLLISIONLAYERS, and LEVELS with a level."
+
 -- what a section that isn't there may come from, after a blank
 abbrev pub clue_words : Clue → List ℕ
 clue_words clues.Nothing = []
+clue_words clues.Empty = empty_words
 clue_words (clues.Like line) = like_words line
 clue_words (clues.Open line) = open_words line
 clue_words (clues.Returns place) = returns_words place

@@ -15,6 +15,7 @@ mod open_wording;
 mod page;
 mod rule_wording;
 mod section_names;
+mod shown_line;
 mod slip_words;
 mod whys;
 mod wording;

@@ -84,12 +84,13 @@ fn mark_of_character(word: Word<'_>, column: usize) -> Option<Marks>
     alone(Mark { from, to: from + 1 })
 }
 
-/// What stands below words of a rule: of two names both.
+/// What stands below words of a rule: of two names both, and of the two words of an arrow.
 fn marks_in_rule(cause: RuleCause<'_>) -> Option<Marks>
     ensures { result ≡ marks_in_rule cause.entry }
 {
     match cause {
-        RuleCause::Pair { word, other, .. } => marks_of_two(word, other),
+        RuleCause::Pair { word, other, .. } | RuleCause::BrokenArrow { word, other } =>
+            marks_of_two(word, other),
         _ => mark_of_word(marked_in_rule(cause)),
     }
 }
@@ -102,6 +103,7 @@ fn marked_in_rule<'a>(cause: RuleCause<'a>) -> Word<'a>
         RuleCause::Pair { word, .. }
         | RuleCause::Several { word, .. }
         | RuleCause::Unbound { word, .. }
+        | RuleCause::BrokenArrow { word, .. }
         | RuleCause::GoesOn { word, .. } => word,
         RuleCause::Rows { arrow, .. } | RuleCause::Cells { arrow, .. } => arrow,
     }

@@ -3,7 +3,7 @@
 ghost use Rattle.std.specs.Prelude.{◌≡◌, IfOk, string_bytes};
 ghost use Rattle.ps_why.specs.RuleWording.{pair_words, several_words, unbound_words, rows_words, cells_words};
 ghost use Rattle.ps_why.specs.RuleWording.{part_words, going_on_words, rule_sentence, shared_words, could_words};
-ghost use Rattle.ps_why.specs.RuleWording.{further_words, other_words};
+ghost use Rattle.ps_why.specs.RuleWording.{broken_words, further_words, lone_words, other_words, several_left_words};
 ghost use Rattle.ps_causes.specs.declared.causes.Could.TheVariants.{Either};
 
 use ps_causes::{Could, Further, Part, RuleCause, Shared, Spot};
@@ -85,7 +85,7 @@ fn either_words(
 fn other_words(alloc: Global, name: &str, cell: usize) -> Result<String, Memory>
     ensures { IfOk result (λ words. string_bytes words ≡ other_words name.now cell) }
 {
-    let words = format!(in alloc; ". It has another property, `{name}` in cell {cell}.")?;
+    let words = format!(in alloc; ". The left has another property, `{name}` in cell {cell}.")?;
     Ok(words)
 }
 
@@ -103,6 +103,28 @@ fn could_words(alloc: Global, times: usize, could: Could<'_>) -> Result<String, 
     }
 }
 
+/// That a word of the right isn't on the left, and what else is said.
+fn lone_words(alloc: Global, word: &str, back: &str) -> Result<String, Memory>
+    ensures { IfOk result (λ words. string_bytes words ≡ lone_words word.now back.now) }
+{
+    let words = format!(in alloc;
+        "`{word}` on the right has to be on the left too, to say which one is meant: \
+        there is none to the left of `->`, `no` aside{back}"
+    )?;
+    Ok(words)
+}
+
+/// That the left has a word of the right `times` times, and what else is said.
+fn several_left_words(alloc: Global, word: &str, times: usize, back: &str) -> Result<String, Memory>
+    ensures { IfOk result (λ words. string_bytes words ≡ several_left_words word.now times back.now) }
+{
+    let words = format!(in alloc;
+        "`{word}` on the right means that of the same cell on the left, or else the only one there: \
+        the left has {times}{back}"
+    )?;
+    Ok(words)
+}
+
 /// That nothing decides a word of the right.
 fn unbound_words(
     alloc: Global,
@@ -113,11 +135,10 @@ fn unbound_words(
     ensures { IfOk result (λ words. string_bytes words ≡ unbound_words word.now times could.entry) }
 {
     let back = could_words(alloc, times, could)?;
-    let words = format!(in alloc;
-        "`{word}` on the right means that of the same cell on the left, or else the only one there: \
-        the left has {times}{back}"
-    )?;
-    Ok(words)
+    if times == 0 {
+        return lone_words(alloc, word, &back);
+    }
+    several_left_words(alloc, word, times, &back)
 }
 
 /// How many rows stand on the two sides.
@@ -138,6 +159,16 @@ fn cells_words(alloc: Global, row: usize, left: usize, right: usize) -> Result<S
     let words = format!(in alloc;
         "A row needs the same number of cells on both sides of `->`: here row {row} has {left} on the left, \
         {right} on the right."
+    )?;
+    Ok(words)
+}
+
+/// That two words make no arrow.
+fn broken_words(alloc: Global, word: &str, other: &str) -> Result<String, Memory>
+    ensures { IfOk result (λ words. string_bytes words ≡ broken_words word.now other.now) }
+{
+    let words = format!(in alloc;
+        "The arrow of a rule is `->`, in one piece: this line has `{other}` and `{word}` in its place."
     )?;
     Ok(words)
 }
@@ -186,6 +217,7 @@ pub fn rule_sentence(alloc: Global, cause: RuleCause<'_>) -> Result<String, Memo
             right,
             ..
         } => cells_words(alloc, row, left, right),
+        RuleCause::BrokenArrow { word, other } => broken_words(alloc, word.text(), other.text()),
         RuleCause::GoesOn { further, .. } => going_on_words(alloc, further),
     }
 }

@@ -23,6 +23,7 @@ fn shape_front(slip: ShapeSlip) -> &'static str
         ShapeSlip::LoneClosing => "No `[` is open before this `",
         ShapeSlip::NothingLeft => "There are no brackets to the left of `",
         ShapeSlip::NothingRight => "Nothing comes after `",
+        ShapeSlip::NoCells => "This rule has only `",
         ShapeSlip::SecondArrow
         | ShapeSlip::BarOutside
         | ShapeSlip::DirectionOutside
@@ -45,6 +46,7 @@ fn shape_back(slip: ShapeSlip) -> &'static str
         ShapeSlip::LoneClosing => "` on its side of `->`.",
         ShapeSlip::NothingLeft => "`.",
         ShapeSlip::NothingRight => "`: a rule is written on one line.",
+        ShapeSlip::NoCells => "`: its cells have to be in `[` and `]`, as `(` begins a comment.",
         ShapeSlip::BarOutside => "` is outside brackets: it separates the cells of a row.",
         ShapeSlip::DirectionOutside =>
             "` is after `->`: the directions of a rule come before the first `[`.",
@@ -159,6 +161,7 @@ fn form_front(slip: FormSlip) -> &'static str
         FormSlip::NoRoomSize => "The size of a room, such as `5x5`, has to come after `",
         FormSlip::LikeMessage =>
             "A message begins with the word `message` and a blank: this line begins with `",
+        FormSlip::Caption => "A text that is to be shown begins with `message`, as `message ",
         FormSlip::RuleLine =>
             "A rule belongs below the header RULES, but this line is in COLLISIONLAYERS: `",
         FormSlip::NameAgain | FormSlip::RealTime => "`",
@@ -183,6 +186,7 @@ fn form_back(slip: FormSlip) -> &'static str
         | FormSlip::RoomSize
         | FormSlip::NoRoomSize
         | FormSlip::LikeMessage => "`.",
+        FormSlip::Caption => " ..` does.",
         FormSlip::WinComment => "` doesn't begin one.",
         FormSlip::RuleLine => "` begins a row of a rule.",
         FormSlip::NameAgain =>

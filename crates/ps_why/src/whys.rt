@@ -9,6 +9,7 @@ use crate::characters::shown;
 use crate::columns::column_of;
 use crate::marked::marks_of;
 use crate::page::line_shown;
+use crate::shown_line::shown_line;
 use crate::wording::sentence;
 use ps_causes::{Cause, cause_of, no_utf8_cause};
 use ps_model::{Fault, Memory, Refusal, TEXT_LIMIT};
@@ -19,7 +20,8 @@ use std::alloc::Global;
 #[derive(Drop)]
 pub struct Details {
     /// The line that has the fault, after its number, and below it a mark under the words that it is about, if there
-    /// are such. Each line ends with a line feed. Of a text that is too long, nothing.
+    /// are such. Where a section isn't there, the line that this may come from. Each line ends with a line feed. Of a
+    /// text that is too long, nothing.
     pub line: String,
     /// The column of the line in which the mark begins, counted in characters from 1; the first where nothing is
     /// marked.
@@ -36,7 +38,7 @@ fn told_by(alloc: Global, text: &[u8], fault: Fault, cause: Cause<'_>) -> Result
         TellsTruth text.now fault.line told.column (string_bytes told.line) (string_bytes told.sentence)) }
 {
     let marks = marks_of(cause);
-    let line = line_shown(alloc, text, fault.line, marks)?;
+    let line = line_shown(alloc, text, shown_line(fault.line, cause), marks)?;
     let column = column_of(text, fault.line, marks);
     let words = sentence(alloc, cause)?;
     let sentence = shown(alloc, &words)?;

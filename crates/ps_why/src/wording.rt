@@ -3,7 +3,7 @@
 ghost use Rattle.std.specs.Prelude.{◌≡◌, IfOk, string_bytes};
 ghost use Rattle.ps_why.specs.Wording.{sentence, hint_words, blank_words, near_words, strange_words};
 ghost use Rattle.ps_why.specs.Wording.{undeclared_words, meaningless_words, unlayered_words, glyph_words, broken_words};
-ghost use Rattle.ps_why.specs.Wording.{late_words, like_words, open_words, returns_words, clue_words, missing_words};
+ghost use Rattle.ps_why.specs.Wording.{empty_words, late_words, like_words, open_words, returns_words, clue_words, missing_words};
 ghost use Rattle.ps_why.specs.Wording.{case_words, twice_words, broken_byte_words, commas_words, slashes_words};
 ghost use Rattle.ps_why.specs.Wording.{key_word_words, like_header_words, below_like_words, utf16_words, zero_words};
 
@@ -174,12 +174,23 @@ fn zero_words(alloc: Global, place: usize) -> Result<String, Memory>
     Ok(words)
 }
 
+/// That a text is empty, and what a game needs, after a blank.
+fn empty_words() -> &'static str
+    ensures { result.now ≡ empty_words }
+{
+    " The text is empty: a game needs OBJECTS with Background and Player, COLLISIONLAYERS, and LEVELS with a level."
+}
+
 /// What a section that isn't there may come from, after a blank.
 fn clue_words(alloc: Global, clue: Clue) -> Result<String, Memory>
     ensures { IfOk result (λ words. string_bytes words ≡ clue_words clue) }
 {
     match clue {
         Clue::Nothing => Ok(String::new(alloc)),
+        Clue::Empty => {
+            let words = String::from_str(alloc, empty_words())?;
+            Ok(words)
+        }
         Clue::Like(line) => like_words(alloc, line),
         Clue::Open(line) => open_words(alloc, line),
         Clue::Returns(place) => returns_words(alloc, place),

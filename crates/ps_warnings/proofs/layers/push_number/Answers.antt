@@ -1,6 +1,5 @@
 use Rattle.std.proofs.Common.{rules, ◌≡◌, ◌∙◌, ◌++◌, ℕ, Bool, List, true, ap₂, sym, subst}
 use Rattle.std.specs.Prelude.{OnOk, not}
-use Rattle.ps_model.specs.text.Lines.{is_blank_line}
 use Rattle.ps_model.specs.text.LineNumbers.{line_at}
 use Rattle.ps_laws.proofs.common.LinesInOrder.{line_at-number}
 use Rattle.ps_warnings.specs.LayerWarnings.{layer_number}

@@ -1,4 +1,4 @@
-use Rattle.std.proofs.Common.{◌≡◌, ◌++◌, List, OnOk, ap, subst}
+use Rattle.std.proofs.Common.{◌≡◌, List, OnOk, ap, subst}
 use Rattle.ps_model.specs.text.Lines.{lines_of}
 use Rattle.ps_model.specs.game.Games.{Game}
 use Rattle.ps_warnings.specs.declared.kinds.Warning.{Warning}

@@ -1,4 +1,4 @@
-use Rattle.std.proofs.Common.{rules, ◌≡◌, ◌++◌, List, true, sym, subst}
+use Rattle.std.proofs.Common.{rules, ◌≡◌, List, true, sym, subst}
 use Rattle.std.specs.Prelude.{OnOk}
 use Rattle.ps_model.specs.declared.texts.Cut.TheVariants.{Rule}
 use Rattle.ps_model.specs.text.LineNumbers.{line_at}

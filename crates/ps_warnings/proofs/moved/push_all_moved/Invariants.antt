@@ -1,0 +1,12 @@
+use Rattle.std.proofs.Common.{◌≡◌, ◌++◌, drop}
+use Rattle.std.specs.List.{flat_map}
+use Rattle.ps_rules.specs.RulesShown.{items_shown}
+use Rattle.ps_warnings.specs.MeaningsSeen.{meanings_seen}
+use Rattle.ps_warnings.specs.Moved.{moved_by_item}
+use Rattle.ps_warnings.proofs.moved.push_all_moved.Given as goal
+
+-- what is left comes to the whole
+abbrev pub invariant-loop-item : goal.invariant-loop-item
+invariant-loop-item l =
+    meanings_seen l.made.items ++ flat_map moved_by_item (items_shown (drop l.item-index l.items))
+    ≡ meanings_seen l.initial.made.items ++ flat_map moved_by_item (items_shown l.items)
