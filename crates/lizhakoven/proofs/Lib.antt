@@ -1,3 +1,4 @@
+pub mod AsWritten
 pub mod Boxes
 pub mod Goings
 pub mod Handles

@@ -1,19 +1,21 @@
 //! A game with the programs of its rules.
 
-ghost use Rattle.std.specs.Prelude.{◌≡◌, IfOk};
+ghost use Rattle.std.specs.Prelude.{◌≡◌, ℕ, IfOk, List, Some};
+ghost use Rattle.ps_laws.specs.AlikeScripts.{SameRuns};
 ghost use Rattle.ps_levels.specs.EntriesShown.{entries_shown};
-ghost use Rattle.ps_model.specs.declared.limits.TheConstants.{SIDE_LIMIT};
+ghost use Rattle.ps_model.specs.board.Turns.{script_at};
+ghost use Rattle.ps_model.specs.game.Games.{game as game_in};
 ghost use Rattle.ps_model.specs.session.RoomSizes.{HasRoomSize};
-ghost use Rattle.ps_rulebook.specs.PlayedGames.{AreCompiled, parts_at};
-ghost use Rattle.ps_stage.specs.Playable.{ArePlayable, EntriesFit};
+ghost use Rattle.ps_run.specs.GameScripts.{script_shown};
+ghost use Rattle.ps_rulebook.specs.PlayedGames.{parts_at};
+ghost use Rattle.ps_stage.specs.Playable.{ArePlayable};
 
 use ps_compile::{CompiledPrograms, compile};
 use ps_game::Game;
 use ps_levels::Entry;
 use ps_model::Memory;
 use ps_names::Names;
-use ps_run::parts_of_game;
-use ps_stage::SessionGame;
+use ps_run::{GameScript, parts_of_game};
 use std::alloc::Global;
 use std::marker::Model;
 
@@ -77,18 +79,13 @@ impl CompiledGame {
         &self.game.entries
     }
 
-    /// What a session plays of it that begins at an entry.
-    pub fn parts_at(&self, entry: usize) -> SessionGame<'_>
-        ensures parts { result ≡ parts_at self.entry.now entry }
-        ensures fit { EntriesFit SIDE_LIMIT result.entries }
+    /// All that it is played by, begun at an entry. So it has the runs of the game as it is written, if it is the game
+    /// of a text.
+    pub fn script_at(&self, entry: usize) -> GameScript<'_>
+        ensures parts { result.game ≡ parts_at self.entry.now entry }
+        ensures as_written { (text : List ℕ) → game_in text ≡ Some self.entry.now
+            → SameRuns (script_shown result) (script_at self.entry.now entry) }
     {
-        parts_of_game(&self.game, entry)
-    }
-
-    /// The programs of its rules.
-    pub fn programs(&self) -> &CompiledPrograms
-        ensures { AreCompiled self.now.names self.now.rules result.now.plain result.now.late }
-    {
-        &self.programs
+        GameScript::new(parts_of_game(&self.game, entry), &self.programs)
     }
 }

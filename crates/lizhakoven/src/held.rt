@@ -4,7 +4,8 @@ ghost use Rattle.std.specs.Prelude.{◌≡◌, [], IfOk, OnErr, OnOk};
 ghost use Rattle.lizhakoven.specs.HeldSessions.{HasText, IsAt, with_keys};
 
 use crate::compiled_game::CompiledGame;
-use crate::looking::{look_from, text_from};
+use crate::keyed::text_of_keys;
+use crate::looking::look_along;
 use crate::played_keys::{PlayedKeys, copied_if};
 use crate::seeing::Seen;
 use ps_model::Memory;
@@ -109,14 +110,8 @@ impl HeldSession {
         ensures seen { IfOk result (λ seen. IsAt self.old cells.old cells.new seen) }
         ensures kept { OnErr result (cells.new ≡ cells.old) }
     {
-        look_from(
-            alloc,
-            &self.game,
-            self.entry,
-            &self.keys,
-            &mut self.played,
-            cells,
-        )
+        let script = self.game.script_at(self.entry);
+        look_along(alloc, script, &self.keys, &mut self.played, cells)
     }
 
     /// Plays its keys, and tells all that is written since its start.
@@ -127,6 +122,7 @@ impl HeldSession {
     pub fn text(&self, alloc: Global) -> Result<OutputText, Memory>
         ensures { IfOk result (λ wrote. HasText self.now wrote) }
     {
-        text_from(alloc, &self.game, self.entry, &self.keys)
+        let script = self.game.script_at(self.entry);
+        text_of_keys(alloc, script, &self.keys)
     }
 }

@@ -2,19 +2,16 @@
 
 ghost use Rattle.std.specs.Prelude.{◌≡◌, ◌++◌, ◌∷◌, [], ℕ, Bool, IfOk, List, OnOk, drop};
 ghost use Rattle.ps_laws.specs.Fronts.{session_of, whole_front};
-ghost use Rattle.ps_model.specs.declared.limits.TheConstants.{SIDE_LIMIT};
-ghost use Rattle.ps_run.specs.GamesInPlay.{script_in, script_on};
-ghost use Rattle.ps_stage.specs.Playable.{EntriesFit};
+ghost use Rattle.ps_run.specs.GameScripts.{script_shown};
+ghost use Rattle.ps_run.specs.GamesInPlay.{script_in};
 ghost use Rattle.lizhakoven.specs.PlayedKeys.{AreLedTo, AreLedToIf, CanGoOn, CanPlay, CanPlayByte, HasPlayed};
 ghost use Rattle.lizhakoven.specs.PlayedKeys.{HasWritten, IsOfKeys, IsOfKeysIf};
 
 use crate::played_keys::PlayedKeys;
 use ps_keys::Keys;
 use ps_model::Memory;
-use ps_program::CompiledSection;
-use ps_run::GamePlay;
+use ps_run::{GamePlay, GameScript};
 use ps_screen::OutputText;
-use ps_session::SessionGame;
 use std::alloc::Global;
 
 /// Plays the key of a byte, if it brings one after what is held, and adds what the key writes to the output.
@@ -120,51 +117,38 @@ fn play_on<'g>(
     })
 }
 
-/// A game in play, by these sections of its rules, after the keys of bytes from where it begins.
+/// A game in play after the keys of bytes from where it begins.
 ///
 /// # Errors
 ///
 /// `Memory`.
-fn play_all<'g>(
-    alloc: Global,
-    game: SessionGame<'g>,
-    plain: &'g [CompiledSection],
-    late: &'g [CompiledSection],
-    bytes: &[u8],
-) -> Result<Going<'g>, Memory>
-    requires { EntriesFit SIDE_LIMIT game.entries }
-    ensures script { IfOk result (λ going.
-        script_in going.play ≡ script_on game.entry plain.entry.now late.entry.now) }
-    ensures played { IfOk result (λ going. HasPlayed going.is_whole
-        (script_on game.entry plain.entry.now late.entry.now) going.play.session going.keys bytes.now) }
+fn play_all<'g>(alloc: Global, script: GameScript<'g>, bytes: &[u8]) -> Result<Going<'g>, Memory>
+    ensures script { IfOk result (λ going. script_in going.play ≡ script_shown script.entry) }
+    ensures played { IfOk result (λ going.
+        HasPlayed going.is_whole (script_shown script.entry) going.play.session going.keys bytes.now) }
 {
     let mut output = OutputText::new(alloc);
-    let play = GamePlay::start(alloc, game, plain, late, &mut output)?;
+    let play = GamePlay::start(alloc, script, &mut output)?;
     let going = play_on(play, Keys::new(), true, bytes, &mut output)?;
     Ok(going)
 }
 
-/// A game in play, by these sections of its rules, after the keys of bytes, of which what is kept has played the first.
+/// A game in play after the keys of bytes, of which what is kept has played the first.
 ///
 /// # Errors
 ///
 /// `Memory`.
 fn play_others<'g>(
     alloc: Global,
-    game: SessionGame<'g>,
-    plain: &'g [CompiledSection],
-    late: &'g [CompiledSection],
+    script: GameScript<'g>,
     bytes: &[u8],
     before: PlayedKeys,
 ) -> Result<Going<'g>, Memory>
-    requires fit { EntriesFit SIDE_LIMIT game.entries }
-    requires of_keys { IsOfKeys game.names bytes.now before }
+    requires of_keys { IsOfKeys script.game.names bytes.now before }
     requires goes_on { CanPlay before.is_whole (drop before.count bytes.now) }
-    ensures script { IfOk result (λ going.
-        script_in going.play ≡ script_on game.entry plain.entry.now late.entry.now) }
-    ensures played { let script = script_on game.entry plain.entry.now late.entry.now in
-        AreLedTo script bytes.now before
-        → IfOk result (λ going. HasPlayed going.is_whole script going.play.session going.keys bytes.now) }
+    ensures script { IfOk result (λ going. script_in going.play ≡ script_shown script.entry) }
+    ensures played { AreLedTo (script_shown script.entry) bytes.now before → IfOk result (λ going.
+        HasPlayed going.is_whole (script_shown script.entry) going.play.session going.keys bytes.now) }
 {
     let PlayedKeys {
         rested,
@@ -174,58 +158,49 @@ fn play_others<'g>(
     } = before;
     let (_, more) = bytes.split_at(count);
     let mut output = OutputText::new(alloc);
-    let play = GamePlay::resume(alloc, game, plain, late, rested)?;
+    let play = GamePlay::resume(alloc, script, rested)?;
     let going = play_on(play, keys, is_whole, more, &mut output)?;
     Ok(going)
 }
 
-/// A game in play, by these sections of its rules, after the keys of bytes from where it begins. Where something is
-/// kept of the first of them, only the others are played.
+/// A game in play after the keys of bytes from where it begins. Where something is kept of the first of them, only the
+/// others are played.
 ///
 /// # Errors
 ///
 /// `Memory`.
 pub fn play_keys<'g>(
     alloc: Global,
-    game: SessionGame<'g>,
-    plain: &'g [CompiledSection],
-    late: &'g [CompiledSection],
+    script: GameScript<'g>,
     bytes: &[u8],
     before: Option<PlayedKeys>,
 ) -> Result<Going<'g>, Memory>
-    requires fit { EntriesFit SIDE_LIMIT game.entries }
-    requires of_keys { IsOfKeysIf game.names bytes.now before }
+    requires of_keys { IsOfKeysIf script.game.names bytes.now before }
     requires goes_on { CanGoOn bytes.now before }
-    ensures script { IfOk result (λ going.
-        script_in going.play ≡ script_on game.entry plain.entry.now late.entry.now) }
-    ensures played { let script = script_on game.entry plain.entry.now late.entry.now in
-        AreLedToIf script bytes.now before
-        → IfOk result (λ going. HasPlayed going.is_whole script going.play.session going.keys bytes.now) }
+    ensures script { IfOk result (λ going. script_in going.play ≡ script_shown script.entry) }
+    ensures played { AreLedToIf (script_shown script.entry) bytes.now before → IfOk result (λ going.
+        HasPlayed going.is_whole (script_shown script.entry) going.play.session going.keys bytes.now) }
 {
     match before {
-        None => play_all(alloc, game, plain, late, bytes),
-        Some(before) => play_others(alloc, game, plain, late, bytes, before),
+        None => play_all(alloc, script, bytes),
+        Some(before) => play_others(alloc, script, bytes, before),
     }
 }
 
-/// What a game writes that is played by these sections of its rules: its opening, and the texts of the keys of bytes.
+/// What a game writes: its opening, and the texts of the keys of bytes.
 ///
 /// # Errors
 ///
 /// `Memory`.
 pub fn text_of_keys<'g>(
     alloc: Global,
-    game: SessionGame<'g>,
-    plain: &'g [CompiledSection],
-    late: &'g [CompiledSection],
+    script: GameScript<'g>,
     bytes: &[u8],
 ) -> Result<OutputText, Memory>
-    requires { EntriesFit SIDE_LIMIT game.entries }
-    ensures { IfOk result (λ text.
-        text ≡ whole_front (script_on game.entry plain.entry.now late.entry.now) bytes.now) }
+    ensures { IfOk result (λ text. text ≡ whole_front (script_shown script.entry) bytes.now) }
 {
     let mut output = OutputText::new(alloc);
-    let mut play = GamePlay::start(alloc, game, plain, late, &mut output)?;
+    let mut play = GamePlay::start(alloc, script, &mut output)?;
     if let Err(Memory) = write_texts(&mut play, bytes, &mut output) {
         play.end();
         return Err(Memory);

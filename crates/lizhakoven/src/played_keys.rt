@@ -159,6 +159,7 @@ pub fn copied_if(
     let Some(own) = played else {
         return Ok(None);
     };
-    let copy = own.copied(alloc, game.parts_at(entry))?;
+    let script = game.script_at(entry);
+    let copy = own.copied(alloc, script.game)?;
     Ok(Some(copy))
 }

@@ -7,20 +7,18 @@ ghost use Rattle.ps_model.specs.game.Outputs.{opening_step};
 ghost use Rattle.ps_model.specs.session.RoomSizes.{HasRoomSize};
 ghost use Rattle.ps_records.specs.Replays.{IsReplayIn};
 ghost use Rattle.ps_replay.specs.Played.{IsReplayOfKeys, ending_or};
-ghost use Rattle.ps_run.specs.GamesInPlay.{script_in, script_on};
-ghost use Rattle.ps_stage.specs.Playable.{ArePlayable, EntriesFit};
-ghost use Rattle.ps_model.specs.declared.limits.TheConstants.{SIDE_LIMIT};
+ghost use Rattle.ps_run.specs.GameScripts.{script_shown};
+ghost use Rattle.ps_run.specs.GamesInPlay.{script_in};
+ghost use Rattle.ps_stage.specs.Playable.{ArePlayable};
 
 use crate::playing::play_keys;
 use ps_compile::compile;
 use ps_game::{Game, read_game};
 use ps_keys::keys_of_bytes;
 use ps_model::{Ending, Key, Memory, Refusal};
-use ps_program::CompiledSection;
 use ps_records::{Course, Replay, Replayer};
-use ps_run::{GamePlay, parts_of_game};
+use ps_run::{GamePlay, GameScript, parts_of_game};
 use ps_screen::OutputText;
-use ps_session::SessionGame;
 use std::alloc::Global;
 
 /// How a run ends whose session ended so, or didn't.
@@ -63,26 +61,13 @@ fn replay_in(
     Ok(replay_of(course, ending_or(play.ending()), keys.len()))
 }
 
-/// The sections of the two programs of a game: those of a turn, and those of its late part.
-#[derive(Clone, Copy)]
-struct RuleSections<'g> {
-    plain: &'g [CompiledSection],
-    late: &'g [CompiledSection],
-}
-
-/// Plays keys in a game, by these sections of its rules, from where it begins.
-fn replay_parts<'g>(
-    alloc: Global,
-    game: SessionGame<'g>,
-    sections: RuleSections<'g>,
-    keys: &[Key],
-) -> Result<Replay, Memory>
-    requires { EntriesFit SIDE_LIMIT game.entries }
-    ensures { let script = script_on game.entry sections.entry.plain.now sections.entry.late.now in
-        IfOk result (IsReplayOfKeys script (opening_step script).session keys.now) }
+/// Plays keys in a game from where it begins.
+fn replay_script(alloc: Global, script: GameScript<'_>, keys: &[Key]) -> Result<Replay, Memory>
+    ensures { let played = script_shown script.entry in
+        IfOk result (IsReplayOfKeys played (opening_step played).session keys.now) }
 {
     let mut output = OutputText::new(alloc);
-    let mut play = GamePlay::start(alloc, game, sections.plain, sections.late, &mut output)?;
+    let mut play = GamePlay::start(alloc, script, &mut output)?;
     let replayed = replay_in(alloc, &mut play, keys, &mut output);
     play.end();
     replayed
@@ -104,11 +89,8 @@ pub fn replay_game(alloc: Global, game: &Game, bytes: &[u8]) -> Result<Replay, M
         Ok(compiled) => compiled,
         Err(_) => return Err(Memory),
     };
-    let sections = RuleSections {
-        plain: compiled.plain.sections(),
-        late: compiled.late.sections(),
-    };
-    let replayed = replay_parts(alloc, parts_of_game(game, 0), sections, &keys)?;
+    let script = GameScript::new(parts_of_game(game, 0), &compiled);
+    let replayed = replay_script(alloc, script, &keys)?;
     Ok(replayed)
 }
 

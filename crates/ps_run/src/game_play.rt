@@ -1,23 +1,23 @@
 //! A game in play, each level on boards of the kind that it asks for.
 
 ghost use Rattle.std.specs.Prelude.{◌≡◌, ◌++◌, IfOk, OnErr, OnOk};
-ghost use Rattle.ps_model.specs.declared.limits.TheConstants.{SIDE_LIMIT};
 ghost use Rattle.ps_model.specs.game.Outputs.{ending_of, opening_step};
-ghost use Rattle.ps_stage.specs.Playable.{EntriesFit};
-ghost use Rattle.ps_run.specs.GamesInPlay.{HasBegun, IsTurned, script_in, script_on};
+ghost use Rattle.ps_run.specs.GameScripts.{script_shown};
+ghost use Rattle.ps_run.specs.GamesInPlay.{HasBegun, IsTurned, script_in};
 ghost use Rattle.ps_run.specs.SizedPlays.{play_in, rested_in};
 
+use crate::game_script::GameScript;
 use crate::rested_play::RestedPlay;
 use crate::sized_play::SizedPlay;
 use ps_model::{Ending, Key, Memory};
 use ps_program::CompiledSection;
 use ps_screen::OutputText;
-use ps_session::{SessionGame, Stop};
+use ps_session::Stop;
 use std::alloc::Global;
 use std::marker::Model;
 use std::mem;
 
-/// Goes on at an entry of a game that is played by these sections, in place of how it was played before.
+/// Goes on at an entry of a game, in place of how it was played before.
 ///
 /// # Errors
 ///
@@ -25,19 +25,16 @@ use std::mem;
 #[inline(never)]
 fn go_on<'g>(
     alloc: Global,
-    game: &SessionGame<'g>,
-    plain: &'g [CompiledSection],
-    late: &'g [CompiledSection],
+    script: &GameScript<'g>,
     entry: usize,
     play: &mut SizedPlay<'g>,
     output: &mut OutputText,
 ) -> Result<(), Memory>
-    requires { EntriesFit SIDE_LIMIT game.now.entries }
     ensures begun { OnOk result
-        (HasBegun (script_on game.now plain.now late.now) entry (play_in play.new) output.old output.new) }
+        (HasBegun (script_shown script.now) entry (play_in play.new) output.old output.new) }
     ensures stays { OnErr result (play_in play.new ≡ play_in play.old) }
 {
-    let next = SizedPlay::start_at(alloc, game.copied(), plain, late, entry, output)?;
+    let next = SizedPlay::start_at(alloc, script.copied(), entry, output)?;
     let before = mem::replace(play, next);
     before.end();
     Ok(())
@@ -48,30 +45,26 @@ fn go_on<'g>(
 /// [`end`](GamePlay::end).
 pub struct GamePlay<'g> {
     alloc: Global,
-    game: SessionGame<'g>,
-    plain: &'g [CompiledSection],
-    late: &'g [CompiledSection],
+    script: GameScript<'g>,
     play: SizedPlay<'g>,
 }
 
 impl<'g> Model for GamePlay<'g> {
     ghost use Rattle.std.specs.Prelude.{◌≡◌};
-    ghost use Rattle.ps_stage.specs.Playable.{EntriesFit};
-    ghost use Rattle.ps_run.specs.GamesInPlay.{GameInPlay, script_in, script_on};
+    ghost use Rattle.ps_run.specs.GameScripts.{script_shown};
+    ghost use Rattle.ps_run.specs.GamesInPlay.{GameInPlay, script_in};
     ghost use Rattle.ps_run.specs.SizedPlays.{play_in};
-    ghost use Rattle.ps_model.specs.declared.limits.TheConstants.{SIDE_LIMIT};
 
     ghost Value = { GameInPlay };
 
     ghost view = { λ p. record {
-      game = p.game;
-      plain = p.plain.now;
-      late = p.late.now;
+      game = p.script.game;
+      plain = p.script.plain.now;
+      late = p.script.late.now;
       session = (play_in p.play).session;
     } };
 
-    ghost invariant = { λ p. (script_in (play_in p.play) ≡ script_on p.game p.plain.now p.late.now)
-        × EntriesFit SIDE_LIMIT p.game.entries };
+    ghost invariant = { λ p. script_in (play_in p.play) ≡ script_shown p.script };
 }
 
 impl<'g> GamePlay<'g> {
@@ -83,24 +76,19 @@ impl<'g> GamePlay<'g> {
     /// `Memory`.
     pub fn start(
         alloc: Global,
-        game: SessionGame<'g>,
-        plain: &'g [CompiledSection],
-        late: &'g [CompiledSection],
+        script: GameScript<'g>,
         output: &mut OutputText,
     ) -> Result<GamePlay<'g>, Memory>
-        requires { EntriesFit SIDE_LIMIT game.entries }
-        ensures script { IfOk result (λ play. script_in play ≡ script_on game.entry plain.entry.now late.entry.now) }
+        ensures script { IfOk result (λ play. script_in play ≡ script_shown script.entry) }
         ensures session { IfOk result (λ play. play.session ≡ (opening_step (script_in play)).session) }
         ensures written { IfOk result (λ play. output.new ≡ output.old ++ (opening_step (script_in play)).text) }
     {
-        output.add_line("= ", game.title())?;
-        let entry = game.first_entry();
-        let play = SizedPlay::start_at(alloc, game.copied(), plain, late, entry, output)?;
+        output.add_line("= ", script.game.title())?;
+        let entry = script.game.first_entry();
+        let play = SizedPlay::start_at(alloc, script.copied(), entry, output)?;
         Ok(GamePlay {
             alloc,
-            game,
-            plain,
-            late,
+            script,
             play,
         })
     }
@@ -112,22 +100,17 @@ impl<'g> GamePlay<'g> {
     /// `Memory`, and the game at rest is lost.
     pub fn resume(
         alloc: Global,
-        game: SessionGame<'g>,
-        plain: &'g [CompiledSection],
-        late: &'g [CompiledSection],
+        script: GameScript<'g>,
         rested: RestedPlay,
     ) -> Result<GamePlay<'g>, Memory>
-        requires fit { EntriesFit SIDE_LIMIT game.entries }
-        requires names { game.names ≡ (rested_in rested).names }
-        ensures script { IfOk result (λ play. script_in play ≡ script_on game.entry plain.entry.now late.entry.now) }
+        requires { script.game.names ≡ (rested_in rested).names }
+        ensures script { IfOk result (λ play. script_in play ≡ script_shown script.entry) }
         ensures session { IfOk result (λ play. play.session ≡ (rested_in rested).session) }
     {
-        let play = SizedPlay::resume(alloc, game.copied(), plain, late, rested)?;
+        let play = SizedPlay::resume(alloc, script.copied(), rested)?;
         Ok(GamePlay {
             alloc,
-            game,
-            plain,
-            late,
+            script,
             play,
         })
     }
@@ -139,9 +122,7 @@ impl<'g> GamePlay<'g> {
     {
         let GamePlay {
             alloc: _alloc,
-            game: _game,
-            plain: _plain,
-            late: _late,
+            script: _script,
             play,
         } = self;
         play.rest()
@@ -160,16 +141,7 @@ impl<'g> GamePlay<'g> {
             Err(Stop::Memory) => return Err(Memory),
             Err(Stop::Elsewhere(entry)) => entry,
         };
-        let (plain, late) = (self.plain, self.late);
-        go_on(
-            self.alloc,
-            &self.game,
-            plain,
-            late,
-            entry,
-            &mut self.play,
-            output,
-        )?;
+        go_on(self.alloc, &self.script, entry, &mut self.play, output)?;
         Ok(())
     }
 
@@ -186,16 +158,14 @@ impl<'g> GamePlay<'g> {
         ensures plain { result.0.now ≡ self.now.plain }
         ensures late { result.1.now ≡ self.now.late }
     {
-        (self.plain, self.late)
+        (self.script.plain, self.script.late)
     }
 
     /// Ends it.
     pub fn end(self) {
         let GamePlay {
             alloc: _alloc,
-            game: _game,
-            plain: _plain,
-            late: _late,
+            script: _script,
             play,
         } = self;
         play.end();

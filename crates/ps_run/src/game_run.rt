@@ -1,24 +1,20 @@
 //! A run of a game by rules.
 
 ghost use Rattle.std.specs.Prelude.{◌≡◌, ◌≢◌, Err, false, true};
-ghost use Rattle.ps_model.specs.declared.limits.TheConstants.{SIDE_LIMIT};
-ghost use Rattle.ps_stage.specs.Playable.{EntriesFit};
-ghost use Rattle.ps_run.specs.GamesInPlay.{script_on};
+ghost use Rattle.ps_run.specs.GameScripts.{script_shown};
 ghost use Rattle.ps_run.specs.Runs.{ComesOrStops};
 
 use crate::game_play::GamePlay;
+use crate::game_script::GameScript;
 use crate::play::Play;
 use crate::writing::{room_for_texts, write_output};
 use ps_devices::{ByteReader, ByteWriter, RunFault};
 use ps_keys::Keys;
 use ps_model::{Ending, Memory};
-use ps_program::CompiledSection;
 use ps_screen::OutputText;
-use ps_session::SessionGame;
 use std::alloc::Global;
 
-/// Plays a game by these sections of its rules, on boards that have room for its levels: writes its opening, and plays
-/// the keys of a reader to an ending.
+/// Plays a game: writes its opening, and plays the keys of a reader to an ending.
 ///
 /// # Errors
 ///
@@ -26,20 +22,17 @@ use std::alloc::Global;
 /// game hasn't ended, `Write` where the writer failed. No device is called after its failure.
 pub fn run_game<'g, I: ByteReader, W: ByteWriter>(
     alloc: Global,
-    game: SessionGame<'g>,
-    plain: &'g [CompiledSection],
-    late: &'g [CompiledSection],
+    script: GameScript<'g>,
     reader: &mut I,
     writer: &mut W,
 ) -> Result<Ending, RunFault>
-    requires fit { EntriesFit SIDE_LIMIT game.entries }
     requires heard { (I.state reader.old).has_failed ≡ false }
     requires well { (W.state writer.old).has_failed ≡ false }
-    ensures answers { let script = script_on game.entry plain.entry.now late.entry.now in
+    ensures answers { let script = script_shown script.entry in
         ComesOrStops script (I.state reader.old) (I.state reader.new) (W.state writer.old) (W.state writer.new) result }
 {
     let mut output = OutputText::new(alloc);
-    let game = match GamePlay::start(alloc, game, plain, late, &mut output) {
+    let game = match GamePlay::start(alloc, script, &mut output) {
         Ok(game) => game,
         Err(Memory) => return Err(RunFault::Memory),
     };

@@ -4,6 +4,7 @@
 mod faults;
 mod game_play;
 mod game_run;
+mod game_script;
 mod laws;
 mod play;
 mod player;
@@ -15,6 +16,7 @@ mod text_run;
 mod writing;
 
 pub use game_play::GamePlay;
+pub use game_script::GameScript;
 pub use laws::answers_carry_over;
 pub use player::GamePlayer;
 pub use ps_devices::{ByteReader, ByteWriter, LevelFault, Player, RunFault};

@@ -3,15 +3,16 @@
 ghost use Rattle.std.specs.Prelude.{◌≡◌, ℕ, List, Some, false};
 ghost use Rattle.ps_model.specs.declared.limits.TheConstants.{SIDE_LIMIT};
 ghost use Rattle.ps_model.specs.board.Turns.{script_at};
-ghost use Rattle.ps_model.specs.game.Games.{Game as GameRead, game as game_in};
+ghost use Rattle.ps_model.specs.game.Games.{game as game_in};
 ghost use Rattle.ps_model.specs.session.RoomSizes.{HasRoomSize};
-ghost use Rattle.ps_rulebook.specs.PlayedGames.{AreCompiled, parts_at};
+ghost use Rattle.ps_rulebook.specs.PlayedGames.{parts_at};
 ghost use Rattle.ps_devices.specs.Answers.{answer_of};
 ghost use Rattle.ps_stage.specs.Playable.{ArePlayable, EntriesFit};
 ghost use Rattle.ps_run.specs.Answering.{RunsRightlyIn};
 
 use crate::game_run::run_game;
-use ps_compile::{CompiledPrograms, compile};
+use crate::game_script::GameScript;
+use ps_compile::compile;
 use ps_devices::{ByteReader, ByteWriter, RunFault};
 use ps_game::Game;
 use ps_model::Ending;
@@ -60,32 +61,6 @@ pub fn run_read<I: ByteReader, W: ByteWriter>(
         Ok(compiled) => compiled,
         Err(_) => return Err(RunFault::Memory),
     };
-    run_compiled(alloc, parts_of_game(game, entry), &compiled, reader, writer)
-}
-
-/// Plays what a session plays of a game, by the programs that the game's rules compile to.
-fn run_compiled<I: ByteReader, W: ByteWriter>(
-    alloc: Global,
-    parts: SessionGame<'_>,
-    compiled: &CompiledPrograms,
-    reader: &mut I,
-    writer: &mut W,
-) -> Result<Ending, RunFault>
-    requires heard { (I.state reader.old).has_failed ≡ false }
-    requires well { (W.state writer.old).has_failed ≡ false }
-    requires fit { EntriesFit SIDE_LIMIT parts.entries }
-    ensures rightly { (text : List ℕ) (game : GameRead) (entry : ℕ) → game_in text ≡ Some game
-        → parts.entry ≡ parts_at game entry
-        → AreCompiled game.names game.rules compiled.now.plain compiled.now.late
-        → RunsRightlyIn (Some (script_at game entry)) text (I.state reader.old) (I.state reader.new)
-        (W.state writer.old) (W.state writer.new) (answer_of result) }
-{
-    run_game(
-        alloc,
-        parts,
-        compiled.plain.sections(),
-        compiled.late.sections(),
-        reader,
-        writer,
-    )
+    let script = GameScript::new(parts_of_game(game, entry), &compiled);
+    run_game(alloc, script, reader, writer)
 }

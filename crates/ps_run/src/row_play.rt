@@ -4,11 +4,12 @@ ghost use Rattle.std.specs.Prelude.{◌≡◌, ◌≤◌, IfOk};
 ghost use Rattle.ps_model.specs.game.Outputs.{ending_of};
 ghost use Rattle.ps_stage.specs.Sides.{side_at};
 ghost use Rattle.ps_session.specs.RestedSessions.{without_history};
-ghost use Rattle.ps_run.specs.GamesInPlay.{HasBegun, IsKeyed, script_in, script_on};
+ghost use Rattle.ps_run.specs.GameScripts.{script_shown};
+ghost use Rattle.ps_run.specs.GamesInPlay.{HasBegun, IsKeyed, script_in};
 
+use crate::game_script::GameScript;
 use ps_board::ColumnWords;
 use ps_model::{Ending, Key, Memory};
-use ps_program::CompiledSection;
 use ps_rulebook::{GameRules, RowBoard, RowHistory, rules_of_sections};
 use ps_screen::OutputText;
 use ps_session::{BoardSides, Rested, Session, SessionGame, Stop};
@@ -73,52 +74,47 @@ impl<'g, V: ColumnWords> Model for RowPlay<'g, V> {
 }
 
 impl<'g, V: ColumnWords> RowPlay<'g, V> {
-    /// Starts a game at an entry for which its boards have room, with the sections of its rules: adds what the entry
-    /// writes to the output. Its boards are for levels with such sides.
+    /// Starts a game at an entry for which its boards have room: adds what the entry writes to the output. Its boards
+    /// are for levels with such sides.
     ///
     /// # Errors
     ///
     /// `Memory`.
     pub fn start_at(
         alloc: Global,
-        game: SessionGame<'g>,
-        plain: &'g [CompiledSection],
-        late: &'g [CompiledSection],
+        script: GameScript<'g>,
         sides: BoardSides,
         entry: usize,
         output: &mut OutputText,
     ) -> Result<RowPlay<'g, V>, Memory>
         requires sides { sides.most ≤ V.limit }
-        requires room { side_at game.entries entry ≤ V.limit }
+        requires room { side_at script.game.entries entry ≤ V.limit }
         ensures { IfOk result (λ play.
-            HasBegun (script_on game.entry plain.entry.now late.entry.now) entry play output.old output.new) }
+            HasBegun (script_shown script.entry) entry play output.old output.new) }
     {
-        let mut rules = rules_of_sections(alloc, plain, late)?;
-        let session = Session::start_at(alloc, game, sides, &mut rules, entry, output)?;
+        let mut rules = rules_of_sections(alloc, script.plain, script.late)?;
+        let session = Session::start_at(alloc, script.game, sides, &mut rules, entry, output)?;
         Ok(RowPlay { session, rules })
     }
 
-    /// Goes on with a session that was at rest in a game of the same names, with the sections of its rules. Its boards
-    /// are for levels with such sides.
+    /// Goes on with a session that was at rest in a game of the same names. Its boards are for levels with such sides.
     ///
     /// # Errors
     ///
     /// `Memory`, and the session at rest is lost.
     pub fn resume(
         alloc: Global,
-        game: SessionGame<'g>,
-        plain: &'g [CompiledSection],
-        late: &'g [CompiledSection],
+        script: GameScript<'g>,
         sides: BoardSides,
         rested: RestedRows<V>,
     ) -> Result<RowPlay<'g, V>, Memory>
         requires sides { sides.most ≤ V.limit }
-        requires names { game.names ≡ rested.names }
-        ensures script { IfOk result (λ play. script_in play ≡ script_on game.entry plain.entry.now late.entry.now) }
+        requires names { script.game.names ≡ rested.names }
+        ensures script { IfOk result (λ play. script_in play ≡ script_shown script.entry) }
         ensures session { IfOk result (λ play. play.session ≡ rested.session) }
     {
-        let rules = rules_of_sections(alloc, plain, late)?;
-        let stage = Stage::new(alloc, game, sides)?;
+        let rules = rules_of_sections(alloc, script.plain, script.late)?;
+        let stage = Stage::new(alloc, script.game, sides)?;
         let session = Session::resume(alloc, stage, rested)?;
         Ok(RowPlay { session, rules })
     }

@@ -1,17 +1,16 @@
 //! A game that is played on boards of the kind that a level asks for.
 
 ghost use Rattle.std.specs.Prelude.{◌≡◌, ◌*◌, ◌-◌, ◌≤◌, IfOk};
-ghost use Rattle.ps_model.specs.declared.limits.TheConstants.{SIDE_LIMIT};
 ghost use Rattle.ps_model.specs.game.Outputs.{ending_of};
-ghost use Rattle.ps_stage.specs.Sides.{side_at};
-ghost use Rattle.ps_run.specs.GamesInPlay.{HasBegun, IsKeyed, script_in, script_on};
+ghost use Rattle.ps_run.specs.GameScripts.{script_shown};
+ghost use Rattle.ps_run.specs.GamesInPlay.{HasBegun, IsKeyed, script_in};
 ghost use Rattle.ps_run.specs.SizedPlays.{play_in, rested_in};
 
+use crate::game_script::GameScript;
 use crate::rested_play::RestedPlay;
 use crate::row_play::RowPlay;
 use ps_board::{ManyWords, OneWord, WORD_BITS};
 use ps_model::{Ending, Key, Memory};
-use ps_program::CompiledSection;
 use ps_screen::OutputText;
 use ps_session::{BoardSides, SessionGame, Stop};
 use std::alloc::Global;
@@ -46,30 +45,27 @@ impl<'g> SizedPlay<'g> {
     /// `Memory`.
     pub fn start_at(
         alloc: Global,
-        game: SessionGame<'g>,
-        plain: &'g [CompiledSection],
-        late: &'g [CompiledSection],
+        script: GameScript<'g>,
         entry: usize,
         output: &mut OutputText,
     ) -> Result<SizedPlay<'g>, Memory>
-        requires { side_at game.entries entry ≤ SIDE_LIMIT }
         ensures { IfOk result (λ play.
-            HasBegun (script_on game.entry plain.entry.now late.entry.now) entry (play_in play) output.old output.new) }
+            HasBegun (script_shown script.entry) entry (play_in play) output.old output.new) }
     {
-        let side = game.side_at(entry);
+        let side = script.game.side_at(entry);
         if side <= WORD_BITS {
-            let play = RowPlay::start_at(alloc, game, plain, late, sides_of(1), entry, output)?;
+            let play = RowPlay::start_at(alloc, script, sides_of(1), entry, output)?;
             return Ok(SizedPlay::One(play));
         }
         if side <= 2 * WORD_BITS {
-            let play = RowPlay::start_at(alloc, game, plain, late, sides_of(2), entry, output)?;
+            let play = RowPlay::start_at(alloc, script, sides_of(2), entry, output)?;
             return Ok(SizedPlay::Two(play));
         }
         if side <= 3 * WORD_BITS {
-            let play = RowPlay::start_at(alloc, game, plain, late, sides_of(3), entry, output)?;
+            let play = RowPlay::start_at(alloc, script, sides_of(3), entry, output)?;
             return Ok(SizedPlay::Three(play));
         }
-        let play = RowPlay::start_at(alloc, game, plain, late, sides_of(4), entry, output)?;
+        let play = RowPlay::start_at(alloc, script, sides_of(4), entry, output)?;
         Ok(SizedPlay::Four(play))
     }
 
@@ -80,31 +76,28 @@ impl<'g> SizedPlay<'g> {
     /// `Memory`, and the game at rest is lost.
     pub fn resume(
         alloc: Global,
-        game: SessionGame<'g>,
-        plain: &'g [CompiledSection],
-        late: &'g [CompiledSection],
+        script: GameScript<'g>,
         rested: RestedPlay,
     ) -> Result<SizedPlay<'g>, Memory>
-        requires { game.names ≡ (rested_in rested).names }
-        ensures script { IfOk result (λ play.
-            script_in (play_in play) ≡ script_on game.entry plain.entry.now late.entry.now) }
+        requires { script.game.names ≡ (rested_in rested).names }
+        ensures script { IfOk result (λ play. script_in (play_in play) ≡ script_shown script.entry) }
         ensures session { IfOk result (λ play. (play_in play).session ≡ (rested_in rested).session) }
     {
         match rested {
             RestedPlay::One(rows) => {
-                let play = RowPlay::resume(alloc, game, plain, late, sides_of(1), rows)?;
+                let play = RowPlay::resume(alloc, script, sides_of(1), rows)?;
                 Ok(SizedPlay::One(play))
             }
             RestedPlay::Two(rows) => {
-                let play = RowPlay::resume(alloc, game, plain, late, sides_of(2), rows)?;
+                let play = RowPlay::resume(alloc, script, sides_of(2), rows)?;
                 Ok(SizedPlay::Two(play))
             }
             RestedPlay::Three(rows) => {
-                let play = RowPlay::resume(alloc, game, plain, late, sides_of(3), rows)?;
+                let play = RowPlay::resume(alloc, script, sides_of(3), rows)?;
                 Ok(SizedPlay::Three(play))
             }
             RestedPlay::Four(rows) => {
-                let play = RowPlay::resume(alloc, game, plain, late, sides_of(4), rows)?;
+                let play = RowPlay::resume(alloc, script, sides_of(4), rows)?;
                 Ok(SizedPlay::Four(play))
             }
         }

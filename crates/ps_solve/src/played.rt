@@ -2,16 +2,13 @@
 
 ghost use Rattle.std.specs.Prelude.{◌≡◌, IfOk, OnOk};
 ghost use Rattle.ps_laws.specs.Fronts.{session_after};
-ghost use Rattle.ps_model.specs.declared.limits.TheConstants.{SIDE_LIMIT};
 ghost use Rattle.ps_model.specs.game.Outputs.{opening_step};
-ghost use Rattle.ps_run.specs.GamesInPlay.{script_in, script_on};
-ghost use Rattle.ps_stage.specs.Playable.{EntriesFit};
+ghost use Rattle.ps_run.specs.GameScripts.{script_shown};
+ghost use Rattle.ps_run.specs.GamesInPlay.{script_in};
 
-use crate::widths::RuleSections;
 use ps_model::{Key, Memory};
-use ps_run::GamePlay;
+use ps_run::{GamePlay, GameScript};
 use ps_screen::OutputText;
-use ps_session::SessionGame;
 use std::alloc::Global;
 
 /// Plays keys in a game in play. What they write is thrown away.
@@ -27,25 +24,22 @@ fn play_on(play: &mut GamePlay<'_>, keys: &[Key], output: &mut OutputText) -> Re
     Ok(())
 }
 
-/// A game in play, by these sections of its rules, after keys from where it begins.
+/// A game in play after keys from where it begins.
 ///
 /// # Errors
 ///
 /// `Memory`.
 pub(crate) fn play_keys<'g>(
     alloc: Global,
-    game: SessionGame<'g>,
-    sections: RuleSections<'g>,
+    script: GameScript<'g>,
     keys: &[Key],
 ) -> Result<GamePlay<'g>, Memory>
-    requires { EntriesFit SIDE_LIMIT game.entries }
-    ensures script { IfOk result (λ play.
-        script_in play ≡ script_on game.entry sections.entry.plain.now sections.entry.late.now) }
+    ensures script { IfOk result (λ play. script_in play ≡ script_shown script.entry) }
     ensures session { IfOk result (λ play.
         play.session ≡ session_after (script_in play) (opening_step (script_in play)).session keys.now) }
 {
     let mut output = OutputText::new(alloc);
-    let mut play = GamePlay::start(alloc, game, sections.plain, sections.late, &mut output)?;
+    let mut play = GamePlay::start(alloc, script, &mut output)?;
     if let Err(Memory) = play_on(&mut play, keys, &mut output) {
         play.end();
         return Err(Memory);

@@ -20,7 +20,7 @@ use ps_answers::Solved;
 use ps_compile::compile;
 use ps_game::Game;
 use ps_model::Key;
-use ps_run::{GamePlay, SizedPlay, parts_of_game};
+use ps_run::{GamePlay, GameScript, SizedPlay, parts_of_game};
 use ps_search::Watcher;
 use std::alloc::Global;
 
@@ -88,12 +88,8 @@ pub fn solve_after<T: Watcher>(
         Ok(compiled) => compiled,
         Err(_) => return Err(NotSearched::Memory),
     };
-    let sections = RuleSections {
-        plain: compiled.plain.sections(),
-        late: compiled.late.sections(),
-    };
-    let parts = parts_of_game(game, played.entry);
-    let Ok(play) = play_keys(alloc, parts, sections, played.keys) else {
+    let script = GameScript::new(parts_of_game(game, played.entry), &compiled);
+    let Ok(play) = play_keys(alloc, script, played.keys) else {
         return Err(NotSearched::Memory);
     };
     let found = solve_play(alloc, &play, limit, watcher);

@@ -1,6 +1,6 @@
 //! A game as a session plays it.
 
-ghost use Rattle.std.specs.Prelude.{◌≡◌};
+ghost use Rattle.std.specs.Prelude.{◌≡◌, ◌≤◌};
 ghost use Rattle.ps_levels.specs.EntriesShown.{entries_shown};
 ghost use Rattle.ps_levels.specs.WinsShown.{wins_shown};
 ghost use Rattle.ps_model.specs.declared.limits.TheConstants.{SIDE_LIMIT};
@@ -141,7 +141,8 @@ impl<'g> SessionGame<'g> {
 
     /// The longer side of the level at a place among the entries; 0 for a message, and after the last entry.
     pub fn side_at(&self, place: usize) -> u32
-        ensures { result ≡ side_at self.now.entries place }
+        ensures side { result ≡ side_at self.now.entries place }
+        ensures low { result ≤ SIDE_LIMIT }
     {
         side_at(self.entries, place)
     }

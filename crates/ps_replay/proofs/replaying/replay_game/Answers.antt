@@ -17,7 +17,8 @@ returns c = λ text is.
       plain_runs = c.in-Ok.ensures.plain_runs;
       late_runs = c.in-Ok.ensures.late_runs;
     }) in
-    replayed_as_written text read c.args.bytes.now c.deref.result.now c.parts_of_game.result
-    c.sections.result.now c.sections-2.result.now c.in-Ok.compiled.plain c.in-Ok.compiled.late
-    c.in_ok-replayed.replayed is made c.sections.ensures c.sections-2.ensures c.parts_of_game.ensures.parts
+    replayed_as_written text read c.args.bytes.now c.deref.result.now c.new-script.result.game
+    c.new-script.result.plain.now c.new-script.result.late.now c.in-Ok.compiled.plain c.in-Ok.compiled.late
+    c.in_ok-replayed.replayed is made c.new-script.ensures.plain c.new-script.ensures.late
+    (c.new-script.ensures.game ∙ c.parts_of_game.ensures.parts)
     (c.deref.ensures.value ∙ c.in_ok-keys.ensures) c.in_ok-replayed.ensures

@@ -1,12 +1,12 @@
 use Rattle.std.proofs.Common.{ap, inr, Err}
 use Rattle.ps_model.specs.board.Turns.{Script}
-use Rattle.ps_run.specs.GamesInPlay.{script_on}
+use Rattle.ps_run.specs.GameScripts.{script_shown}
 use Rattle.ps_run.proofs.Running as runs
 use Rattle.ps_run.proofs.game_run.run_game.Goals as goal
 
 pub returns-in-Err-write_output : goal.returns-in-Err-write_output
 returns-in-Err-write_output g c =
-    let script : Script = script_on c.args.game c.args.plain.now c.args.late.now in
+    let script : Script = script_shown c.args.script in
     let written = rw c.in-Ok.ensures.script at c.in-Ok.ensures.written in
     record {
       answers = inr (runs.opening_unwritten c.in-Err-write_output.field-0 script _ _ _ _ _ (λ memory.
@@ -17,7 +17,7 @@ returns-in-Err-write_output g c =
 
 pub returns : goal.returns
 returns g c =
-    let script : Script = script_on c.args.game c.args.plain.now c.args.late.now in
+    let script : Script = script_shown c.args.script in
     let written = rw c.in-Ok.ensures.script at c.in-Ok.ensures.written in
     let session = rw c.in-Ok.ensures.script at c.in-Ok.ensures.session in
     let comes = rw (c.in-Ok.ensures.script, c.new.ensures) at c.play-answer.ensures.answers in

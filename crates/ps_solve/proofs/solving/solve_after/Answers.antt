@@ -1,4 +1,4 @@
-use Rattle.std.proofs.Common.{ap}
+use Rattle.std.proofs.Common.{◌∙◌, ap}
 use Rattle.ps_model.specs.board.Turns.{Script, script_at}
 use Rattle.ps_model.specs.game.Games.{Game}
 use Rattle.ps_rulebook.specs.PlayedGames.{AreCompiled}
@@ -21,8 +21,8 @@ returns g c = λ text is.
       late_runs = c.in-Ok.ensures.late_runs;
     }) in
     c.searched.ensures source (played source c.args.played.keys.now) c.args.limit
-    (played_as_written text read c.args.played.entry c.args.played.keys.now c.args.limit c.parts_of_game-parts.result
-    c.sections.result.now c.sections-2.result.now c.in-Ok.compiled.plain c.in-Ok.compiled.late
-    c.in-Ok-play_keys.play c.solve_play-found.result is made c.sections.ensures c.sections-2.ensures
-    c.parts_of_game-parts.ensures.parts c.in-Ok-play_keys.ensures.script c.in-Ok-play_keys.ensures.session
-    c.solve_play-found.ensures)
+    (played_as_written text read c.args.played.entry c.args.played.keys.now c.args.limit c.new-script.result.game
+    c.new-script.result.plain.now c.new-script.result.late.now c.in-Ok.compiled.plain c.in-Ok.compiled.late
+    c.in-Ok-play_keys.play c.solve_play-found.result is made c.new-script.ensures.plain c.new-script.ensures.late
+    (c.new-script.ensures.game ∙ c.parts_of_game.ensures.parts) c.in-Ok-play_keys.ensures.script
+    c.in-Ok-play_keys.ensures.session c.solve_play-found.ensures)

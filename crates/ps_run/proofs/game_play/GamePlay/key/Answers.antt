@@ -9,14 +9,14 @@ use Rattle.ps_run.proofs.game_play.GamePlay.key.Goals as goal
 pub returns-in-Ok : goal.returns-in-Ok
 returns-in-Ok c =
     turned_as _ _ _ _ _ _ _ c.self.view_is
-    (turned_in c.self.inside.game c.self.inside.plain.now c.self.inside.late.now _ _ c.args.key _ _ _
-    c.self.invariant.0 (turned_here _ _ _ _ _ _ _ c.in-Ok.ensures))
+    (turned_in c.self.inside.script.game c.self.inside.script.plain.now c.self.inside.script.late.now _ _ c.args.key _
+    _ _ c.self.invariant (turned_here _ _ _ _ _ _ _ c.in-Ok.ensures))
 
 pub returns-in-Err-Memory : goal.returns-in-Err-Memory
 returns-in-Err-Memory c =
     turned_as _ _ _ _ _ _ _ c.self.view_is
-    (turned_in c.self.inside.game c.self.inside.plain.now c.self.inside.late.now _ _ c.args.key _ _ _
-    c.self.invariant.0 (turned_not _ _ _ _ _ _ _ _ c.in-Err-Memory.ensures))
+    (turned_in c.self.inside.script.game c.self.inside.script.plain.now c.self.inside.script.late.now _ _ c.args.key _
+    _ _ c.self.invariant (turned_not _ _ _ _ _ _ _ _ c.in-Err-Memory.ensures))
 
 pub returns : goal.returns
 returns c =
@@ -25,6 +25,6 @@ returns c =
     subst (λ (stop : Stop). IsKeyed (play_in c.self.inside.play) (play_in c.key.new.self) c.args.key c.args.output.now
     c.key.new.output (Err stop)) c.in-Err-Elsewhere.field-0-is c.in-Err-Elsewhere.ensures in
     turned_as _ _ _ _ _ _ _ c.self.view_is
-    (turned_in c.self.inside.game c.self.inside.plain.now c.self.inside.late.now _ _ c.args.key _ _ _ c.self.invariant.0
-    (turned_there _ _ _ _ _ _ _ c.in-Err-Elsewhere.entry _ _ (sym c.self.invariant.0) keyed
+    (turned_in c.self.inside.script.game c.self.inside.script.plain.now c.self.inside.script.late.now _ _ c.args.key _
+    _ _ c.self.invariant (turned_there _ _ _ _ _ _ _ c.in-Err-Elsewhere.entry _ _ (sym c.self.invariant) keyed
     c.in_ok-go_on.ensures.begun))

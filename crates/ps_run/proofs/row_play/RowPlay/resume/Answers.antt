@@ -10,6 +10,6 @@ resume-requires g c =
 
 pub returns-clause-script : goal.returns-clause-script
 returns-clause-script g c =
-    script_same c.args.game c.in_ok-session.session.game c.args.plain.now c.args.late.now c.in_ok-rules.rules.plain
-    c.in_ok-rules.rules.late (c.in_ok-session.ensures.game ∙ c.in_ok-stage.ensures.game)
+    script_same c.args.script.game c.in_ok-session.session.game c.args.script.plain.now c.args.script.late.now
+    c.in_ok-rules.rules.plain c.in_ok-rules.rules.late (c.in_ok-session.ensures.game ∙ c.in_ok-stage.ensures.game)
     (ap meant_of c.in_ok-rules.ensures.plain) (ap meant_of c.in_ok-rules.ensures.late)

@@ -9,11 +9,11 @@ pub returns : goal.returns
 returns g c =
     let plain = ap meant_of c.in_ok-rules.ensures.plain in
     let late = ap meant_of c.in_ok-rules.ensures.late in
-    let begun = sym (script_is c.args.game c.in_ok-rules.rules.plain c.in_ok-rules.rules.late)
-    ∙ script_same c.args.game c.args.game c.args.plain.now c.args.late.now c.in_ok-rules.rules.plain
-    c.in_ok-rules.rules.late refl plain late in
+    let begun = sym (script_is c.args.script.game c.in_ok-rules.rules.plain c.in_ok-rules.rules.late)
+    ∙ script_same c.args.script.game c.args.script.game c.args.script.plain.now c.args.script.late.now
+    c.in_ok-rules.rules.plain c.in_ok-rules.rules.late refl plain late in
     record {
-      plays = script_same c.args.game c.in_ok-session.session.game c.args.plain.now c.args.late.now
+      plays = script_same c.args.script.game c.in_ok-session.session.game c.args.script.plain.now c.args.script.late.now
           c.start_at.new.rules.plain c.start_at.new.rules.late c.in_ok-session.ensures.game
           (c.in_ok-session.ensures.plain ∙ plain) (c.in_ok-session.ensures.late ∙ late);
       session = c.in_ok-session.ensures.session ∙ ap (λ (script : Script). (enter script c.args.entry).session) begun;
