@@ -17,6 +17,12 @@ const PLACES: u32 = 64;
 /// What wipes the line away on which it is told how far a search is.
 const WIPED: &str = "\r\x1b[K";
 
+/// What keeps a terminal from going on in the next row where the line is wider than it. So the whole line is wiped away.
+const CUT_OFF: &str = "\x1b[?7l";
+
+/// What lets it go on there again.
+const WRAPPED: &str = "\x1b[?7h";
+
 /// A number below 10 ^ 9 with a comma before each three digits, as 1,284.
 #[derive(Clone, Copy, Drop)]
 struct Grouped(u128);
@@ -57,11 +63,11 @@ impl Display for Progress {
         match self.level {
             Some(level) => write!(
                 f,
-                "\rlevel {level}: not in {depth} keys, {states} states, {rate} a second\x1b[K"
+                "\r{CUT_OFF}level {level}: not in {depth} keys, {states} states, {rate} a second\x1b[K{WRAPPED}"
             ),
             None => write!(
                 f,
-                "\rfrom here: not in {depth} keys, {states} states, {rate} a second\x1b[K"
+                "\r{CUT_OFF}from here: not in {depth} keys, {states} states, {rate} a second\x1b[K{WRAPPED}"
             ),
         }
     }

@@ -12,6 +12,12 @@ use ps_model::Memory;
 use std::alloc::AllocError;
 use std::io;
 
+/// What is told where no fault has the code that is to be explained.
+const NO_CODE: &str = "error: no fault has this code: there are TX1, TX2, GM1 to GM6, NA1 to NA16,
+RU1 to RU14, LV1 to LV5, WN1 and WN2
+
+For more information, try '--help'.";
+
 /// What is told where no size of a terminal is given.
 const NO_SIZE: &str = "error: --view takes rows, x and columns, as 24x80: from 1 to 65535 of each
 
@@ -202,7 +208,7 @@ pub fn tell<R: Print + Eprint>(rt: &R, stop: &Stop) -> u8
     match stop {
         Stop::CommandLine(error) => return tell_command_line(rt, error),
         Stop::NotText(word) => return tell_not_text(rt, word),
-        Stop::NoSuchCode => return tell_wrong_line(rt, "error: no fault has this code"),
+        Stop::NoSuchCode => return tell_wrong_line(rt, NO_CODE),
         Stop::NoSize => return tell_wrong_line(rt, NO_SIZE),
         Stop::NoLevel => return tell_wrong_line(rt, NO_LEVEL),
         Stop::NoLimit => return tell_wrong_line(rt, NO_LIMIT),

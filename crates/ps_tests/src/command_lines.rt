@@ -817,7 +817,8 @@ const EXPLANATIONS: [(Told, &[Line]); 5] = [
             status: 2,
             shown: "",
             printed: "",
-            complained: "error: no fault has this code\n",
+            complained: "error: no fault has this code: there are TX1, TX2, GM1 to GM6, NA1 to NA16,\n\
+                RU1 to RU14, LV1 to LV5, WN1 and WN2\n\nFor more information, try '--help'.\n",
         },
         &[
             (&["ps_play", "--explain", ""], ""),

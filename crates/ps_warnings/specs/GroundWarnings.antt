@@ -45,7 +45,7 @@ warned_of_ground crowded line = if crowded then record { line = line; kind = NoR
 abbrev pub line_of_ground : Names → List ℕ → ℕ
 line_of_ground names numbers = slice_index_or numbers (background_layer names) 0
 
--- the warnings of the lines of COLLISIONLAYERS
+-- those of the lines of COLLISIONLAYERS
 abbrev pub ground_warnings : Names → List RuleLine → List Line → List Warning
 ground_warnings names rules lines =
     warned_of_ground (is_crowded names rules) (line_of_ground names (layer_numbers lines))
