@@ -122,7 +122,6 @@ impl HeldSession {
     pub fn text(&self, alloc: Global) -> Result<OutputText, Memory>
         ensures { IfOk result (λ wrote. HasText self.now wrote) }
     {
-        let script = self.game.script_at(self.entry);
-        text_of_keys(alloc, script, &self.keys)
+        text_of_keys(alloc, self.game.script_at(self.entry), &self.keys)
     }
 }

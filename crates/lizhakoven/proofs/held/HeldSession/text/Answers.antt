@@ -16,6 +16,6 @@ returns c =
     c.self.inside.keys.items c.args.self.now c.deref.ensures c.deref-2.ensures.value c.self.view_is in
     subst (λ (held : HeldValue). IfOk c.text_of_keys.result (λ wrote. HasText held wrote)) same
     (text_each c.text_of_keys.result own (λ text is. text_there c.text_of_keys.result
-    (whole_front (script_shown c.script_at-script.result) c.deref-2.result.now)
+    (whole_front (script_shown c.script_at.result) c.deref-2.result.now)
     (whole_front (script_at c.deref.result.now c.self.inside.entry) c.deref-2.result.now)
-    ((c.script_at-script.ensures.as_written text is).whole_fronts c.deref-2.result.now) c.text_of_keys.ensures))
+    ((c.script_at.ensures.as_written text is).whole_fronts c.deref-2.result.now) c.text_of_keys.ensures))
