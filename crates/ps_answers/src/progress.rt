@@ -17,7 +17,8 @@ const PLACES: u32 = 64;
 /// What wipes the line away on which it is told how far a search is.
 const WIPED: &str = "\r\x1b[K";
 
-/// What keeps a terminal from going on in the next row where the line is wider than it. So the whole line is wiped away.
+/// What keeps a terminal from going on in the next row where the line is wider than it. So the whole line is wiped
+/// away.
 const CUT_OFF: &str = "\x1b[?7l";
 
 /// What lets it go on there again.

@@ -86,8 +86,8 @@ fn first_glyph(glyphs: &[&Glyph], objects: &[ObjectId]) -> Option<char>
     None
 }
 
-/// The character of the first of some glyphs that shows just these objects. Those are given, too, by the greatest number
-/// among their objects: others than those that have the same one as these objects aren't looked at.
+/// The character of the first of some glyphs that shows just these objects. The glyphs are given by the greatest
+/// number among their objects, too: those alone are looked at that have the same one as these objects.
 fn first_mixed(mixed: &[&Glyph], by_greatest: &[Vec<&Glyph>], objects: &[ObjectId]) -> Option<char>
     requires { AreByGreatest (map (λ glyph. glyph_shown glyph.now) mixed.now)
         (map (λ list. map (λ glyph. glyph_shown glyph.now) list.items) by_greatest.now) }

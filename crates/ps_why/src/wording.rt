@@ -3,7 +3,8 @@
 ghost use Rattle.std.specs.Prelude.{◌≡◌, IfOk, string_bytes};
 ghost use Rattle.ps_why.specs.Wording.{sentence, hint_words, blank_words, near_words, strange_words};
 ghost use Rattle.ps_why.specs.Wording.{undeclared_words, meaningless_words, unlayered_words, glyph_words, broken_words};
-ghost use Rattle.ps_why.specs.Wording.{empty_words, late_words, like_words, open_words, returns_words, clue_words, missing_words};
+ghost use Rattle.ps_why.specs.Wording.{empty_words, late_words, like_words, open_words, returns_words, clue_words};
+ghost use Rattle.ps_why.specs.Wording.{missing_words};
 ghost use Rattle.ps_why.specs.Wording.{case_words, twice_words, broken_byte_words, commas_words, slashes_words};
 ghost use Rattle.ps_why.specs.Wording.{key_word_words, like_header_words, below_like_words, utf16_words, zero_words};
 
