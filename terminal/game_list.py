@@ -9,10 +9,13 @@ from typed_keys import Key
 from widths import width, wrapped
 
 _HEAD = "w s or the arrows choose a game, Enter plays it, q leaves."
+# What stands there instead where the list is longer than the screen.
+_LONG_HEAD = "w s, arrows or page keys choose a game, Enter plays, q leaves. {:,} of {:,}"
 _NONE = "There is no game here: no file ends with .game or .txt."
 # How many columns the names have at most, before the titles.
 _MOST_OF_NAMES = 24
 _STEPS = {Key.UP: -1, Key.DOWN: 1}
+_PAGES = {Key.PAGE_UP: -1, Key.PAGE_DOWN: 1}
 _ENDINGS = (".game", ".txt")
 
 
@@ -36,6 +39,8 @@ class GameList:
         self._titles = {}
         self._chosen = 0
         self._top = 0
+        # How many games the screen has room for.
+        self._room = 1
 
     def choose(self, console, events):
         """Shows the list until a game is chosen, and answers its path; None where the list is left."""
@@ -49,17 +54,30 @@ class GameList:
                 return None
             elif event.value in (Key.ENTER, Key.SPACE, Key.ACT) and self._names:
                 return os.path.join(self._folder, self._names[self._chosen])
-            elif event.value in _STEPS:
-                self._move(_STEPS[event.value])
+            else:
+                self._move(self._steps(event.value))
 
     def rows(self, rows, columns):
         """The rows of the screen: the head, and below it as much of the list as has room."""
-        head = [*wrapped(_HEAD, columns), ""]
-        head = head if rows > len(head) else []
-        room = rows - len(head)
+        head = self._head(rows, columns)
+        self._room = room = rows - len(head)
         self._top = min(max(self._top, self._chosen - room + 1), self._chosen)
         places = range(self._top, min(self._top + room, len(self._names)))
         return head + ([self._row(place) for place in places] or wrapped(_NONE, columns))
+
+    def _head(self, rows, columns):
+        """The rows above the list, if there is room for them."""
+        head = [*wrapped(_HEAD, columns), ""]
+        if len(self._names) > rows - len(head):
+            head = [*wrapped(_LONG_HEAD.format(self._chosen + 1, len(self._names)), columns), ""]
+        return head if rows > len(head) else []
+
+    def _steps(self, key):
+        """How many games further a key goes; none for a key that isn't for that."""
+        if key in _PAGES:
+            return _PAGES[key] * self._room
+        ends = {Key.FIRST: -len(self._names), Key.LAST: len(self._names)}
+        return _STEPS.get(key) or ends.get(key, 0)
 
     def _move(self, step):
         self._chosen = min(max(self._chosen + step, 0), max(len(self._names) - 1, 0))

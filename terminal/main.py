@@ -10,14 +10,17 @@ from player import Fault  # noqa: E402
 from signals import Killed, die_by, raise_killed  # noqa: E402
 from sitting import Sitting  # noqa: E402
 from streaming import hand_over  # noqa: E402
+from widths import folded  # noqa: E402
 
-_KEYS, _SCREEN = 0, 1
+_KEYS, _SCREEN, _ERRORS = 0, 1, 2
 
 
 def tell(said):
-    """Tells a text on standard error, of which the terminal takes nothing as an order."""
+    """Tells a text on standard error, of which the terminal takes nothing as an order. Long lines are broken between words there."""
+    said = harmless_lines(said)
     try:
-        os.write(2, harmless_lines(said).encode("utf-8", "replace"))
+        said = folded(said, os.get_terminal_size(_ERRORS).columns or len(said)) if os.isatty(_ERRORS) else said
+        os.write(_ERRORS, said.encode("utf-8", "replace"))
     except OSError:
         pass  # The terminal is gone.
 

@@ -1,24 +1,26 @@
 """Pages of lines, which are left by a key."""
 from events import Kind
+from widths import hanging
 
 _FURTHER = "-- any key goes on --"
 _BACK = "-- any key goes back --"
 
 
-def _pages(lines, rows):
-    """The lines in pieces of at most `rows` rows, each with a last line that says what a key does."""
-    most = max(rows - 1, 1)
-    pieces = [lines[place:place + most] for place in range(0, len(lines), most)] or [[]]
+def _pages(lines, size):
+    """The lines in pieces for a terminal of that size (rows, columns), each with a last line that says what a key does."""
+    most = max(size[0] - 1, 1)
+    rows = [row for line in lines for row in hanging(line, size[1])]
+    pieces = [rows[place:place + most] for place in range(0, len(rows), most)] or [[]]
     return [piece + [_FURTHER] for piece in pieces[:-1]] + [pieces[-1] + [_BACK]]
 
 
 def read_pages(lines, console, events):
     """Shows the lines, a page after the other, each until a key comes; the screen is clear then."""
-    place, pages = 0, _pages(lines, console.size()[0])
+    place, pages = 0, _pages(lines, console.size())
     while place < len(pages):
         console.show_page(pages[place])
         place += _is_left(console, events)
-        pages = _pages(lines, console.size()[0])
+        pages = _pages(lines, console.size())
     console.leave_page()
 
 

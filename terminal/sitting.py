@@ -13,6 +13,7 @@ from progress import Progress
 from recording import Recording
 from signals import Killed, Signals
 from view_screen import ViewScreen
+from widths import folded
 
 INTERRUPTED = b"* interrupted\n"
 _QUIT = b"* quit"
@@ -85,7 +86,7 @@ class Sitting:
         except OSError as error:
             said = f"cannot read game: {error.strerror}\n".encode()
         self.events.drop_keys()
-        self.console.write(harmless_lines(decoded(said)) + _BACK)
+        self.console.write(folded(harmless_lines(decoded(said)), self.console.size()[1]) + _BACK)
         try:
             self._await_key()
         finally:

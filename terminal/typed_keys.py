@@ -27,18 +27,25 @@ class Key(enum.Enum):
     HELP = b"?"
     HINT = b"h"
     DRAW_ANEW = b"\x0c"
+    PAGE_UP = b"\x1b[5~"
+    PAGE_DOWN = b"\x1b[6~"
+    FIRST = b"\x1b[H"
+    LAST = b"\x1b[F"
     OTHER = b""
 
 
 _BY_BYTE = {key.value: key for key in Key if key is not Key.OTHER}
 _BY_BYTE[b"\n"] = Key.ENTER
-_BY_FINAL = {b"A": Key.UP, b"B": Key.DOWN, b"C": Key.RIGHT, b"D": Key.LEFT}
-_ARROW = re.compile(rb"\x1b[\[O]([A-D])\Z")
+_BY_END = {
+    b"A": Key.UP, b"B": Key.DOWN, b"C": Key.RIGHT, b"D": Key.LEFT, b"5~": Key.PAGE_UP, b"6~": Key.PAGE_DOWN,
+    b"H": Key.FIRST, b"1~": Key.FIRST, b"7~": Key.FIRST, b"F": Key.LAST, b"4~": Key.LAST, b"8~": Key.LAST,
+}
+_NAMED = re.compile(rb"\x1b[\[O]([A-DFH]|[1-8]~)\Z")
 
 
 def _key_of_sequence(sequence):
-    arrow = _ARROW.match(sequence)
-    return _BY_FINAL[arrow[1]] if arrow else Key.OTHER
+    named = _NAMED.match(sequence)
+    return _BY_END.get(named[1], Key.OTHER) if named else Key.OTHER
 
 
 class KeyReader:

@@ -8,6 +8,9 @@ from widths import wrapped
 
 # The lines of title, level and keys below a frame.
 _LINES_BELOW = 3
+# On terminals of so few rows these lines would leave a high board hardly any: it is shown as on the highest terminal without them.
+_LOW = range(8, 11)
+_WITHOUT_LINES = 7
 
 
 class ViewScreen:
@@ -30,7 +33,7 @@ class ViewScreen:
         self._standing.take(part)
         if part.kind is Kind.MESSAGE:
             text = part.data[2:-1].decode("utf-8", "surrogateescape")
-            self._message = Message(text, self._console.size())
+            self._message = Message(text, self._wanted())
             self._show_message()
         else:
             self._message = None if part.kind in (Kind.LEVEL, Kind.FRAME) else self._message
@@ -69,13 +72,13 @@ class ViewScreen:
         """Draws all anew, on a terminal of the size that it has now; nothing where nothing was drawn."""
         self._close()
         if self._message:
-            self._message.resize(self._console.size())
+            self._message.resize(self._wanted())
             if self._standing.news.startswith(b"! "):
                 self._standing.news = self._page()
         if self._standing.news.startswith(b"? "):
             self._standing.news = self._asked()
         if self._standing.lines():
-            self._open(self._console.size())
+            self._open(self._wanted())
 
     def read(self, lines, events):
         """Shows pages of lines, and then again what stood before."""
@@ -88,10 +91,10 @@ class ViewScreen:
         if not self._standing.lines():
             return
         try:
-            rows, columns = self._console.size()
+            rows, columns = self._wanted()
             if self._view is None or self._size != (rows, columns) or self._is_full(ending):
                 self._close()
-                self._open((max(rows - 1, 1), columns))
+                self._open((max(min(rows, self._console.size()[0] - 1), 1), columns))
             self._view.hand(ending)
             self._close()
         except Fault:
@@ -114,7 +117,7 @@ class ViewScreen:
 
     def _asked(self):
         """The line of what was asked last. Where it is too long its beginning is shown: without that its end says nothing."""
-        return f"? {beginning(self._question, self._console.size())}\n".encode()
+        return f"? {beginning(self._question, self._wanted())}\n".encode()
 
     def _show_message(self):
         self._show_news(self._page())
@@ -125,10 +128,19 @@ class ViewScreen:
 
     def _hand(self, line):
         """Hands a line on; to a new view all that stands."""
+        size = self._wanted()
+        if self._view is not None and self._size != size:
+            self._close()
         if self._view is None:
-            self._open(self._console.size())
+            self._open(size)
         else:
             self._view.hand(line)
+
+    def _wanted(self):
+        """The size for a view of what stands now: rows and columns."""
+        rows, columns = self._console.size()
+        is_high = self._standing.height() > rows - _LINES_BELOW - 1
+        return (_WITHOUT_LINES if rows in _LOW and is_high else rows, columns)
 
     def _open(self, size):
         self._size = size

@@ -2,6 +2,9 @@
 import unicodedata
 
 MORE = "\u2026"
+_SET_IN = "    "
+# With less room than this a row set in would break most words.
+_LEAST_ROOM = 10
 
 
 def columns_of(character):
@@ -44,6 +47,20 @@ def wrapped(text, columns):
         rows.append(text[:place].rstrip(" "))
         text = text[place:]
     return rows + [text]
+
+
+def hanging(text, columns):
+    """The same, with all rows but the first set in. A text that begins with blanks keeps them."""
+    room = columns - len(_SET_IN)
+    if fitting(text, columns) == len(text) or room < _LEAST_ROOM:
+        return [text]
+    first, *others = wrapped(text.lstrip(" "), room)
+    return [text[:len(text) - len(text.lstrip(" "))] + first, *(_SET_IN + row for row in others)]
+
+
+def folded(text, columns):
+    """The lines of a text, those that are too long in rows. Lines that begin with a blank stay, as marks may stand below their words."""
+    return "\n".join(row for line in text.split("\n") for row in ([line] if line[:1] == " " else wrapped(line, columns)))
 
 
 def width(text):

@@ -187,10 +187,10 @@ class AtTerminalTest(unittest.TestCase):
         file.write_bytes(b"wasd")
         with open(self.game, "rb") as keys:
             sittings = [
-                (self.sit("--record", str(file), self.game), b"it isn't empty; name a new file", 1),
+                (self.sit("--record", str(file), self.game), b"name a new file", 1),
                 (self.sit("--record", str(file), self.folder), b"is a folder", 2),
                 (self.sit("--record", str(file), "--level", "2", self.game), b"from the start of the game", 2),
-                (self.sit("--record", str(file), self.game, stdin=keys), b"tee FILE keeps those of a pipe", 1),
+                (self.sit("--record", str(file), self.game, stdin=keys), b"keeps those of a pipe", 1),
             ]
         for sitting, said, status in sittings:
             sitting.wait_for(said)

@@ -137,6 +137,15 @@ class GameListTest(unittest.TestCase):
         self.assertEqual(listed.choose(console, FakeEvents([Key.UP, Key.OTHER, Key.ENTER])), str(self.folder / "a.game"))
         self.assertIsNone(listed.choose(console, FakeEvents([Key.QUIT])))
 
+    def test_a_list_that_is_longer_than_the_screen(self):
+        self.fill(**{f"g{number}": "FAULT" for number in range(9)})
+        listed, console = self.listed(), mock.Mock(size=lambda: (5, 80))
+        self.assertIn("page keys", listed.rows(5, 80)[0])
+        self.assertIn(" 1 of 9", listed.rows(5, 80)[0])
+        for keys, name in (([Key.PAGE_DOWN], "g3"), ([Key.LAST], "g8"), ([Key.PAGE_UP], "g5"), ([Key.FIRST, Key.DOWN], "g1")):
+            chosen = listed.choose(console, FakeEvents([*keys, Key.ENTER]))
+            self.assertEqual(chosen, str(self.folder / f"{name}.game"), keys)
+
     def test_no_game(self):
         self.assertIn("no game here", self.listed().rows(24, 80)[-1])
 

@@ -45,6 +45,11 @@ class PagesTest(unittest.TestCase):
         shown = self.read(FakeConsole((3, 80)), KEY, KEY)
         self.assertEqual(shown, [["a", "b", "-- any key goes on --"], ["c", "-- any key goes back --"], None])
 
+    def test_lines_that_are_too_long(self):
+        console = FakeConsole((24, 20))
+        read_pages(["  a  one two three four five"], console, FakeEvents([KEY]))
+        self.assertEqual(console.shown[0], ["  a  one two three", "    four five", "-- any key goes back --"])
+
     def test_drawn_anew(self):
         shown = self.read(FakeConsole((24, 80)), Event(Kind.DRAW, None), Event(Kind.STOP, None), KEY)
         page = ["a", "b", "c", "-- any key goes back --"]

@@ -80,6 +80,19 @@ class ViewScreenTest(unittest.TestCase):
         self.assertEqual(FakeView.all[1].size, (3, 9))
         self.assertEqual(self.last(), b"= T\n# level 1\n~ of 3, 0 moves\n..P\n\n? Quit?\n")
 
+    def test_a_high_board_on_a_low_screen(self):
+        self.console.now = (8, 20)
+        self.show(START)
+        self.assertEqual(FakeView.all[-1].size, (8, 20))
+        high = b"= T\n# level 1\n" + b"P\n" * 6 + b"\n"
+        self.show(high)
+        self.assertEqual((FakeView.all[-1].size, self.last()), ((7, 20), high))
+        self.screen.leave(b"* quit\n")
+        self.assertEqual((FakeView.all[-1].size, self.last()), ((7, 20), high + b"* quit\n"))
+        self.console.now = (11, 20)
+        self.screen.redraw()
+        self.assertEqual(FakeView.all[-1].size, (11, 20))
+
     def test_pages(self):
         self.console.now = (8, 16)
         self.show(START + b"! one two three four five six\n")

@@ -3,7 +3,7 @@ import unittest
 
 from harmless import decoded, harmless, harmless_lines, name_text
 from messages import Message, page_starts, room_below
-from widths import columns_of, cut, width, wrapped
+from widths import columns_of, cut, folded, hanging, width, wrapped
 
 
 class HarmlessTest(unittest.TestCase):
@@ -36,6 +36,14 @@ class WidthTest(unittest.TestCase):
         self.assertEqual(wrapped("a bc def gh", 6), ["a bc", "def gh"])
         self.assertEqual(wrapped("abcdefgh i", 4), ["abcd", "efgh", "i"])
         self.assertEqual(wrapped("", 4), [""])
+
+    def test_rows_that_are_set_in(self):
+        self.assertEqual(hanging("  x  one two three", 18), ["  x  one two three"])
+        self.assertEqual(hanging("  x  one two three", 16), ["  x  one two", "    three"])
+        self.assertEqual(hanging("  x  one two three", 12), ["  x  one two three"])
+
+    def test_lines_are_folded(self):
+        self.assertEqual(folded("one two three\n  one two three\n", 8), "one two\nthree\n  one two three\n")
 
     def test_a_row_without_room_takes_a_character(self):
         self.assertEqual(wrapped("漢a", 1), ["漢", "a"])

@@ -26,6 +26,11 @@ class KeyReaderTest(unittest.TestCase):
     def test_arrows_in_pieces(self):
         self.assertEqual(keys_of(b"\x1b", b"[", b"A", b"\x1bO", b"Dw"), [Key.UP, Key.LEFT, Key.UP])
 
+    def test_keys_that_go_far(self):
+        self.assertEqual(keys_of(b"\x1b[5~\x1b[6~"), [Key.PAGE_UP, Key.PAGE_DOWN])
+        for first, last in ((b"\x1b[H", b"\x1b[F"), (b"\x1bOH", b"\x1bOF"), (b"\x1b[1~", b"\x1b[4~"), (b"\x1b[7~", b"\x1b[8~")):
+            self.assertEqual(keys_of(first + last), [Key.FIRST, Key.LAST])
+
     def test_other_keys_are_one_key_that_does_nothing(self):
         for sequence in (b"\x1b[3~", b"\x1b[1;5D", b"\x1b[[A", b"\x1bOP", b"\x1bx", b"\x1b[Z", "é".encode(), b"k", b"\x00"):
             self.assertEqual(keys_of(sequence), [Key.OTHER], sequence)
