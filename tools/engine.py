@@ -45,6 +45,10 @@ OPTIMISE = """--enable-bulk-memory --enable-mutable-globals --enable-nontrapping
 PACKING = {"id": lzma.FILTER_LZMA1, "preset": 9 | lzma.PRESET_EXTREME, "lc": 4, "lp": 0, "pb": 0, "dict_size": 1 << 21}
 
 
+# The steps of which a build tells.
+STEPS = ["reading the sources", "compiling", "letting the engine wait for keys"]
+
+
 class Unbuilt(Exception):
     """The engine can't be built: why, in a line or more."""
 
@@ -94,20 +98,23 @@ def compiled(kit, room, parts):
         return list(pool.map(compile_one, jobs))
 
 
-def build(out):
-    """Builds the engine into a file. Raises Unbuilt."""
+def build(out, tell):
+    """Builds the engine into a file, and calls `tell` as each of its steps begins. Raises Unbuilt."""
     kit = toolchain()
     with tempfile.TemporaryDirectory() as folder:
         room = pathlib.Path(folder)
         linked, narrow, made = room / "linked.wasm", room / "narrow.wasm", room / "engine.wasm"
         try:
+            tell()
             parts = cut(list(lines_of_program(kit, room)), MOST_COPIED_AT_PLAY, MOST_COPIED)
+            tell()
             run([kit / "toolchain/bin/ld.lld", *LINK, *compiled(kit, room, parts), "-o", linked])
             narrow.write_bytes(narrowed(linked.read_bytes()))
         except Unread as said:
             raise Unbuilt(f"the sources can't be read:\n{said}") from said
         except Unknown as what:
             raise Unbuilt(f"the linker wrote something that isn't known here: {what}") from what
+        tell()
         run(["wasm-opt", *OPTIMISE, narrow, "-o", made])
         shutil.move(made, out)
 

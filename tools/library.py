@@ -11,6 +11,7 @@ import tempfile
 
 from crates import TOP
 from module_parts import cut
+from steps import nothing
 from unproved import compiled, lines_of, toolchain
 
 CRATE = "lizhakoven"
@@ -116,12 +117,15 @@ def link(kit, room, objects):
     subprocess.run([tools / "ld.lld", *words, "-o", room / name_for_programs(), *objects, *below], check=True)
 
 
-def build(folder):
-    """Builds the library into a folder. Raises Unread where the sources can't be read."""
+def build(folder, tell=nothing):
+    """Builds the library into a folder, and calls `tell` as each step of a build begins. Raises Unread where the sources can't be read."""
     kit = toolchain()
     with tempfile.TemporaryDirectory() as made:
         room = pathlib.Path(made)
-        link(kit, room, compiled(kit, room, parts_of_library(kit, room), "-O3", "-fPIC"))
+        tell()
+        parts = parts_of_library(kit, room)
+        tell()
+        link(kit, room, compiled(kit, room, parts, "-O3", "-fPIC"))
         folder.mkdir(parents=True, exist_ok=True)
         for name in (ARCHIVE, name_for_programs()):
             shutil.move(room / name, folder / name)
