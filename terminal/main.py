@@ -43,6 +43,8 @@ def obey(asked):
         raise BadCommandLine(f"--record keeps the keys of one game, and {name_text(asked.game)} is a folder")
     if not (is_typed and os.isatty(_SCREEN)):
         return hand_over(asked)
+    if asked.game == "-" and os.isatty(_KEYS):
+        tell("play: type the text of a game, and ctrl-D below it\n")
     sitting = Sitting(asked, keys_typed(), _SCREEN)
     return sitting.play_folder() if is_folder else play(sitting)
 
