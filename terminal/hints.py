@@ -24,7 +24,7 @@ def hint_of(line, is_begun, ignored):
     won = _WON.match(line)
     if won:
         count, key = won[1].decode(), won[2].decode()
-        return f"{key} wins." if count == "1" else f"{key}: a win is {count} keys away."
+        return f"Press {key} to win." if count == "1" else f"Press {key}: a win is {count} keys away."
     if _NEVER.match(line):
         return f"Nothing wins from here{_way_out(ignored)}." if is_begun else "Nothing wins this level."
     unknown = _UNKNOWN.match(line)

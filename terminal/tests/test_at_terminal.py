@@ -120,10 +120,10 @@ class AtTerminalTest(unittest.TestCase):
     def test_a_hint_after_the_keys_so_far(self):
         sitting = self.sit(self.game)
         sitting.wait_for(b"#P..*#")
-        self.ask_for(sitting, b"d: a win is 2 keys away.")
+        self.ask_for(sitting, b"Press d: a win is 2 keys away.")
         sitting.type(b"d")
         sitting.wait_for(b"1 move")
-        self.ask_for(sitting, b"d: a win is 3 keys away.")
+        self.ask_for(sitting, b"Press d: a win is 3 keys away.")
         sitting.type(b"d")
         sitting.wait_for(b"2 moves")
         sitting.type(b"qq")

@@ -7,9 +7,9 @@ from hints import PATIENCE, STATES, Hints, hint_of
 
 class HintTest(unittest.TestCase):
     def test_the_next_key_of_a_win(self):
-        self.assertEqual(hint_of(b"level 2: won in 12 keys: dwwa\n", True, []), "d: a win is 12 keys away.")
-        self.assertEqual(hint_of(b"level 2: won in 1,204 keys: wwa\n", True, []), "w: a win is 1,204 keys away.")
-        self.assertEqual(hint_of(b"level 2: won in 1 key: x\n", False, []), "x wins.")
+        self.assertEqual(hint_of(b"level 2: won in 12 keys: dwwa\n", True, []), "Press d: a win is 12 keys away.")
+        self.assertEqual(hint_of(b"level 2: won in 1,204 keys: wwa\n", True, []), "Press w: a win is 1,204 keys away.")
+        self.assertEqual(hint_of(b"level 2: won in 1 key: x\n", False, []), "Press x to win.")
 
     def test_nothing_wins(self):
         lost = b"level 1: can't be won (12 states)\n"
@@ -28,7 +28,7 @@ class HintTest(unittest.TestCase):
         player = mock.Mock()
         player.solve_after.return_value = b"level 3: won in 2 keys: xd\n"
         hints = Hints(player, "a.game", 3)
-        self.assertEqual(hints.after(b"dd", True, []), "x: a win is 2 keys away.")
+        self.assertEqual(hints.after(b"dd", True, []), "Press x: a win is 2 keys away.")
         player.solve_after.assert_called_once_with("a.game", 3, b"dd", STATES, PATIENCE)
 
     def test_a_player_that_knows_no_keys_before_a_search_has_no_hints(self):
