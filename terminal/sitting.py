@@ -18,7 +18,7 @@ from widths import folded
 INTERRUPTED = b"* interrupted\n"
 _QUIT = b"* quit"
 _BACK = "Any key leads back to the list."
-_HELP = "h gives a hint, ? explains the signs."
+_HELP = "h gives a hint, ? lists signs and keys."
 
 
 class Sitting:

@@ -89,7 +89,7 @@ class AtTerminalTest(unittest.TestCase):
     def test_a_game_from_its_beginning_to_its_end(self):
         sitting = self.sit(self.game)
         sitting.wait_for(b"#P..*#")
-        sitting.wait_for(b"h gives a hint, ? explains the signs.")
+        sitting.wait_for(b"h gives a hint, ? lists signs and keys.")
         self.assertNotIn(b"\x07", sitting.output)
         sitting.type(b"D\x1b[C\x1bOC")
         sitting.wait_for(b"3 moves")
