@@ -2,6 +2,7 @@
 import os
 import pathlib
 import shutil
+import signal
 import sys
 
 
@@ -20,6 +21,15 @@ def words_of(doc, options=()):
     if words and words[0].startswith("-") and words[0] not in options:
         stop(f"there is no option {words[0]}")
     return words
+
+
+def end_with(main, words):
+    """Ends a tool with what `main` answers of its words. Where ctrl-C interrupts it, it ends as that does, and tells nothing more."""
+    try:
+        sys.exit(main(words))
+    except KeyboardInterrupt:
+        signal.signal(signal.SIGINT, signal.SIG_DFL)
+        os.kill(os.getpid(), signal.SIGINT)
 
 
 def no_words(doc):
