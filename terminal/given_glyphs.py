@@ -77,6 +77,8 @@ def with_glyphs(player, text, described):
             given_one_by_one = copy.taken_letters(described.without_glyph, taken)
             now = given_one_by_one and copy.described_with(given_one_by_one)
         if now:
+            # The page of help begins with those that the text itself declares.
+            now.glyphs.sort(key=lambda each: each not in described.glyphs)
             return now
     text.write(text.data)
     return described

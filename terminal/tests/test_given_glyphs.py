@@ -64,6 +64,7 @@ class GivenGlyphsTest(unittest.TestCase):
     def test_the_first_letter_that_is_left(self):
         glyphs, text, _calls = given(["Player", "Crate", "Pipe", "Cart"])
         self.assertEqual((glyphs["Crate"], glyphs["Pipe"], glyphs["Cart"]), ("C", "i", "a"))
+        self.assertEqual(list(glyphs), ["Background", "Player", "Crate", "Pipe", "Cart"])
         self.assertIn(b"LEGEND\n=======\nC = Crate\ni = Pipe\na = Cart\n. = Background\n", text)
         self.assertTrue(text.startswith(b"title T\n(\nLEGEND\n)\n"))
 
