@@ -9,7 +9,7 @@ use Rattle.std.proofs.lemmas.Nat.{mod_below}
 use Rattle.ps_model.specs.declared.limits.TheConstants.{SIDE_LIMIT}
 use Rattle.ps_board.specs.ColumnSets.{column_at, either_columns, no_columns}
 use Rattle.ps_rows.specs.BlankPlanes.{AreBlank}
-use Rattle.ps_rows.specs.PlaneCopies.{ArePlanesOf}
+use Rattle.ps_rows.specs.PlaneCopies.{ArePlanesOf, IsRowCopied}
 use Rattle.ps_rows.specs.Planes.{has_cell, row_of}
 use Rattle.ps_rows.specs.RowIndex.{AreRowsMarked}
 use Rattle.ps_rows.specs.Sameness.{DifferOnlyOnRows, HasDifferences}
@@ -58,3 +58,16 @@ unfolding has_cell
 blank_cell height first end cell plane words some low high blank =
     ap (λ (w : List Bool). column_at w (cell / height)) (blank plane (cell % height) low high (mod_below cell height some))
     ∙ none_at (cell / height)
+
+-- a row of the planes before those was copied
+pub row_over : (height row first end : ℕ) (source before now : List (List Bool)) → row < height → first ≤ end →
+    IsRowCopied height first row source before now → AreBlank height first end source → AreBlank height first end now →
+    IsRowCopied height end row source before now
+row_over height row first end source before now under order was mine theirs = record {
+  copied = λ plane low. elim (cases_lt plane first) [
+    | inl early ↦ was.copied plane early
+    | inr late ↦ theirs plane row late low under ∙ sym (mine plane row late low under)
+  ];
+  behind = λ plane high. was.behind plane (omega (arith, order, high));
+  left = was.left;
+}

@@ -1,15 +1,15 @@
 -- Rows of planes that are copied, those of a set, and the index behind the change.
 use Rattle.std.proofs.Common.{◌≡◌, ◌∙◌, ℕ, ◌+◌, ◌*◌, ◌/◌, ◌%◌, ◌<◌, ◌≤◌, ◌&&◌, inl, inr, Bool, true, false, not, List}
 use Rattle.std.proofs.Common.{length, refl, sym, ap, ap₂, subst, arith}
-use Rattle.std.specs.Prelude.{slice_set}
-use Rattle.std.proofs.lemmas.Bool.{cases_Bool, cases_eq, cases_lt, lt-ltb, or_parts}
+use Rattle.std.specs.Prelude.{[], slice_set}
+use Rattle.std.proofs.lemmas.Bool.{cases_Bool, cases_eq, cases_lt, false≢true, lt-ltb, or_parts}
 use Rattle.std.proofs.lemmas.List.{get_or-set_other, get_or-set_same}
 use Rattle.std.proofs.lemmas.Nat.{mod_below}
 use Rattle.std.proofs.Math.Bool.{and-true}
 use Rattle.ps_model.specs.declared.limits.TheConstants.{SIDE_LIMIT}
 use Rattle.ps_board.specs.ColumnSets.{both_columns, column_at, columns_below, columns_without, either_columns}
-use Rattle.ps_board.specs.ColumnSets.{no_columns}
-use Rattle.ps_board.proofs.ColumnLaws.{below_at}
+use Rattle.ps_board.specs.ColumnSets.{no_columns, set_columns}
+use Rattle.ps_board.proofs.ColumnLaws.{below_at, none_in}
 use Rattle.ps_rows.specs.PlaneCopies.{AreMarksTaken, AreRowsOf}
 use Rattle.ps_rows.specs.Planes.{AreSets, IsSet, row_of}
 use Rattle.ps_rows.specs.RowIndex.{AreRowsMarked}
@@ -22,6 +22,17 @@ pub not_both : (rows others both : List Bool) (row : ℕ) → row < SIDE_LIMIT �
 not_both rows others both row low is off =
     ap (λ (set : List Bool). column_at set row) is ∙ both_at rows others row low
     ∙ ap (λ (b : Bool). b && column_at others row) off
+
+-- of no rows
+pub no_rows_of : (height first end : ℕ) (rows : List Bool) (source before : List (List Bool)) → height ≤ SIDE_LIMIT →
+    set_columns rows ≡ [] → AreRowsOf height first end rows source before before
+no_rows_of height first end rows source before short none = record {
+  below = λ o row under less. refl;
+  behind = λ o row under more. refl;
+  copied = λ o row under low high on.
+      absurd (false≢true (sym (none_in rows row none (omega (arith, under, short))) ∙ on));
+  left = λ o row under off. refl;
+}
 
 -- rows beyond the height don't matter
 pub rows_within : (height first end : ℕ) (rows within : List Bool) (source before after : List (List Bool)) →

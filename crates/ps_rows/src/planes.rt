@@ -616,7 +616,8 @@ impl<W: ColumnWords> Planes<W> {
         self.copy_noted(other, planes);
     }
 
-    /// Makes rows of so many planes of others the same, the first ones, those in a set.
+    /// Makes rows of so many planes of others the same, the first ones, those in a set. Of very many planes those are
+    /// read that have a column on either side.
     pub fn copy_rows(&self, other: &mut Planes<W>, planes: u32, rows: Columns<W>)
         requires height { other.old.height ≡ self.now.height }
         requires here { planes * self.now.height ≤ vec_len self.now.words }
@@ -628,6 +629,13 @@ impl<W: ColumnWords> Planes<W> {
         ensures count { vec_len other.new.words ≡ vec_len other.old.words }
     {
         let within = rows.both(Columns::below(self.height));
+        if within.is_empty() {
+            return;
+        }
+        if are_many(planes) {
+            self.copy_marked_rows(other, planes, within);
+            return;
+        }
         let words = other.words.as_mut_slice();
         copy_row_sets(self.words.as_slice(), words, self.height, planes, within);
         let index = other.index.as_mut_slice();

@@ -827,14 +827,16 @@ impl<W: ColumnWords> Board for RowBoard<W> {
         true
     }
 
-    /// Where nothing moves on either board, these rows alone are copied, in the planes of all objects.
+    /// Where nothing moves on either board, these rows alone are copied, in the planes of all objects. Of very many
+    /// planes few rows are, and else each plane as a whole.
     fn copy_rows(&self, other: &mut RowBoard<W>, rows: &Columns<W>) {
-        if !self.rest_alike(other, rows.has_few()) {
+        let few = rows.has_few();
+        if !self.rest_alike(other, few) {
             self.copy_into(other);
             return;
         }
         let objects = self.members.count();
-        if are_many(objects) {
+        if !few && are_many(objects) {
             return self.copy_into(other);
         }
         self.planes.copy_rows(&mut other.planes, objects, *rows);

@@ -9,7 +9,7 @@ use Rattle.ps_board.proofs.Taken.{below-init}
 use Rattle.ps_rows.specs.PlaneCopies.{AreMarksTaken, AreRowsOf}
 use Rattle.ps_rows.specs.RowIndex.{AreRowsMarked}
 use Rattle.ps_rows.proofs.Passed.{planes_counted}
-use Rattle.ps_rows.proofs.RowsOfPlanes.{marked_rows, rows_within, sets_of_rows}
+use Rattle.ps_rows.proofs.RowsOfPlanes.{marked_rows, no_rows_of, rows_within, sets_of_rows}
 use Rattle.ps_rows.proofs.planes.Planes.copy_rows.Goals as goal
 
 pub copy_row_sets-requires : goal.copy_row_sets-requires
@@ -136,3 +136,30 @@ join-requires g c =
     let same : o.index.len ≡ p.index.len = counts_same o.index.len p.index.len o.height p.height o.words.len p.words.len
     p.some_row o.whole p.whole c.requires.height c.requires.count in
     p.room ∙ ap sets_for (sym same) ∙ sym o.room
+
+pub returns-then-is_empty-clause-words : goal.returns-then-is_empty-clause-words
+returns-then-is_empty-clause-words g c =
+    let p = c.args.self.now in
+    let o = c.args.other.now in
+    rows_within p.height 0 c.args.planes c.args.rows c.both-within.result p.words.items o.words.items o.words.items
+    p.rows (c.both-within.ensures ∙ ap (both_columns c.args.rows) c.below.ensures)
+    (no_rows_of p.height 0 c.args.planes c.both-within.result p.words.items o.words.items p.rows
+    (c.is_empty.ensures.none c.if-is_empty.true))
+
+pub copy_marked_rows-requires : goal.copy_marked_rows-requires
+copy_marked_rows-requires g c =
+    record {
+      many = c.are_many.ensures c.if-are_many.true;
+      rows = (below-init c.args.rows c.below.result c.both-within.result c.args.self.now.height c.below.ensures
+          c.both-within.ensures).at;
+      height = c.requires.height;
+      here = c.requires.here;
+      count = c.requires.count;
+    }
+
+pub returns-then-are_many-clause-words : goal.returns-then-are_many-clause-words
+returns-then-are_many-clause-words g c =
+    let p = c.args.self.now in
+    rows_within p.height 0 c.args.planes c.args.rows c.both-within.result p.words.items c.args.other.now.words.items
+    c.copy_marked_rows.new.other.words.items p.rows
+    (c.both-within.ensures ∙ ap (both_columns c.args.rows) c.below.ensures) c.copy_marked_rows.ensures.words
