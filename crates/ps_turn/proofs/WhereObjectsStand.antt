@@ -1,11 +1,10 @@
 -- Where objects stand, and what a motion given to them leaves as it is.
-use Rattle.std.proofs.Common.{◌≡◌, ◌∙◌, ℕ, ◌+◌, ◌*◌, ◌<◌, ◌≤◌, ◌||◌, Bool, true, false, cond, List, [], ◌∷◌}
-use Rattle.std.proofs.Common.{length, map, take, get_or, refl, sym, ap, ap₂, arith}
+use Rattle.std.proofs.Common.{◌≡◌, ◌∙◌, ℕ, ◌+◌, ◌*◌, ◌≤◌, ◌||◌, Bool, true, false, cond, List, [], ◌∷◌}
+use Rattle.std.proofs.Common.{length, map, refl, sym, ap, ap₂, arith}
 use Rattle.std.specs.Prelude.{nat_eq}
 use Rattle.std.specs.List.{list_any}
 use Rattle.std.proofs.Math.Nat.{mul-le-mul}
 use Rattle.std.proofs.lemmas.List.{get_or_past}
-use Rattle.std.proofs.lemmas.List.Folds.{list_any_more}
 use Rattle.std.proofs.lemmas.Bool.Decides.{nat_tests}
 use Rattle.std.proofs.lemmas.Bool.{or_parts}
 use Rattle.ps_model.specs.declared.pieces.ObjectId.{ObjectId}
@@ -16,8 +15,8 @@ use Rattle.ps_model.specs.board.Grid.{Grid, IsGrid, slot_at}
 use Rattle.ps_model.specs.meaning.Compiled.{slot_holds}
 use Rattle.ps_model.specs.names.Names.{is_among, same_object}
 use Rattle.ps_board.specs.ColumnSets.{column_at, either_columns}
-use Rattle.ps_board.specs.RowsOfGrids.{row_holders, row_slots}
-use Rattle.ps_board.proofs.ColumnLaws.{column_at-where, columns-agree}
+use Rattle.ps_board.specs.RowsOfGrids.{row_holders}
+use Rattle.ps_board.proofs.ColumnLaws.{column_at-where}
 use Rattle.ps_board.proofs.Taken.{AreBelow}
 use Rattle.ps_turn.specs.Sweeps.{holds_any, slot_set_moving}
 
