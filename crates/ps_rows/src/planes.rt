@@ -534,7 +534,9 @@ impl<W: ColumnWords> Planes<W> {
         marked
     }
 
-    /// Clears the planes from that one on, those that have a column.
+    /// Clears the planes from that one on, those that have a column. Called, so that whether anything may move is asked
+    /// in line.
+    #[inline(never)]
     pub fn clear_from(&mut self, first: u32)
         requires { first * self.old.height ≤ vec_len self.old.words }
         ensures words { self.new.words.items ≡ cleared_from (first * self.old.height) self.old.words.items }
