@@ -41,6 +41,7 @@ pub mod RowDifferences
 mod RowsAdded
 mod MixedPlanes
 mod RowsApart
+mod RowsCleared
 mod MixedBoards
 mod CopiedBoards
 pub mod RowHistories

@@ -15,10 +15,10 @@ use Rattle.ps_model.specs.declared.pieces.Direction.TheVariants.{Up, Down, Left,
 use Rattle.ps_model.specs.declared.pieces.Motion.{Motion}
 use Rattle.ps_model.specs.declared.pieces.Motion.TheVariants.{Still, Going, Acting}
 use Rattle.ps_model.specs.board.Movement.{is_number}
-use Rattle.ps_rows.specs.Planes.{has_cell, row_of, with_cell, with_cell_in}
+use Rattle.ps_rows.specs.Planes.{row_of, with_cell, with_cell_in}
 use Rattle.ps_rows.specs.RowIndex.{AreRowsMarked}
 use Rattle.ps_rows.specs.RowTests.{five_rows}
-use Rattle.ps_rows.specs.Showing.{first_motion, motion_plane, motion_planes}
+use Rattle.ps_rows.specs.Showing.{motion_plane, motion_planes}
 use Rattle.ps_rows.proofs.Sets.{either_at, none_at}
 
 off_by : (own off : Bool) → off ≡ false → (if own then false else off) ≡ false
@@ -212,24 +212,3 @@ five_alone height cell first Acting plane words some is blank =
       other_stays height cell (first + 4) (first + 3) words (omega arith) (blank (first + 3) (omega arith) (omega arith)),
       chosen_on height cell (first + 4) words,
     ) refl
-
--- a cell in a row without columns
-blank_cell : (height : ℕ) (words : List (List Bool)) (cell plane : ℕ) →
-    row_of words (plane * height + cell % height) ≡ no_columns → has_cell height words cell plane ≡ false
-unfolding has_cell
-blank_cell height words cell plane blank =
-    ap (λ (row : List Bool). column_at row (cell / height)) blank ∙ none_at (cell / height)
-
--- so that it has none of five motions
-pub at_rest_there : (height : ℕ) (words : List (List Bool)) (cell first : ℕ) →
-    ((plane : ℕ) → first ≤ plane → plane ≤ first + 4 →
-    row_of words (plane * height + cell % height) ≡ no_columns) →
-    Still ≡ first_motion (has_cell height words cell) first
-unfolding first_motion
-at_rest_there height words cell first blank =
-    let up = blank_cell height words cell first (blank first (omega arith) (omega arith)) in
-    let down = blank_cell height words cell (first + 1) (blank (first + 1) (omega arith) (omega arith)) in
-    let left = blank_cell height words cell (first + 2) (blank (first + 2) (omega arith) (omega arith)) in
-    let right = blank_cell height words cell (first + 3) (blank (first + 3) (omega arith) (omega arith)) in
-    let acting = blank_cell height words cell (first + 4) (blank (first + 4) (omega arith) (omega arith)) in
-    rw (up, down, left, right, acting) refl

@@ -1,6 +1,6 @@
 //! The five planes of a layer's motions.
 
-ghost use Rattle.std.specs.Prelude.{◌≡◌, ◌+◌, ◌*◌, ◌/◌, ◌%◌, ◌^◌, ◌<◌, ◌≤◌, ℕ, vec_len};
+ghost use Rattle.std.specs.Prelude.{◌≡◌, ◌+◌, ◌*◌, ◌/◌, ◌%◌, ◌^◌, ◌<◌, ◌≤◌, ℕ, None, vec_len};
 ghost use Rattle.ps_board.specs.ColumnSets.{no_columns};
 ghost use Rattle.ps_rows.specs.Planes.{has_cell, row_of, with_cell_in};
 ghost use Rattle.ps_rows.specs.Showing.{first_motion, motion_plane, motion_planes};
@@ -25,15 +25,12 @@ pub fn motion_plane(first: u32, motion: Motion) -> Option<u32>
     Some(first + behind)
 }
 
-/// The first motion whose plane has a cell. No plane is read where the row is known to have no motion.
+/// The first motion whose plane has a cell.
 pub fn first_motion<W: ColumnWords>(planes: &Planes<W>, cell: u32, first: u32) -> Motion
     requires few { first + 4 < 2 ^ 32 }
     requires planes { (first + 5) * planes.now.height ≤ vec_len planes.now.words }
     ensures { result ≡ first_motion (has_cell planes.now.height planes.now.words.items cell) first }
 {
-    if planes.is_unmarked(first, cell % planes.height) {
-        return Motion::Still;
-    }
     if planes.has_cell(cell, first) {
         return Motion::Going(Direction::Up);
     }
@@ -88,4 +85,19 @@ pub fn choose_motion<W: ColumnWords>(planes: &mut Planes<W>, cell: u32, first: u
     }
     let motions = [first, first + 1, first + 2, first + 3, first + 4];
     planes.choose_plane(cell, &motions, motion_plane(first, motion));
+}
+
+/// Brings a cell to rest. Unlike `choose_motion` it doesn't ask first whether the row rests: an object that has moved had
+/// a motion there.
+pub fn clear_motion<W: ColumnWords>(planes: &mut Planes<W>, cell: u32, first: u32)
+    requires column { cell / planes.old.height < W.limit }
+    requires few { first + 4 < 2 ^ 32 }
+    requires planes { (first + 5) * planes.old.height ≤ vec_len planes.old.words }
+    ensures words { let p = planes.old in
+        planes.new.words.items ≡ with_cell_in p.height cell None p.words.items (motion_planes first) }
+    ensures height { planes.new.height ≡ planes.old.height }
+    ensures count { vec_len planes.new.words ≡ vec_len planes.old.words }
+{
+    let motions = [first, first + 1, first + 2, first + 3, first + 4];
+    planes.choose_plane(cell, &motions, None);
 }

@@ -88,6 +88,41 @@ fn clear_plane<W: ColumnWords>(words: &mut [Columns<W>], height: u32, plane: usi
     clear(&mut words[start..start + height as usize]);
 }
 
+/// Clears a row of a plane.
+fn clear_row<W: ColumnWords>(words: &mut [Columns<W>], height: u32, plane: usize, row: u32)
+    requires row { row < height }
+    requires plane { (plane + 1) * height ≤ length words.old }
+    ensures { words.new ≡ slice_set words.old (plane * height + row) no_columns }
+{
+    let start = plane * height as usize;
+    words[start + row as usize] = Columns::none();
+}
+
+/// Clears the rows of a plane that are marked; it has no column in any other. Where they are many, all rows are cleared
+/// in one go.
+fn clear_marked_rows<W: ColumnWords>(
+    words: &mut [Columns<W>],
+    height: u32,
+    plane: usize,
+    marked: Columns<W>,
+)
+    requires short { height ≤ SIDE_LIMIT }
+    requires low { height ≤ W.limit }
+    requires plane { (plane + 1) * height ≤ length words.old }
+    requires blank { (row : ℕ) → row < height → column_at marked row ≡ false →
+        row_of words.old (plane * height + row) ≡ no_columns }
+    ensures { ArePlanesOf height plane (plane + 1) [] words.old words.new }
+{
+    if !marked.has_few() {
+        clear_plane(words, height, plane);
+        return;
+    }
+    let mut left = marked.both(Columns::below(height));
+    while let Some(row) = left.take_first() {
+        clear_row(words, height, plane, row);
+    }
+}
+
 /// Makes the sets of others from the first one up to the end those of the same places here.
 fn copy_sets<W: ColumnWords>(
     sets: &[Columns<W>],
@@ -336,6 +371,20 @@ impl<W: ColumnWords> Planes<W> {
         self.write_row(plane, row, word);
     }
 
+    /// Gives a row of a plane these columns, as `set_row` does; cheaper than that where planes are few.
+    fn put_row(&mut self, plane: u32, row: u32, word: Columns<W>)
+        requires row { row < self.old.height }
+        requires plane { (plane + 1) * self.old.height ≤ vec_len self.old.words }
+        requires set { IsSet word }
+        ensures words { self.new.words.items ≡ slice_set self.old.words.items (plane * self.old.height + row) word }
+        ensures height { self.new.height ≡ self.old.height }
+        ensures count { vec_len self.new.words ≡ vec_len self.old.words }
+    {
+        let before = self.index[plane as usize];
+        self.used.note_of_many(plane, before);
+        self.write_row(plane, row, word);
+    }
+
     /// Leaves these columns in a row of a plane, and takes the others away. The plane needn't be noted for it.
     #[inline(always)]
     pub fn leave_in_row(&mut self, plane: u32, row: u32, word: Columns<W>)
@@ -403,7 +452,7 @@ impl<W: ColumnWords> Planes<W> {
     {
         let (row, column) = (cell % self.height, cell / self.height);
         let word = self.row(plane, row).with(column, true);
-        self.set_row(plane, row, word);
+        self.put_row(plane, row, word);
     }
 
     /// Puts a cell into the chosen one of these planes, if one is chosen, and takes it away from the others.
@@ -454,7 +503,7 @@ impl<W: ColumnWords> Planes<W> {
         None
     }
 
-    /// Clears a plane, if a row of it is marked.
+    /// Clears the rows of a plane that are marked.
     fn clear_marked(&mut self, plane: usize)
         requires { (plane + 1) * self.old.height ≤ vec_len self.old.words }
         ensures words { let p = self.old in
@@ -463,11 +512,12 @@ impl<W: ColumnWords> Planes<W> {
         ensures count { vec_len self.new.words ≡ vec_len self.old.words }
         ensures marks { vec_len self.new.index ≡ vec_len self.old.index }
     {
-        if self.index[plane].is_empty() {
+        let marked = self.index[plane];
+        if marked.is_empty() {
             return;
         }
         let height = self.height;
-        clear_plane(self.words.as_mut_slice(), height, plane);
+        clear_marked_rows(self.words.as_mut_slice(), height, plane, marked);
         self.index[plane] = Columns::none();
     }
 
@@ -484,7 +534,9 @@ impl<W: ColumnWords> Planes<W> {
         marked
     }
 
-    /// Clears the planes from that one on, those that have a column.
+    /// Clears the planes from that one on, those that have a column. Called, so that whether anything may move is asked
+    /// in line.
+    #[inline(never)]
     pub fn clear_from(&mut self, first: u32)
         requires { first * self.old.height ≤ vec_len self.old.words }
         ensures words { self.new.words.items ≡ cleared_from (first * self.old.height) self.old.words.items }

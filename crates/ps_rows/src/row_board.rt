@@ -23,7 +23,7 @@ ghost use Rattle.ps_rows.specs.SlotsWritten.{slot_by, stands_on};
 
 use crate::changes::change_layer;
 use crate::members::{MemberRange, Members};
-use crate::motions::{choose_motion, first_motion};
+use crate::motions::{choose_motion, clear_motion, first_motion};
 use crate::planes::Planes;
 use crate::row_differences::{RowDifference, change_rows, differences, reach};
 use crate::sameness::{differing_row, same_plane_on, same_planes, same_planes_on, unlike_row};
@@ -705,7 +705,7 @@ impl<W: ColumnWords> Board for RowBoard<W> {
         let first = self.motions_from(layer.0);
         let objects = self.members.of(layer.0);
         self.planes.shift_cell(cell, to, objects);
-        choose_motion(&mut self.planes, cell, first, Motion::Still);
+        clear_motion(&mut self.planes, cell, first);
         let height = self.planes.height;
         self.touched = self
             .touched

@@ -132,9 +132,6 @@ impl<W: ColumnWords> RowBoard<W> {
         requires row { row < self.now.planes.height }
         ensures { result ≡ five_rows self.now.planes.height self.now.planes.words.items first row }
     {
-        if self.planes.is_unmarked(first, row) {
-            return Columns::none();
-        }
         self.planes.five_row(first, row)
     }
 

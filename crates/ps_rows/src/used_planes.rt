@@ -113,6 +113,21 @@ impl UsedPlanes {
         self.note(plane);
     }
 
+    /// Notes a plane as `note_first` does. Of few planes none is noted: this is asked first, so that a cell that is put
+    /// into an empty plane costs no call. Each key gives a motion so.
+    #[inline(always)]
+    pub fn note_of_many<W: ColumnWords>(&mut self, plane: u32, marked: Columns<W>)
+        ensures noted { plane / WORD_BITS < vec_len self.old.words → set_columns marked ≡ [] →
+            is_used self.new.words.items plane ≡ true }
+        ensures kept { AreAmongUsed self.old.words.items self.new.words.items }
+        ensures long { vec_len self.new.words ≡ vec_len self.old.words }
+    {
+        if self.words.is_empty() {
+            return;
+        }
+        self.note_first(plane, marked);
+    }
+
     /// Notes all planes of others, as many as there is room for.
     pub fn join(&mut self, other: &UsedPlanes)
         requires { vec_len other.now.words ≡ vec_len self.old.words }

@@ -12,12 +12,13 @@ use Rattle.ps_model.specs.declared.pieces.ObjectId.{ObjectId}
 use Rattle.ps_model.specs.declared.pieces.Slot.{Slot}
 use Rattle.ps_model.specs.board.Grid.{Grid, IsGrid, cell_at}
 use Rattle.ps_model.specs.meaning.Compiled.{slot_holds}
-use Rattle.ps_board.specs.ColumnSets.{both_columns, column_at, columns_below, either_columns}
+use Rattle.ps_laws.proofs.common.Truths.{or_across}
+use Rattle.ps_board.specs.ColumnSets.{both_columns, column_at, columns_below, either_columns, no_columns}
 use Rattle.ps_board.specs.RowsOfGrids.{PassOnlyOn}
-use Rattle.ps_board.proofs.ColumnLaws.{column_at-where}
-use Rattle.ps_turn.specs.RowsOfCells.{NonePassOutside, has_each}
+use Rattle.ps_board.proofs.ColumnLaws.{column_at-where, columns-agree}
+use Rattle.ps_turn.specs.RowsOfCells.{NonePassOutside, has_each, row_cells}
 use Rattle.ps_turn.specs.Sweeps.{holds_any}
-use Rattle.ps_turn.proofs.RowsOfCells.{each_more}
+use Rattle.ps_turn.proofs.RowsOfCells.{each_more, rows_either}
 
 -- slots that pass neither of two tests
 none_of_both : (p q r : Slot → Bool) (cell : List Slot) → ((slot : Slot) → r slot ≡ (p slot || q slot)) →
@@ -31,6 +32,14 @@ none_of_both p q r (slot ∷ cell) e off none =
 holds_none : (cell : List Slot) → list_any (holds_any []) cell ≡ false
 holds_none [] = refl
 holds_none (slot ∷ cell) = holds_none cell
+
+-- slots that pass one of two tests
+some_of_both : (p q r : Slot → Bool) (cell : List Slot) → ((slot : Slot) → r slot ≡ (p slot || q slot)) →
+    (list_any p cell || list_any q cell) ≡ list_any r cell
+some_of_both p q r [] e = refl
+some_of_both p q r (slot ∷ cell) e =
+    or_across (p slot) (list_any p cell) (q slot) (list_any q cell)
+    ∙ sym (ap₂ (λ (x y : Bool). x || y) (e slot) (sym (some_of_both p q r cell e)))
 
 -- the same test in other words
 pub outside_agree : (f h : List Slot → Bool) (g : Grid) (rows : List Bool) → ((cell : List Slot) → f cell ≡ h cell) →
@@ -57,6 +66,25 @@ held-more g objects count object rows having either shape within is e none only 
     (λ slot. list_any_more (λ each. slot_holds each slot) objects count object within
     ∙ ap (λ (o : ObjectId). holds_any (take count objects) slot || slot_holds o slot) (sym is))
     (none row low parts.0 x across) (only row low parts.1 x across)
+
+pub standing-none : (g : Grid) (row : ℕ) → no_columns ≡ row_cells (list_any (holds_any [])) g row
+standing-none g row = columns-agree (λ x. false) (λ x.
+    nat_lt x g.width && list_any (holds_any []) (cell_at g (x * g.height + row)))
+    (λ x low. sym (ap (λ (b : Bool). nat_lt x g.width && b) (holds_none (cell_at g (x * g.height + row)))
+    ∙ and-false (nat_lt x g.width)))
+
+pub standing-more : (g : Grid) (objects : List ObjectId) (count : ℕ) (object : ObjectId) (row : ℕ)
+    (having more : List Bool) → count < length objects → object ≡ get_or objects count object →
+    having ≡ row_cells (list_any (holds_any (take count objects))) g row →
+    more ≡ row_cells (list_any (slot_holds object)) g row →
+    either_columns having more ≡ row_cells (list_any (holds_any (take (count + 1) objects))) g row
+standing-more g objects count object row having more within is so_far told =
+    rows_either (list_any (holds_any (take count objects))) (list_any (slot_holds object))
+    (list_any (holds_any (take (count + 1) objects))) g row having more
+    (λ cell. some_of_both (holds_any (take count objects)) (slot_holds object) (holds_any (take (count + 1) objects))
+    cell (λ slot. list_any_more (λ each. slot_holds each slot) objects count object within
+    ∙ ap (λ (o : ObjectId). holds_any (take count objects) slot || slot_holds o slot) (sym is)))
+    so_far told
 
 -- each of the objects passed by, and one more
 pub each-none : (g : Grid) (rows : List Bool) → IsGrid g → rows ≡ columns_below g.height →

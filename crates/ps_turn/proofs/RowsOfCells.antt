@@ -19,7 +19,7 @@ use Rattle.ps_model.specs.board.Grid.{Grid, IsGrid, cell_at}
 use Rattle.ps_model.specs.session.Frames.{objects_in}
 use Rattle.ps_laws.proofs.common.Truths.{or_across}
 use Rattle.ps_board.specs.ColumnSets.{columns_where, column_at, set_columns, columns_below, both_columns}
-use Rattle.ps_board.specs.ColumnSets.{columns_without}
+use Rattle.ps_board.specs.ColumnSets.{columns_without, either_columns}
 use Rattle.ps_board.proofs.ColumnLaws.{column_at-where, columns-agree, set_columns-where}
 use Rattle.ps_board.proofs.PassedColumns.{cell_below}
 use Rattle.ps_board.proofs.Taken.{AreBelow}
@@ -79,6 +79,10 @@ within-both width f h =
     ap₂ (λ (a b : Bool). a && b) (column_at-where (λ y. nat_lt y width && f y) x low)
     (column_at-where (λ y. nat_lt y width && h y) x low)
     ∙ both_by (nat_lt x width) (f x) (h x))
+
+either_by : (low a b c : Bool) → (a || b) ≡ c → ((low && a) || (low && b)) ≡ (low && c)
+either_by true a b c e = e
+either_by false a b c e = refl
 
 without_by : (low a b : Bool) → ((low && a) && not (low && b)) ≡ (low && (a && not b))
 without_by true a b = refl
@@ -161,6 +165,22 @@ pub rows_met : (subject place : List Slot → Bool) (g : Grid) (row : ℕ) (colu
 rows_met subject place g row columns others is are =
     ap₂ both_columns is are ∙ within-both g.width (λ x. subject (cell_at g (x * g.height + row))) (λ x.
     place (cell_at g (x * g.height + row)))
+
+-- the rows of what passes one of two tests
+pub rows_either : (f h k : List Slot → Bool) (g : Grid) (row : ℕ) (columns others : List Bool) →
+    ((cell : List Slot) → (f cell || h cell) ≡ k cell) → columns ≡ row_cells f g row → others ≡ row_cells h g row →
+    either_columns columns others ≡ row_cells k g row
+rows_either f h k g row columns others same is are =
+    columns-agree (λ x. column_at columns x || column_at others x) (λ x.
+    nat_lt x g.width && k (cell_at g (x * g.height + row)))
+    (λ x low.
+    ap₂ (λ (a b : Bool). a || b)
+    (ap (λ (cs : List Bool). column_at cs x) is
+    ∙ column_at-where (λ y. nat_lt y g.width && f (cell_at g (y * g.height + row))) x low)
+    (ap (λ (cs : List Bool). column_at cs x) are
+    ∙ column_at-where (λ y. nat_lt y g.width && h (cell_at g (y * g.height + row))) x low)
+    ∙ either_by (nat_lt x g.width) (f (cell_at g (x * g.height + row))) (h (cell_at g (x * g.height + row)))
+    (k (cell_at g (x * g.height + row))) (same (cell_at g (x * g.height + row))))
 
 pub rows_missed : (subject place : List Slot → Bool) (g : Grid) (row : ℕ) (columns others : List Bool) →
     columns ≡ row_cells subject g row → others ≡ row_cells place g row →

@@ -1,11 +1,10 @@
 -- Where objects stand, and what a motion given to them leaves as it is.
-use Rattle.std.proofs.Common.{◌≡◌, ◌∙◌, ℕ, ◌+◌, ◌*◌, ◌<◌, ◌≤◌, ◌||◌, Bool, true, false, cond, List, [], ◌∷◌}
-use Rattle.std.proofs.Common.{length, map, take, get_or, refl, sym, ap, ap₂, arith}
+use Rattle.std.proofs.Common.{◌≡◌, ◌∙◌, ℕ, ◌+◌, ◌*◌, ◌≤◌, ◌||◌, Bool, true, false, cond, List, [], ◌∷◌}
+use Rattle.std.proofs.Common.{length, map, refl, sym, ap, ap₂, arith}
 use Rattle.std.specs.Prelude.{nat_eq}
 use Rattle.std.specs.List.{list_any}
 use Rattle.std.proofs.Math.Nat.{mul-le-mul}
 use Rattle.std.proofs.lemmas.List.{get_or_past}
-use Rattle.std.proofs.lemmas.List.Folds.{list_any_more}
 use Rattle.std.proofs.lemmas.Bool.Decides.{nat_tests}
 use Rattle.std.proofs.lemmas.Bool.{or_parts}
 use Rattle.ps_model.specs.declared.pieces.ObjectId.{ObjectId}
@@ -16,36 +15,19 @@ use Rattle.ps_model.specs.board.Grid.{Grid, IsGrid, slot_at}
 use Rattle.ps_model.specs.meaning.Compiled.{slot_holds}
 use Rattle.ps_model.specs.names.Names.{is_among, same_object}
 use Rattle.ps_board.specs.ColumnSets.{column_at, either_columns}
-use Rattle.ps_board.specs.RowsOfGrids.{row_holders, row_slots}
-use Rattle.ps_board.proofs.ColumnLaws.{column_at-where, columns-agree}
+use Rattle.ps_board.specs.RowsOfGrids.{row_holders}
+use Rattle.ps_board.proofs.ColumnLaws.{column_at-where}
 use Rattle.ps_board.proofs.Taken.{AreBelow}
 use Rattle.ps_turn.specs.Sweeps.{holds_any, slot_set_moving}
 
--- one object more
-pub layer_more : (g : Grid) (objects : List ObjectId) (layer row count : ℕ) (all more : List Bool) (object : ObjectId)
-    → count < length objects → object ≡ get_or objects count object →
-    all ≡ row_slots (holds_any (take count objects)) g layer row → more ≡ row_holders g object layer row →
-    either_columns all more ≡ row_slots (holds_any (take (count + 1) objects)) g layer row
-layer_more g objects layer row count all more object within is so_far told =
-    columns-agree (λ x. column_at all x || column_at more x) (λ x.
-    holds_any (take (count + 1) objects) (slot_at g (x * g.height + row) layer))
-    (λ x low.
-    ap₂ (λ (a b : Bool). a || b)
-    (ap (λ (columns : List Bool). column_at columns x) so_far
-    ∙ column_at-where (λ y. holds_any (take count objects) (slot_at g (y * g.height + row) layer)) x low)
-    (ap (λ (columns : List Bool). column_at columns x) told
-    ∙ column_at-where (λ y. slot_holds object (slot_at g (y * g.height + row) layer)) x low
-    ∙ ap (λ (o : ObjectId). slot_holds o (slot_at g (x * g.height + row) layer)) is)
-    ∙ sym (list_any_more (λ o. slot_holds o (slot_at g (x * g.height + row) layer)) objects count object within))
-
--- and none of them stands beyond the last column
+-- nothing stands in a bare slot, and beyond the last column
 pub holds_bare : (objects : List ObjectId) → holds_any objects Bare ≡ false
 holds_bare [] = refl
 holds_bare (object ∷ objects) = holds_bare objects
 
-pub layer_below : (objects : List ObjectId) (g : Grid) (layer row : ℕ) (all more : List Bool) → IsGrid g →
-    more ≡ row_slots (holds_any objects) g layer row → AreBelow g.width all → AreBelow g.width (either_columns all more)
-layer_below objects g layer row all more shape told below = record {
+pub layer_below : (object : ObjectId) (g : Grid) (layer row : ℕ) (all more : List Bool) → IsGrid g →
+    more ≡ row_holders g object layer row → AreBelow g.width all → AreBelow g.width (either_columns all more)
+layer_below object g layer row all more shape told below = record {
   at = λ x low far.
       let cells : g.width * g.height ≤ x * g.height =
       mul-le-mul far (let le : g.height ≤ g.height = omega arith in le) in
@@ -55,8 +37,8 @@ layer_below objects g layer row all more shape told below = record {
       column_at-where (λ y. column_at all y || column_at more y) x low
       ∙ ap₂ (λ (a b : Bool). a || b) (below.at x low far)
       (ap (λ (columns : List Bool). column_at columns x) told
-      ∙ column_at-where (λ y. holds_any objects (slot_at g (y * g.height + row) layer)) x low
-      ∙ ap (holds_any objects) bare ∙ holds_bare objects);
+      ∙ column_at-where (λ y. slot_holds object (slot_at g (y * g.height + row) layer)) x low
+      ∙ ap (slot_holds object) bare);
 }
 
 -- the same object either way round

@@ -64,10 +64,11 @@ fn has_left<B: Board>(game: &TurnGame<'_>, before: &B, after: &B) -> bool
     false
 }
 
-/// Whether there was a Player, and each cell that had one still has one.
+/// Whether there was a Player, and each cell that had one still has one. In most turns one has left, which is asked
+/// for first.
 pub fn stayed<B: Board>(game: &TurnGame<'_>, before: &B, after: &B) -> bool
     requires { HaveSameSides (B.grid after.now) (B.grid before.now) }
     ensures { result ≡ stayed game.now.names (B.grid after.now) (player_cells game.now.names (B.grid before.now)) }
 {
-    is_there(game, before) && !has_left(game, before, after)
+    !has_left(game, before, after) && is_there(game, before)
 }

@@ -2,27 +2,23 @@
 
 ghost use Rattle.std.specs.Prelude.{◌≡◌, ◌<◌};
 ghost use Rattle.std.specs.List.{list_any};
-ghost use Rattle.ps_board.specs.RowsOfGrids.{row_slots};
+ghost use Rattle.ps_model.specs.meaning.Compiled.{slot_holds};
 ghost use Rattle.ps_turn.specs.RowsOfCells.{NonePassOutside, row_cells};
 ghost use Rattle.ps_turn.specs.Sweeps.{holds_any};
 
 use ps_board::{Board, Columns, recall_shape};
 use ps_model::{LayerId, ObjectId};
 
-/// The columns of a row in which one of the objects stands on a layer.
-fn layer_columns<B: Board>(
-    board: &B,
-    objects: &[ObjectId],
-    layer: LayerId,
-    row: u32,
-) -> Columns<B::Words>
-    requires layer { layer.0 < (B.grid board.now).layers }
-    requires row { row < (B.grid board.now).height }
-    ensures { result ≡ row_slots (holds_any objects.now) (B.grid board.now) layer.0 row }
+/// The columns of a row in whose cells an object stands. All layers are asked for one object before the next one, so
+/// that where the board has it is looked up once.
+fn object_columns<B: Board>(board: &B, object: ObjectId, row: u32) -> Columns<B::Words>
+    requires { row < (B.grid board.now).height }
+    ensures { result ≡ row_cells (list_any (slot_holds object)) (B.grid board.now) row }
 {
+    recall_shape(board);
     let mut holding = Columns::none();
-    for index in 0..objects.len() {
-        holding = holding.either(board.holders(objects[index], layer, row));
+    for layer in 0..board.layers() {
+        holding = holding.either(board.holders(object, LayerId(layer), row));
     }
     holding
 }
@@ -33,10 +29,9 @@ pub fn columns_with<B: Board>(board: &B, objects: &[ObjectId], row: u32) -> Colu
     requires { row < (B.grid board.now).height }
     ensures { result ≡ row_cells (list_any (holds_any objects.now)) (B.grid board.now) row }
 {
-    recall_shape(board);
     let mut holding = Columns::none();
-    for layer in 0..board.layers() {
-        holding = holding.either(layer_columns(board, objects, LayerId(layer), row));
+    for index in 0..objects.len() {
+        holding = holding.either(object_columns(board, objects[index], row));
     }
     holding
 }

@@ -1,12 +1,6 @@
 use Rattle.std.proofs.Common.{◌∙◌, sym, refl}
 use Rattle.ps_rows.specs.Showing.{first_motion}
-use Rattle.ps_rows.proofs.Untouched.{at_rest_there}
 use Rattle.ps_rows.proofs.motions.first_motion.Goals as goal
-
-pub returns-then-is_unmarked : goal.returns-then-is_unmarked
-returns-then-is_unmarked g c =
-    let p = c.args.planes.now in
-    at_rest_there p.height p.words.items c.args.cell c.args.first (c.is_unmarked.ensures c.if-is_unmarked.true)
 
 pub returns-then-has_cell : goal.returns-then-has_cell
 unfolding first_motion

@@ -1,54 +1,27 @@
-use Rattle.std.proofs.Common.{◌≡◌, ◌∙◌, ◌+◌, ◌*◌, ◌<◌, ◌≤◌, ◌||◌, ℕ, Bool, false, List, sym, subst, ap, arith}
+use Rattle.std.proofs.Common.{◌∙◌, List, ap}
 use Rattle.std.specs.List.{list_any}
-use Rattle.ps_model.specs.declared.limits.TheConstants.{SIDE_LIMIT}
-use Rattle.ps_model.specs.board.Grid.{Grid, IsGrid, cell_at}
-use Rattle.ps_board.specs.ColumnSets.{column_at}
-use Rattle.ps_board.proofs.CellLaws.{column_at-none, row_more, row_whole}
-use Rattle.ps_board.proofs.Taken.{AreBelow}
+use Rattle.std.proofs.lemmas.List.{get_or_default, take_all}
+use Rattle.ps_model.specs.declared.pieces.ObjectId.{ObjectId}
+use Rattle.ps_model.specs.board.Grid.{Grid}
+use Rattle.ps_turn.specs.RowsOfCells.{row_cells}
 use Rattle.ps_turn.specs.Sweeps.{holds_any}
-use Rattle.ps_turn.proofs.RowsOfCells.{is_where, known-within}
-use Rattle.ps_turn.proofs.WhereObjectsStand.{layer_below}
+use Rattle.ps_turn.proofs.RowsHeld.{standing-more, standing-none}
 use Rattle.ps_turn.proofs.standing.columns_with.Goals as goal
 
-pub loop-layer-init : goal.loop-layer-init
-loop-layer-init g c =
-    let grid : Grid = g.B.Board.grid c.args.board.now in
-    let shape : IsGrid grid = c.recall_shape.ensures.shape in
-    let none : (x : ℕ) → x < SIDE_LIMIT → column_at c.none-holding.result x ≡ false =
-    λ (x : ℕ) (low : x < SIDE_LIMIT).
-    ap (λ (columns : List Bool). column_at columns x) c.none-holding.ensures ∙ column_at-none x low in
-    record {
-      here = λ x across. none x (omega (arith, across, shape.columns));
-      below = record { at = λ x low far. none x low };
-      set = is_where c.none-holding.result (λ x. false) c.none-holding.ensures;
-    }
+pub loop-index-init : goal.loop-index-init
+loop-index-init g c = c.none-holding.ensures ∙ standing-none (g.B.Board.grid c.args.board.now) c.args.row
 
-pub loop-layer-preserved : goal.loop-layer-preserved
-loop-layer-preserved g c =
-    let grid : Grid = g.B.Board.grid c.args.board.now in
-    let shape : IsGrid grid = c.recall_shape.ensures.shape in
-    let was : List Bool = c.loop-layer.holding in
-    let more : List Bool = c.layer_columns.result in
-    let inv = c.loop-layer.invariant in
-    let low : c.loop-layer.layer < grid.layers = rw (← c.layers-layer-end.ensures) c.loop-layer-test.true in
-    record {
-      here = λ x across. ap (λ (columns : List Bool). column_at columns x) c.either-holding.ensures
-          ∙ row_more (holds_any c.args.objects.now) grid shape x c.args.row c.loop-layer.layer was more across
-          c.requires low (inv.here x across) c.layer_columns.ensures;
-      below = subst (AreBelow grid.width) (sym c.either-holding.ensures)
-          (layer_below c.args.objects.now grid c.loop-layer.layer c.args.row was more shape c.layer_columns.ensures
-          inv.below);
-      set = is_where c.either-holding.result (λ x. column_at was x || column_at more x) c.either-holding.ensures;
-    }
+pub loop-index-preserved : goal.loop-index-preserved
+loop-index-preserved g c =
+    c.either-holding.ensures
+    ∙ standing-more (g.B.Board.grid c.args.board.now) c.args.objects.now c.loop-index.index _ c.args.row
+    c.loop-index.holding c.object_columns.result c.loop-index-test.true
+    (get_or_default c.args.objects.now c.loop-index.index _ _ c.loop-index-test.true)
+    c.loop-index.invariant c.object_columns.ensures
 
 pub returns : goal.returns
 returns g c =
     let grid : Grid = g.B.Board.grid c.args.board.now in
-    let shape : IsGrid grid = c.recall_shape.ensures.shape in
-    let inv = c.loop-layer.invariant in
-    let all : grid.layers ≤ c.loop-layer.layer = rw (← c.layers-layer-end.ensures) c.loop-layer-test.false in
-    known-within grid.width c.loop-layer.holding
-    (λ x. list_any (holds_any c.args.objects.now) (cell_at grid (x * grid.height + c.args.row)))
-    inv.set inv.below
-    (λ x across. inv.here x across ∙ row_whole (holds_any c.args.objects.now) grid shape x c.args.row
-    c.loop-layer.layer across c.requires all)
+    c.loop-index.invariant
+    ∙ ap (λ (objects : List ObjectId). row_cells (list_any (holds_any objects)) grid c.args.row)
+    (take_all c.loop-index.index c.args.objects.now c.loop-index-test.false)

@@ -1,18 +1,10 @@
-use Rattle.std.proofs.Common.{◌≡◌, ◌+◌, ◌*◌, ◌<◌, ℕ, take}
+use Rattle.std.proofs.Common.{◌≡◌, take}
 use Rattle.std.specs.List.{list_any}
-use Rattle.ps_model.specs.board.Grid.{Grid, cell_at}
-use Rattle.ps_board.specs.ColumnSets.{column_at, columns_where}
-use Rattle.ps_board.proofs.Taken.{AreBelow}
+use Rattle.ps_turn.specs.RowsOfCells.{row_cells}
 use Rattle.ps_turn.specs.Sweeps.{holds_any}
 use Rattle.ps_turn.proofs.standing.columns_with.Given as goal
 
--- the columns in which one of the objects stands on a layer passed by, none of them beyond the last one
-abbrev pub invariant-loop-layer : goal.invariant-loop-layer
-invariant-loop-layer g l =
-    let grid : Grid = g.B.Board.grid l.board in
-    record {
-      here : (x : ℕ) → x < grid.width → column_at l.holding x ≡ list_any (holds_any l.objects)
-          (take l.layer (cell_at grid (x * grid.height + l.row)));
-      below : AreBelow grid.width l.holding;
-      set : l.holding ≡ columns_where (column_at l.holding);
-    }
+-- the columns with one of the objects passed by
+abbrev pub invariant-loop-index : goal.invariant-loop-index
+invariant-loop-index g l = l.holding ≡ row_cells (list_any (holds_any (take l.index l.objects))) (g.B.Board.grid l.board)
+    l.row

@@ -26,17 +26,17 @@ invariant_of-self-clause-objects g c =
     bare_shown (object_shown table b.planes.height words c.args.to layer) _ (object_read table b.layers b.planes.height
     words (b.width * b.planes.height) c.args.to layer c.requires.there.0 c.requires.place.1) c.requires.bare in
     let shown : Option ℕ = object_shown table b.planes.height words c.args.cell layer in
-    let so : c.choose_motion.new.planes.words.items ≡ shifted table b.layers b.planes.height
+    let so : c.clear_motion.new.planes.words.items ≡ shifted table b.layers b.planes.height
     (b.width * b.planes.height) words layer is c.args.cell c.args.to c.requires.place.0 c.requires.there.0 bare shown =
     shifted_by table b.layers b.planes.height (b.width * b.planes.height) words layer is c.args.cell c.args.to
     c.requires.place.0 c.requires.there.0 bare c.shift_cell.new.self.height c.motions_from-first.result
-    c.of-objects.result.now c.shift_cell.new.self.words.items c.choose_motion.new.planes.words.items
+    c.of-objects.result.now c.shift_cell.new.self.words.items c.clear_motion.new.planes.words.items
     c.shift_cell.ensures.height c.motions_from-first.ensures.first c.of-objects.ensures c.shift_cell.ensures.words
-    c.choose_motion.ensures.words in
+    c.clear_motion.ensures.words in
     let same = so ∙ shift_puts table b.layers b.planes.height (b.width * b.planes.height) words layer is c.args.cell
     c.args.to c.requires.place.0 c.requires.there.0 bare shown refl in
-    let high : c.choose_motion.new.planes.height ≡ b.planes.height =
-    c.choose_motion.ensures.height ∙ c.shift_cell.ensures.height in
+    let high : c.clear_motion.new.planes.height ≡ b.planes.height =
+    c.clear_motion.ensures.height ∙ c.shift_cell.ensures.height in
     rw (same, high)
     (shift_objects table b.layers b.planes.height (b.width * b.planes.height) words layer is c.args.cell c.args.to
     c.requires.place.0 c.requires.there.0 bare shown refl)
@@ -55,17 +55,17 @@ invariant_of-self-clause-motions g c =
     bare_shown (object_shown table b.planes.height words c.args.to layer) _ (object_read table b.layers b.planes.height
     words (b.width * b.planes.height) c.args.to layer c.requires.there.0 c.requires.place.1) c.requires.bare in
     let shown : Option ℕ = object_shown table b.planes.height words c.args.cell layer in
-    let so : c.choose_motion.new.planes.words.items ≡ shifted table b.layers b.planes.height
+    let so : c.clear_motion.new.planes.words.items ≡ shifted table b.layers b.planes.height
     (b.width * b.planes.height) words layer is c.args.cell c.args.to c.requires.place.0 c.requires.there.0 bare shown =
     shifted_by table b.layers b.planes.height (b.width * b.planes.height) words layer is c.args.cell c.args.to
     c.requires.place.0 c.requires.there.0 bare c.shift_cell.new.self.height c.motions_from-first.result
-    c.of-objects.result.now c.shift_cell.new.self.words.items c.choose_motion.new.planes.words.items
+    c.of-objects.result.now c.shift_cell.new.self.words.items c.clear_motion.new.planes.words.items
     c.shift_cell.ensures.height c.motions_from-first.ensures.first c.of-objects.ensures c.shift_cell.ensures.words
-    c.choose_motion.ensures.words in
+    c.clear_motion.ensures.words in
     let same = so ∙ shift_puts table b.layers b.planes.height (b.width * b.planes.height) words layer is c.args.cell
     c.args.to c.requires.place.0 c.requires.there.0 bare shown refl in
-    let high : c.choose_motion.new.planes.height ≡ b.planes.height =
-    c.choose_motion.ensures.height ∙ c.shift_cell.ensures.height in
+    let high : c.clear_motion.new.planes.height ≡ b.planes.height =
+    c.clear_motion.ensures.height ∙ c.shift_cell.ensures.height in
     rw (same, high)
     (shift_motions table b.layers b.planes.height (b.width * b.planes.height) words layer is c.args.cell c.args.to
     c.requires.place.0 c.requires.there.0 bare shown refl)
@@ -84,15 +84,15 @@ invariant_of-self-clause-rest g c = λ rests.
     bare_shown (object_shown table b.planes.height words c.args.to layer) _ (object_read table b.layers b.planes.height
     words (b.width * b.planes.height) c.args.to layer c.requires.there.0 c.requires.place.1) c.requires.bare in
     let shown : Option ℕ = object_shown table b.planes.height words c.args.cell layer in
-    let so : c.choose_motion.new.planes.words.items ≡ shifted table b.layers b.planes.height
+    let so : c.clear_motion.new.planes.words.items ≡ shifted table b.layers b.planes.height
     (b.width * b.planes.height) words layer is c.args.cell c.args.to c.requires.place.0 c.requires.there.0 bare shown =
     shifted_by table b.layers b.planes.height (b.width * b.planes.height) words layer is c.args.cell c.args.to
     c.requires.place.0 c.requires.there.0 bare c.shift_cell.new.self.height c.motions_from-first.result
-    c.of-objects.result.now c.shift_cell.new.self.words.items c.choose_motion.new.planes.words.items
+    c.of-objects.result.now c.shift_cell.new.self.words.items c.clear_motion.new.planes.words.items
     c.shift_cell.ensures.height c.motions_from-first.ensures.first c.of-objects.ensures c.shift_cell.ensures.words
-    c.choose_motion.ensures.words in
-    let high : c.choose_motion.new.planes.height ≡ b.planes.height =
-    c.choose_motion.ensures.height ∙ c.shift_cell.ensures.height in
+    c.clear_motion.ensures.words in
+    let high : c.clear_motion.new.planes.height ≡ b.planes.height =
+    c.clear_motion.ensures.height ∙ c.shift_cell.ensures.height in
     rw (so, high)
     (shift_rests table b.layers b.planes.height (b.width * b.planes.height) words layer is c.args.cell c.args.to
     c.requires.place.0 c.requires.there.0 bare shown refl (b.rest rests))
@@ -111,17 +111,17 @@ invariant_of-self-clause-noted g c =
     bare_shown (object_shown table b.planes.height words c.args.to layer) _ (object_read table b.layers b.planes.height
     words (b.width * b.planes.height) c.args.to layer c.requires.there.0 c.requires.place.1) c.requires.bare in
     let shown : Option ℕ = object_shown table b.planes.height words c.args.cell layer in
-    let so : c.choose_motion.new.planes.words.items ≡ shifted table b.layers b.planes.height
+    let so : c.clear_motion.new.planes.words.items ≡ shifted table b.layers b.planes.height
     (b.width * b.planes.height) words layer is c.args.cell c.args.to c.requires.place.0 c.requires.there.0 bare shown =
     shifted_by table b.layers b.planes.height (b.width * b.planes.height) words layer is c.args.cell c.args.to
     c.requires.place.0 c.requires.there.0 bare c.shift_cell.new.self.height c.motions_from-first.result
-    c.of-objects.result.now c.shift_cell.new.self.words.items c.choose_motion.new.planes.words.items
+    c.of-objects.result.now c.shift_cell.new.self.words.items c.clear_motion.new.planes.words.items
     c.shift_cell.ensures.height c.motions_from-first.ensures.first c.of-objects.ensures c.shift_cell.ensures.words
-    c.choose_motion.ensures.words in
+    c.clear_motion.ensures.words in
     let same = so ∙ shift_puts table b.layers b.planes.height (b.width * b.planes.height) words layer is c.args.cell
     c.args.to c.requires.place.0 c.requires.there.0 bare shown refl in
-    let high : c.choose_motion.new.planes.height ≡ b.planes.height =
-    c.choose_motion.ensures.height ∙ c.shift_cell.ensures.height in
+    let high : c.clear_motion.new.planes.height ≡ b.planes.height =
+    c.clear_motion.ensures.height ∙ c.shift_cell.ensures.height in
     rw (c.with-self.ensures, c.with.ensures, same, high)
     (shift_noted table b.layers b.planes.height (b.width * b.planes.height) words layer is c.args.cell c.args.to
     c.requires.place.0 c.requires.there.0 bare shown refl (length table) b.origin.value.items
@@ -141,19 +141,19 @@ returns-clause-grid g c =
     bare_shown (object_shown table b.planes.height words c.args.to layer) _ (object_read table b.layers b.planes.height
     words (b.width * b.planes.height) c.args.to layer c.requires.there.0 c.requires.place.1) c.requires.bare in
     let shown : Option ℕ = object_shown table b.planes.height words c.args.cell layer in
-    let so : c.choose_motion.new.planes.words.items ≡ shifted table b.layers b.planes.height
+    let so : c.clear_motion.new.planes.words.items ≡ shifted table b.layers b.planes.height
     (b.width * b.planes.height) words layer is c.args.cell c.args.to c.requires.place.0 c.requires.there.0 bare shown =
     shifted_by table b.layers b.planes.height (b.width * b.planes.height) words layer is c.args.cell c.args.to
     c.requires.place.0 c.requires.there.0 bare c.shift_cell.new.self.height c.motions_from-first.result
-    c.of-objects.result.now c.shift_cell.new.self.words.items c.choose_motion.new.planes.words.items
+    c.of-objects.result.now c.shift_cell.new.self.words.items c.clear_motion.new.planes.words.items
     c.shift_cell.ensures.height c.motions_from-first.ensures.first c.of-objects.ensures c.shift_cell.ensures.words
-    c.choose_motion.ensures.words in
+    c.clear_motion.ensures.words in
     let same = so ∙ shift_puts table b.layers b.planes.height (b.width * b.planes.height) words layer is c.args.cell
     c.args.to c.requires.place.0 c.requires.there.0 bare shown refl in
-    let high : c.choose_motion.new.planes.height ≡ b.planes.height =
-    c.choose_motion.ensures.height ∙ c.shift_cell.ensures.height in
+    let high : c.clear_motion.new.planes.height ≡ b.planes.height =
+    c.clear_motion.ensures.height ∙ c.shift_cell.ensures.height in
     rw high
-    (shift_grid table b.width b.planes.height b.layers words c.choose_motion.new.planes.words.items layer is c.args.cell
+    (shift_grid table b.width b.planes.height b.layers words c.clear_motion.new.planes.words.items layer is c.args.cell
     c.args.to c.requires.place.0 c.requires.there.0 bare _
     (object_read table b.layers b.planes.height words (b.width * b.planes.height) c.args.cell layer c.requires.place.0
     c.requires.place.1) same)
