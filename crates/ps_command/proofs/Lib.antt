@@ -2,12 +2,15 @@ pub mod ArgumentsRead
 pub mod DetailsBelow
 pub mod GamesTold
 pub mod LinesMatched
+pub mod LinesObeyed
 pub mod LinesOnLed
 pub mod LinesOnLevels
+pub mod LinesRefused
 pub mod NumbersRead
-mod PlayedInView
+pub mod PlayedInView
 pub mod ReplaysTold
 pub mod ReportsTold
 mod ShownInView
+pub mod TasksStopped
 pub mod TracesEnded
 pub mod WordsToSolve

@@ -1,8 +1,9 @@
 -- What a terminal has of a game that was played in a view to an end.
 use Rattle.std.proofs.Common.{◌≡◌, ◌∙◌, ℕ, Bool, true, false, true≢false, List, [], refl, sym, ap, subst}
-use Rattle.std.specs.Prelude.{◌||◌, Option, Some, None, Result, Ok, Err, OnOk}
+use Rattle.std.specs.Prelude.{◌||◌, Option, Some, None, Result, Ok, Err, IfErr, OnOk, is_none}
 use Rattle.ps_model.specs.declared.play.Ending.{Ending}
 use Rattle.ps_model.specs.game.Tellings.{ReaderState, WriterState}
+use Rattle.std.specs.Borrow.{Bor}
 use Rattle.ps_devices.specs.Devices.{Grows}
 use Rattle.ps_view.specs.declared.sizes.Size.{Size}
 use Rattle.ps_view.specs.Beginnings.{Beginning}
@@ -10,8 +11,10 @@ use Rattle.ps_view.specs.Pieces.{Piece, output_of}
 use Rattle.ps_view.specs.Shown.{IsShown}
 use Rattle.ps_view.specs.Takers.{taker_of}
 use Rattle.ps_view.specs.Views.{view_of}
-use Rattle.ps_command.specs.Told.{RunsToEndFrom}
-use Rattle.ps_command.specs.Viewings.{BeginsWith, EndsOn, EndsInView, PlaysInView}
+use Rattle.ps_command.specs.ProgramRuns.{PlaysIn}
+use Rattle.ps_command.specs.Told.{EndsBy, EndsRightly, IsReadText, RunsToEndFrom}
+use Rattle.ps_command.specs.Viewings.{BeginsWith, EndsOn, EndsInView}
+use Rattle.ps_command.specs.declared.command.Play.{Play}
 use Rattle.ps_command.specs.declared.stops.Stop.{Stop}
 
 -- of two that are both false the first is
@@ -69,17 +72,48 @@ in_view answer level text size keeps_size before after begun pieces calls empty_
       ended = subst Empty empty (subst Calls new (subst Pieces none ended));
     }) is
 
-size_of : Size → Option Size → Size
-size_of size None = size
-size_of size (Some other) = other
+-- the game that is asked for was played on the screen as it is
+pub plays_here : (answer : Result (Unit {0}) Stop) (play : Play) (text : List ℕ) (had begun left : ReaderState)
+    (before after : WriterState) → play.size ≡ None → IsReadText play.game.now had begun text →
+    OnOk answer (EndsBy play.keys play.level text begun left before after) →
+    OnOk answer (PlaysIn play.size play had left before after)
+plays_here answer play text had begun left before after is read ended =
+    let In : Option Size → Type 0 = λ size. OnOk answer (PlaysIn size play had left before after) in
+    subst In (sym is) (on_ok answer (λ e. record { text = text; begun = begun; read = read; ended = e }) ended)
 
--- of some text, in the size that was asked for
-pub some_text : (answer : Result (Unit {0}) Stop) (level : Option ℕ) (text : List ℕ) (asked : Option Size) (size other : Size)
-    (keeps_size : Bool) (before after : Option (List ℕ)) → asked ≡ Some size → asked ≡ Some other →
-    OnOk answer (EndsInView level text size keeps_size before after) →
-    OnOk answer (PlaysInView level other keeps_size before after)
-unfolding size_of
-some_text answer level text asked size other keeps_size before after is that ended =
-    let same : size ≡ other = ap (size_of size) (sym is ∙ that) in
-    let In : Size → Type 0 = λ s. EndsInView level text s keeps_size before after in
-    on_ok answer (λ e. record { text = text; ended = subst In same e }) ended
+-- or in a view
+pub plays_in : (answer : Result (Unit {0}) Stop) (play : Play) (text : List ℕ) (size : Size)
+    (had begun left : ReaderState) (before after : WriterState) → play.size ≡ Some size →
+    IsReadText play.game.now had begun text →
+    OnOk answer (EndsInView play.level text size (is_none play.sizes) before.contents after.contents) →
+    OnOk answer (PlaysIn play.size play had left before after)
+plays_in answer play text size had begun left before after is read ended =
+    let In : Option Size → Type 0 = λ asked. OnOk answer (PlaysIn asked play had left before after) in
+    subst In (sym is) (on_ok answer (λ e. record { text = text; begun = begun; read = read; ended = e }) ended)
+
+-- a text's game was played with the keys of a reader, where no file is named
+pub ends_by_reader : (answer : Result (Unit {0}) Stop) (file : Option (Bor (List ℕ))) (level : Option ℕ) (text : List ℕ)
+    (keys left : ReaderState) (before after : WriterState) → file ≡ None →
+    OnOk answer ((ending : Ending) × RunsToEndFrom level text keys left before after ending) →
+    OnOk answer (EndsBy file level text keys left before after)
+ends_by_reader answer file level text keys left before after none ended =
+    let By : Option (Bor (List ℕ)) → Type 0 = λ f. OnOk answer (EndsBy f level text keys left before after) in
+    subst By (sym none) ended
+
+-- or with those of a file
+pub ends_by_file : (answer : Result (Unit {0}) Stop) (file : Option (Bor (List ℕ))) (name : Bor (List ℕ))
+    (level : Option ℕ) (text : List ℕ) (keys left own gone : ReaderState) (before after : WriterState) →
+    file ≡ Some name →
+    OnOk answer ((ending : Ending) × RunsToEndFrom level text own gone before after ending) →
+    OnOk answer (EndsBy file level text keys left before after)
+ends_by_file answer file name level text keys left own gone before after is ended =
+    let By : Option (Bor (List ℕ)) → Type 0 = λ f. OnOk answer (EndsBy f level text keys left before after) in
+    subst By (sym is) (on_ok answer (λ e. record { ending = e.0; keys = own; left = gone; rightly = e.1 }) ended)
+
+-- what stops a call goes for what is made of its answer, as want of memory does
+pub drawn_stopped : (X : Stop → Type 0) (wants : Bool) (outcome result : Result (Unit {0}) Stop) (why : Stop) →
+    (wants ≡ true → result ≡ Err why) → (wants ≡ false → result ≡ outcome) → X why → IfErr outcome X → IfErr result X
+drawn_stopped X true outcome result why short same at is =
+    let If : Result (Unit {0}) Stop → Type 0 = λ r. IfErr r X in subst If (sym (short refl)) at
+drawn_stopped X false outcome result why short same at is =
+    let If : Result (Unit {0}) Stop → Type 0 = λ r. IfErr r X in subst If (sym (same refl)) is

@@ -1,10 +1,11 @@
 -- Reports of texts that are told one behind the other.
 use Rattle.std.proofs.Common.{◌≡◌, ◌++◌, ◌∷◌, ℕ, inl, inr, List, [], Option, Bool, true, refl}
+use Rattle.std.specs.Prelude.{codes}
 use Rattle.ps_devices.specs.Devices.{Loses}
 use Rattle.ps_devices.proofs.Unmoved.{nothing_taken}
 use Rattle.ps_report.specs.Reports.{is_well}
 use Rattle.ps_report.specs.declared.details.How.{How}
-use Rattle.ps_command.specs.Reported.{IsReportOfFile, IsReportOfGame, IsReportOfText, TellsReport, TellsReportGiven}
+use Rattle.ps_command.specs.Reported.{IsReportOfFile, IsReportOfGame, IsReportOfText, TellsReport, TellsReportRead}
 use Rattle.ps_command.specs.Reported.{TellsReportOn}
 use Rattle.ps_command.specs.Told.{TellsInOrder}
 use Rattle.ps_command.proofs.GamesTold.{told_more}
@@ -15,11 +16,11 @@ pub report_told : (how : How) (name text : List ℕ) (well : Bool) (before after
 report_told how name text well before after told is =
     record { lines = told.lines; are = record { text = text; is = is; are = told.are }; wrote = told.wrote }
 
--- of this text, which a reader has given
-pub given_told : (how : How) (name text : List ℕ) (well : Bool) (had left before after : Option (List ℕ)) →
-    Loses had left text → TellsReportOn how name text before after → well ≡ is_well how text →
-    TellsReportGiven how name well had left before after
-given_told how name text well had left before after given told is =
+-- of this text, which a reader has given, if it is that of standard input
+pub read_told : (how : How) (name text : List ℕ) (well : Bool) (had left before after : Option (List ℕ)) →
+    (name ≡ codes "-" → Loses had left text) → TellsReportOn how name text before after → well ≡ is_well how text →
+    TellsReportRead how name well had left before after
+read_told how name text well had left before after given told is =
     record { text = text; given = given; is = is; told = told }
 
 -- that of one more game

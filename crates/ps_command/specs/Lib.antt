@@ -3,11 +3,14 @@ pub mod AskedFor
 pub mod CommandLines
 pub mod Details
 pub mod Given
+pub mod LinesAtFault
+pub mod ProgramRuns
 pub mod Replayed
 pub mod Reported
 pub mod Searched
 pub mod SearchedAfter
 pub mod Statuses
+pub mod Stops
 pub mod Told
 pub mod ViewedGames
 pub mod Viewings

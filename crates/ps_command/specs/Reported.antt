@@ -1,5 +1,5 @@
 -- What is told on the screen by a check of texts, in the way that is asked for.
-use Rattle.std.specs.Prelude.{◌≡◌, ◌⊎◌, ℕ, Bool, true, Option, List, []}
+use Rattle.std.specs.Prelude.{◌≡◌, ◌⊎◌, ℕ, Bool, true, Option, List, [], codes}
 use Rattle.ps_devices.specs.Devices.{Grows, Loses}
 use Rattle.ps_report.specs.Reports.{IsReport, is_well}
 use Rattle.ps_report.specs.declared.details.How.{How}
@@ -22,13 +22,14 @@ pub record TellsReport (how : How) (name : List ℕ) (well : Bool) (before after
   pub are : IsReportAs how name well lines
   pub wrote : Grows before after lines
 
--- of what a reader has given, a text that is well or isn't, as is answered, its report is told
-pub record TellsReportGiven (how : How) (name : List ℕ) (well : Bool) (had left : Option (List ℕ))
-    (before after : Option (List ℕ)) : Type 0 where
-  pub text : List ℕ
-  pub given : Loses had left text
-  pub is : well ≡ is_well how text
-  pub told : TellsReportOn how name text before after
+-- of some text that is well or isn't, as is answered, its report is told. If the name of its file is that of standard
+-- input, it is what that gave
+pub record TellsReportRead (how : How) (name : List ℕ) (well : Bool) (had left before after : Option (List ℕ)) : Type 0
+  where
+    pub text : List ℕ
+    pub given : name ≡ codes "-" → Loses had left text
+    pub is : well ≡ is_well how text
+    pub told : TellsReportOn how name text before after
 
 -- the report of some text that is well
 abbrev pub IsReportOfGame : How → List ℕ → List ℕ → Type 0

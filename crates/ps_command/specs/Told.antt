@@ -1,6 +1,7 @@
 -- What is told on the screen.
-use Rattle.std.specs.Prelude.{◌≡◌, ◌<◌, ◌⊎◌, ℕ, Bool, true, false, Option, Some, None, Err, List, [], ◌++◌}
-use Rattle.std.specs.Prelude.{is_some, length, slice_index_or}
+use Rattle.std.specs.Borrow.{Bor}
+use Rattle.std.specs.Prelude.{◌≡◌, ◌≢◌, ◌<◌, ◌⊎◌, ℕ, Bool, true, false, Option, Some, None, Err, List, [], ◌++◌}
+use Rattle.std.specs.Prelude.{codes, is_some, length, slice_index_or}
 use Rattle.std.specs.List.{concat}
 use Rattle.ps_model.specs.declared.play.Ending.{Ending}
 use Rattle.ps_model.specs.game.Games.{game}
@@ -16,12 +17,17 @@ use Rattle.ps_devices.specs.declared.players.RunFault.{RunFault}
 use Rattle.ps_command.specs.Details.{IsDetail, TellsOn}
 use Rattle.ps_command.specs.Statuses.{stop_of_level}
 use Rattle.ps_report.specs.declared.details.Detail.{Detail}
+use Rattle.ps_report.specs.declared.details.Detail.TheVariants.{Why}
+use Rattle.ps_command.specs.Searched.{IsRefused}
+use Rattle.ps_command.specs.declared.command.Play.{Play}
 use Rattle.ps_command.specs.declared.stops.Stop.{Stop}
 use Rattle.ps_command.specs.declared.stops.Stop.TheVariants.{Run}
 
--- of some text that is a game its line is told, and nothing else
-pub record TellsOfGame (before after : Option (List ℕ)) : Type 0 where
+-- of some text that is a game its line is told, and nothing else. If the name of its file is that of standard input, it
+-- is what that gave
+pub record TellsOfGame (name : List ℕ) (had left before after : Option (List ℕ)) : Type 0 where
   pub text : List ℕ
+  pub given : name ≡ codes "-" → Loses had left text
   pub accepted : is_some (game text) ≡ true
   pub wrote : Grows before after (check_line text)
 
@@ -32,26 +38,26 @@ pub record TellsOfDescribed (before after : Option (List ℕ)) : Type 0 where
   pub is : IsDescribed text line
   pub wrote : Grows before after line
 
--- of some text that is no game its line is told, and what stands below it
-pub record TellsOfRefused (detail : Detail) (before after : Option (List ℕ)) : Type 0 where
+-- of some text that is no game its line is told, and what stands below it. If the name of its file is that of standard
+-- input, it is what that gave
+pub record TellsOfRefused (detail : Detail) (name : List ℕ) (had left before after : Option (List ℕ)) : Type 0 where
   pub text : List ℕ
+  pub given : name ≡ codes "-" → Loses had left text
   pub refused : is_some (game text) ≡ false
   pub wrote : TellsOn detail text (check_line text) before after
 
--- of what a reader has given, a text that is no game, its line is told, and what stands below it
-pub record TellsOfRefusedGiven (detail : Detail) (had left : Option (List ℕ)) (before after : Option (List ℕ)) : Type 0
-  where
-    pub text : List ℕ
-    pub given : Loses had left text
-    pub refused : is_some (game text) ≡ false
-    pub wrote : TellsOn detail text (check_line text) before after
-
--- of what a reader has given, a text that is a game, its line is told, and nothing else
-pub record TellsOfGiven (had left : Option (List ℕ)) (before after : Option (List ℕ)) : Type 0 where
+-- of some text that is refused its line is told, and what is to be mended below it. If the name of its file is that of
+-- standard input, it is what that gave
+pub record TellsOfUndescribed (name : List ℕ) (had left before after : Option (List ℕ)) : Type 0 where
   pub text : List ℕ
-  pub given : Loses had left text
-  pub accepted : is_some (game text) ≡ true
-  pub wrote : Grows before after (check_line text)
+  pub given : name ≡ codes "-" → Loses had left text
+  pub refused : IsRefused text
+  pub wrote : TellsOn Why text (check_line text) before after
+
+-- some line is told, and nothing else
+pub record TellsSomeLine (before after : Option (List ℕ)) : Type 0 where
+  pub line : List ℕ
+  pub wrote : Grows before after (line ++ codes "\n")
 
 -- of some text its line is told behind a name, with what stands below it, and it is a game or isn't, as is answered
 pub record TellsOf (detail : Detail) (name : List ℕ) (accepted : Bool) (before after : Option (List ℕ)) : Type 0 where
@@ -126,7 +132,28 @@ pub record EndsRightly (level : Option ℕ) (text : List ℕ) (before after : Wr
   pub left : ReaderState
   pub rightly : RunsToEndFrom level text keys left before after ending
 
--- some text's game was played to an end, with some keys
-pub record PlaysToAnEnd (level : Option ℕ) (before after : WriterState) : Type 0 where
+-- a text was read: if the name of its file is that of standard input, it is what that gave; else that wasn't asked
+pub record IsReadText (name : List ℕ) (had left : ReaderState) (text : List ℕ) : Type 0 where
+  pub given : name ≡ codes "-" → Loses had.remaining left.remaining text
+  pub unasked : name ≢ codes "-" → left ≡ had
+
+-- a text's game was played to an end, with the keys of standard input, or with those of a file, where one is named
+abbrev pub EndsBy : Option (Bor (List ℕ)) → Option ℕ → List ℕ → ReaderState → ReaderState → WriterState → WriterState →
+    Type 0
+EndsBy None level text keys left before after =
+    (ending : Ending) × RunsToEndFrom level text keys left before after ending
+EndsBy (Some _) level text keys left before after = EndsRightly level text before after
+
+-- the game that is asked for was played to an end
+pub record PlaysToAnEnd (play : Play) (had left : ReaderState) (before after : WriterState) : Type 0 where
   pub text : List ℕ
-  pub ended : EndsRightly level text before after
+  pub begun : ReaderState
+  pub read : IsReadText play.game.now had begun text
+  pub ended : EndsBy play.keys play.level text begun left before after
+
+-- the same with a trace, of which it isn't said what standard input has left
+pub record TracesToAnEnd (play : Play) (had : ReaderState) (before after : WriterState) : Type 0 where
+  pub text : List ℕ
+  pub begun : ReaderState
+  pub read : IsReadText play.game.now had begun text
+  pub ended : EndsRightly play.level text before after

@@ -1,6 +1,6 @@
 -- What a terminal has of a game that is played in a view, and of an output that is shown in one.
-use Rattle.std.specs.Prelude.{◌≡◌, ◌≢◌, ℕ, Bool, true, false, Option, List, [], codes}
-use Rattle.ps_model.specs.game.Tellings.{WriterState}
+use Rattle.std.specs.Prelude.{◌≡◌, ◌≢◌, ℕ, Bool, true, false, Option, List, [], codes, is_none}
+use Rattle.ps_model.specs.game.Tellings.{ReaderState, WriterState}
 use Rattle.ps_devices.specs.Devices.{Grows, IsSpent, Loses}
 use Rattle.ps_view.specs.declared.sizes.Size.{Size}
 use Rattle.ps_view.specs.Beginnings.{Beginning}
@@ -8,8 +8,9 @@ use Rattle.ps_view.specs.Pieces.{Piece, output_of}
 use Rattle.ps_view.specs.Shown.{IsShown}
 use Rattle.ps_view.specs.Takers.{taker_of}
 use Rattle.ps_view.specs.Views.{view_of}
-use Rattle.ps_command.specs.Told.{EndsRightly}
+use Rattle.ps_command.specs.Told.{EndsRightly, IsReadText}
 use Rattle.ps_command.specs.ViewedGames.{IsToldOf}
+use Rattle.ps_command.specs.declared.command.Play.{Play}
 
 -- a view began with what the text's game is known by, with a terminal of this size, and with what the terminal had been
 -- handed before; and whether no other size is told is as is said here
@@ -41,10 +42,12 @@ pub record EndsInView (level : Option ℕ) (text : List ℕ) (size : Size) (keep
   pub is : BeginsWith text size keeps_size before begun
   pub ended : EndsOn level text begun (taker_of [] false 0 0) after
 
--- so for some text
-pub record PlaysInView (level : Option ℕ) (size : Size) (keeps_size : Bool) (before after : Option (List ℕ)) : Type 0 where
+-- so the game was played that is asked for, in a view of that size
+pub record PlaysInView (play : Play) (size : Size) (had : ReaderState) (before after : Option (List ℕ)) : Type 0 where
   pub text : List ℕ
-  pub ended : EndsInView level text size keeps_size before after
+  pub begun : ReaderState
+  pub read : IsReadText play.game.now had begun text
+  pub ended : EndsInView play.level text size (is_none play.sizes) before after
 
 -- an output that is shown --------------------------------------------------------------------------------------------
 

@@ -1,12 +1,15 @@
 //! What is done for a command line.
 
-ghost use Rattle.std.specs.Prelude.{◌≡◌, ◌≢◌, ◌+◌, ◌<◌, ◌≤◌, false, true, codes, is_some, length, map};
+ghost use Rattle.std.specs.Prelude.{◌≡◌, ◌≢◌, ◌+◌, ◌<◌, ◌≤◌, ℕ, false, true, is_some, length, map, string_bytes};
 ghost use Rattle.std.specs.Prelude.{Err, IfErr, IfOk, IfSome, None, Ok, OnOk};
 ghost use Rattle.ps_model.specs.game.Games.{game};
 ghost use Rattle.ps_check.specs.Checks.{check_line, named_line};
 ghost use Rattle.ps_command.specs.Details.{TellsOn};
-ghost use Rattle.ps_command.specs.Told.{TellsOf, TellsOfFiles, TellsOfGame, TellsOfGames, TellsOfGiven, TellsOfRefused};
-ghost use Rattle.ps_command.specs.Told.{TellsOfRefusedGiven};
+ghost use Rattle.ps_command.specs.ProgramRuns.{Denies, Does, EndsGiven, EndsWords, FindsNoLevel};
+ghost use Rattle.ps_command.specs.ProgramRuns.{IsRunOfProgram, LacksLevelOf, stop_of_words};
+ghost use Rattle.ps_command.specs.Stops.{StopsCheck, StopsExplanation, StopsTask};
+ghost use Rattle.ps_command.specs.Told.{TellsOf, TellsOfFiles, TellsOfGame, TellsOfGames, TellsOfRefused};
+ghost use Rattle.ps_command.specs.Told.{TellsSomeLine};
 ghost use Rattle.ps_command.specs.declared.stops.Stop.TheVariants as Stop;
 ghost use Rattle.ps_devices.specs.Devices.{Grows};
 
@@ -23,45 +26,24 @@ use crate::showing::show_asked;
 use crate::solving::solve_asked;
 use crate::stops::{Stop, tell};
 use crate::tracing::trace_asked;
-use crate::words::words_of;
+use crate::words::NoWords;
 use ps_answers::LevelSolver;
 use ps_check::{check, check_named};
-use ps_devices::{ByteReader, ByteWriter, Player, RunFault};
+use ps_devices::{ByteReader, ByteWriter, Player, RunFault, write_whole};
 use ps_records::Replayer;
 use ps_report::{Detail, explanation};
 use ps_tracers::Tracing;
 use std::alloc::Global;
-use std::rt::{Env, Files};
+use std::rt::Files;
 use std::time::Clock;
 
-/// Does what the command line asks for, with keys from `keys`, unless it names a file of keys, and frames to `screen`.
-/// Games are played and levels searched by `engine`, and recorded keys are replayed by `replayer`. Gives the status to
-/// end with: 0 where a run ended, a text was accepted, each level can be won, each stream of keys wins or what was
-/// asked for was told, 1 at a fault or where a level isn't known to be won or a game isn't won, and 2 at a bad command
-/// line. A fault and a bad command line are told on standard error.
+/// Does what the words of a command line ask for, with keys from `keys`, unless they name a file of keys, and frames to
+/// `screen`, by `engine`. Gives the status to end with: 0 where a run ended, a text was accepted, each level can be
+/// won, each stream of keys wins or what was asked for was told, 1 at a fault or where a level isn't known to be won or
+/// a game isn't won, and 2 at a bad command line. A fault and a bad command line are told on standard error; all else
+/// that is told goes to `screen`, but for the lines of a trace.
 pub fn run_command_line<
-    R: Env + Files + AllocGlobal + Clock + Print + Eprint,
-    P: Player,
-    S: LevelSolver,
-    T: Tracing,
-    Y: Replayer,
-    I: ByteReader,
-    O: ByteWriter,
->(rt: &R, engine: &Engine<'_, P, S, T>, replayer: &Y, keys: &mut I, screen: &mut O) -> u8
-    requires heard { (I.state keys.old).has_failed ≡ false }
-    requires well { (O.state screen.old).has_failed ≡ false }
-    ensures { result ≤ 2 }
-{
-    match act(rt, engine, replayer, keys, screen) {
-        Ok(()) => 0,
-        Err(stop) => tell(rt, &stop),
-    }
-}
-
-/// Does what the command line asks for: plays a game, checks one, searches its levels, replays recorded keys, or says
-/// what a fault is.
-fn act<
-    R: Env + Files + AllocGlobal + Clock + Print + Eprint,
+    R: Files + AllocGlobal + Clock + Eprint,
     P: Player,
     S: LevelSolver,
     T: Tracing,
@@ -70,18 +52,121 @@ fn act<
     O: ByteWriter,
 >(
     rt: &R,
-    engine: &Engine<'_, P, S, T>,
-    replayer: &Y,
+    engine: &Engine<'_, P, S, T, Y>,
+    words: Result<Vec<String>, NoWords>,
+    keys: &mut I,
+    screen: &mut O,
+) -> u8
+    requires heard { (I.state keys.old).has_failed ≡ false }
+    requires well { (O.state screen.old).has_failed ≡ false }
+    ensures run { IsRunOfProgram words result (I.state keys.old) (I.state keys.new) (O.state screen.old)
+        (O.state screen.new) }
+    ensures few { result ≤ 2 }
+{
+    match act(rt, engine, words, keys, screen) {
+        Ok(()) => 0,
+        Err(stop) => tell(rt, &stop, screen),
+    }
+}
+
+/// What stops the program where it has no words.
+fn stop_of_words(why: NoWords) -> Stop
+    ensures { result ≡ stop_of_words why }
+{
+    match why {
+        NoWords::NotText(word) => Stop::NotText(word),
+        NoWords::Memory => Stop::Run(RunFault::Memory),
+    }
+}
+
+/// Does what words ask for, if they are there and are right.
+fn act<
+    R: Files + AllocGlobal + Clock + Eprint,
+    P: Player,
+    S: LevelSolver,
+    T: Tracing,
+    Y: Replayer,
+    I: ByteReader,
+    O: ByteWriter,
+>(
+    rt: &R,
+    engine: &Engine<'_, P, S, T, Y>,
+    words: Result<Vec<String>, NoWords>,
     keys: &mut I,
     screen: &mut O,
 ) -> Result<(), Stop>
     requires heard { (I.state keys.old).has_failed ≡ false }
     requires well { (O.state screen.old).has_failed ≡ false }
+    ensures ends { EndsWords words result (I.state keys.old) (I.state keys.new) (O.state screen.old)
+        (O.state screen.new) }
+    ensures well { (error : _) → result ≡ Err (Stop.CommandLine error) → (O.state screen.new).has_failed ≡ false }
 {
-    let words = words_of(rt)?;
-    let asked = read_command(rt.alloc(), &words)?;
-    match &asked {
-        Asked::Explanation(code) => explain(rt, *code),
+    match words {
+        Ok(words) => act_on(rt, engine, &words, keys, screen),
+        Err(why) => Err(stop_of_words(why)),
+    }
+}
+
+/// Does what words ask for, if they are right.
+#[tactic(auto, using(crate::proofs::LinesObeyed::line_refused, crate::proofs::LinesObeyed::line_obeyed))]
+fn act_on<
+    R: Files + AllocGlobal + Clock + Eprint,
+    P: Player,
+    S: LevelSolver,
+    T: Tracing,
+    Y: Replayer,
+    I: ByteReader,
+    O: ByteWriter,
+>(
+    rt: &R,
+    engine: &Engine<'_, P, S, T, Y>,
+    words: &[String],
+    keys: &mut I,
+    screen: &mut O,
+) -> Result<(), Stop>
+    requires heard { (I.state keys.old).has_failed ≡ false }
+    requires well { (O.state screen.old).has_failed ≡ false }
+    ensures ends { EndsGiven (map string_bytes words.now) result (I.state keys.old) (I.state keys.new)
+        (O.state screen.old) (O.state screen.new) }
+    ensures well { (error : _) → result ≡ Err (Stop.CommandLine error) → (O.state screen.new).has_failed ≡ false }
+{
+    match read_command(rt.alloc(), words) {
+        Ok(asked) => obey(rt, engine, &asked, keys, screen),
+        Err(stop) => Err(stop),
+    }
+}
+
+/// Does a task: plays a game, checks one, searches its levels, replays recorded keys, or says what a fault is.
+fn obey<
+    R: Files + AllocGlobal + Clock + Eprint,
+    P: Player,
+    S: LevelSolver,
+    T: Tracing,
+    Y: Replayer,
+    I: ByteReader,
+    O: ByteWriter,
+>(
+    rt: &R,
+    engine: &Engine<'_, P, S, T, Y>,
+    asked: &Asked<'_>,
+    keys: &mut I,
+    screen: &mut O,
+) -> Result<(), Stop>
+    requires heard { (I.state keys.old).has_failed ≡ false }
+    requires well { (O.state screen.old).has_failed ≡ false }
+    ensures done { OnOk result (Does asked.now (I.state keys.old) (I.state keys.new) (O.state screen.old)
+        (O.state screen.new)) }
+    ensures stopped { IfErr result (StopsTask asked.now (O.state screen.new).has_failed) }
+    ensures denied { result ≡ Err Stop.NotAccepted → Denies asked.now (I.state keys.old) (I.state keys.new)
+        (O.state screen.old) (O.state screen.new) }
+    ensures nowhere { result ≡ Err Stop.NoLevelThere → FindsNoLevel asked.now (I.state keys.old) (I.state keys.new)
+        (O.state screen.old) (O.state screen.new) }
+    ensures lacking { (level levels : ℕ) → result ≡ Err (Stop.NoSuchLevel level levels) →
+        LacksLevelOf level levels asked.now (I.state keys.old) (I.state keys.new) (O.state screen.old)
+        (O.state screen.new) }
+{
+    match asked {
+        Asked::Explanation(code) => explain(rt.alloc(), *code, screen),
         Asked::Check(path) => check_text(rt, *path, Detail::Line, keys, screen),
         Asked::CheckWhy(path) => check_text(rt, *path, Detail::Why, keys, screen),
         Asked::CheckAll(paths) => check_texts(rt, paths, Detail::Line, keys, screen),
@@ -92,7 +177,7 @@ fn act<
         Asked::Show(asked) => show_asked(rt, *asked, keys, screen),
         Asked::Solve(asked) => solve_asked(rt, engine, asked, keys, screen),
         Asked::SolveAfter(asked) => solve_after_asked(rt, engine, *asked, keys, screen),
-        Asked::Replay(asked) => replay_asked(rt, replayer, asked, keys, screen),
+        Asked::Replay(asked) => replay_asked(rt, engine.replayer, asked, keys, screen),
         Asked::Play(asked) if asked.is_traced => {
             trace_asked(rt, engine.tracing, *asked, keys, screen)
         }
@@ -101,6 +186,7 @@ fn act<
 }
 
 /// Says on the screen whether the text of a file is a game.
+#[tactic(auto, using(crate::proofs::TasksStopped::unread_check))]
 fn check_text<R: Files + AllocGlobal, I: ByteReader, O: ByteWriter>(
     rt: &R,
     path: &str,
@@ -110,15 +196,12 @@ fn check_text<R: Files + AllocGlobal, I: ByteReader, O: ByteWriter>(
 ) -> Result<(), Stop>
     requires heard { (I.state input.old).has_failed ≡ false }
     requires well { (O.state screen.old).has_failed ≡ false }
-    ensures told { OnOk result (TellsOfGame (O.state screen.old).contents (O.state screen.new).contents) }
-    ensures given { path.now ≡ codes "-" → OnOk result
-        (TellsOfGiven (I.state input.old).remaining (I.state input.new).remaining
+    ensures told { OnOk result (TellsOfGame path.now (I.state input.old).remaining (I.state input.new).remaining
         (O.state screen.old).contents (O.state screen.new).contents) }
     ensures refused { result ≡ Err Stop.NotAccepted →
-        TellsOfRefused detail (O.state screen.old).contents (O.state screen.new).contents }
-    ensures refused_given { path.now ≡ codes "-" → result ≡ Err Stop.NotAccepted →
-        TellsOfRefusedGiven detail (I.state input.old).remaining (I.state input.new).remaining
+        TellsOfRefused detail path.now (I.state input.old).remaining (I.state input.new).remaining
         (O.state screen.old).contents (O.state screen.new).contents }
+    ensures stopped { IfErr result (StopsCheck (O.state screen.new).has_failed) }
 {
     let text = read_text(rt, path, input)?;
     if check_alone(rt.alloc(), &text, detail, screen)? {
@@ -129,6 +212,7 @@ fn check_text<R: Files + AllocGlobal, I: ByteReader, O: ByteWriter>(
 }
 
 /// Says of a text on the screen whether it is a game, and answers that.
+#[tactic(auto, using(crate::proofs::TasksStopped::check_stopped))]
 pub fn check_alone<O: ByteWriter>(
     alloc: Global,
     text: &[u8],
@@ -143,6 +227,7 @@ pub fn check_alone<O: ByteWriter>(
     ensures told { let line = check_line text.now in OnOk result
         (TellsOn detail text.now line (O.state screen.old).contents (O.state screen.new).contents) }
     ensures fault { IfErr result (λ stop. stop ≢ Stop.NotAccepted) }
+    ensures stopped { IfErr result (StopsCheck (O.state screen.new).has_failed) }
 {
     if check(alloc, text, screen)? {
         return Ok(true);
@@ -175,6 +260,7 @@ fn check_texts<R: Files + AllocGlobal + Eprint, I: ByteReader, O: ByteWriter>(
         (O.state screen.old).contents (O.state screen.new).contents) }
     ensures files { result ≡ Err Stop.NotAccepted → TellsOfFiles detail (map (λ path. path.now) paths.now)
         (O.state screen.old).contents (O.state screen.new).contents }
+    ensures stopped { IfErr result (StopsCheck (O.state screen.new).has_failed) }
 {
     let said = check_each(rt, paths, detail, input, screen)?;
     if said.faulty == 0 && said.unread == 0 {
@@ -203,6 +289,7 @@ fn check_each<R: Files + AllocGlobal + Eprint, I: ByteReader, O: ByteWriter>(
     ensures files { OnOk result (TellsOfFiles detail (map (λ path. path.now) paths.now)
         (O.state screen.old).contents (O.state screen.new).contents) }
     ensures fault { IfErr result (λ stop. stop ≢ Stop.NotAccepted) }
+    ensures stopped { IfErr result (StopsCheck (O.state screen.new).has_failed) }
 {
     let mut games = 0;
     let mut faulty = 0;
@@ -223,6 +310,7 @@ fn check_each<R: Files + AllocGlobal + Eprint, I: ByteReader, O: ByteWriter>(
 
 /// Says of one of several files on the screen whether its text is a game, and answers that. Nothing is answered of a
 /// file that can't be read: standard error names it. Standard input that can't be read ends the check.
+#[tactic(auto, using(crate::proofs::TasksStopped::unread_check))]
 fn check_one<R: Files + AllocGlobal + Eprint, I: ByteReader, O: ByteWriter>(
     rt: &R,
     path: &str,
@@ -241,6 +329,7 @@ fn check_one<R: Files + AllocGlobal + Eprint, I: ByteReader, O: ByteWriter>(
     ensures told { IfOk result (λ said. IfSome said (λ accepted.
         TellsOf detail path.now accepted (O.state screen.old).contents (O.state screen.new).contents)) }
     ensures fault { IfErr result (λ stop. stop ≢ Stop.NotAccepted) }
+    ensures stopped { IfErr result (StopsCheck (O.state screen.new).has_failed) }
 {
     let Some(text) = read_one(rt, path, input)? else {
         return Ok(None);
@@ -250,6 +339,7 @@ fn check_one<R: Files + AllocGlobal + Eprint, I: ByteReader, O: ByteWriter>(
 }
 
 /// Says of the text of one of several files whether it is a game, and answers that.
+#[tactic(auto, using(crate::proofs::TasksStopped::check_stopped))]
 fn check_bytes<O: ByteWriter>(
     alloc: Global,
     path: &str,
@@ -266,6 +356,7 @@ fn check_bytes<O: ByteWriter>(
     ensures alone { IfOk result (λ accepted. accepted ≡ true
         → Grows (O.state screen.old).contents (O.state screen.new).contents (named_line path.now text.now)) }
     ensures fault { IfErr result (λ stop. stop ≢ Stop.NotAccepted) }
+    ensures stopped { IfErr result (StopsCheck (O.state screen.new).has_failed) }
 {
     if check_named(alloc, path, text, screen)? {
         return Ok(true);
@@ -275,9 +366,17 @@ fn check_bytes<O: ByteWriter>(
 }
 
 /// Writes what the fault of a code is.
-fn explain<R: Print>(rt: &R, code: &str) -> Result<(), Stop> {
+fn explain<O: ByteWriter>(alloc: Global, code: &str, screen: &mut O) -> Result<(), Stop>
+    requires well { (O.state screen.old).has_failed ≡ false }
+    ensures told { OnOk result (TellsSomeLine (O.state screen.old).contents (O.state screen.new).contents) }
+    ensures stopped { IfErr result (StopsExplanation (O.state screen.new).has_failed) }
+{
     let Some(sentence) = explanation(code) else {
         return Err(Stop::NoSuchCode);
     };
-    rt.println(sentence).map_err(|_| Stop::Run(RunFault::Write))
+    let line = format!(in alloc; "{sentence}\n")?;
+    match write_whole(line.as_bytes(), screen) {
+        Ok(()) => Ok(()),
+        Err(_) => Err(Stop::Run(RunFault::Write)),
+    }
 }

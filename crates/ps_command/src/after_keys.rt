@@ -6,6 +6,7 @@ ghost use Rattle.ps_model.specs.declared.limits.TheConstants.{READ_LIMIT};
 ghost use Rattle.ps_command.specs.SearchedAfter.{HasGivenTooMany, IsLineOnUnwon, IsLineOnWon, IsSilentOnRead};
 ghost use Rattle.ps_command.specs.SearchedAfter.{LacksStart, LeadNowhere, TellsOfRead, question_after};
 ghost use Rattle.ps_command.specs.Statuses.{NamesNoLevel};
+ghost use Rattle.ps_command.specs.Stops.{IsUnkeyed, StopsSearchAfter};
 ghost use Rattle.ps_command.specs.declared.stops.Stop.TheVariants as Stop;
 ghost use Rattle.ps_devices.specs.Devices.{IsSpent, Loses};
 
@@ -18,6 +19,7 @@ use ps_answers::{
 };
 use ps_devices::{ByteReader, ByteWriter, Player, RunFault};
 use ps_model::{CALL_LIMIT, READ_LIMIT};
+use ps_records::Replayer;
 use ps_tracers::Tracing;
 use std::alloc::Global;
 use std::fs;
@@ -71,11 +73,12 @@ pub fn solve_after_asked<
     P: Player,
     S: LevelSolver,
     T: Tracing,
+    Y: Replayer,
     I: ByteReader,
     O: ByteWriter,
 >(
     rt: &R,
-    engine: &Engine<'_, P, S, T>,
+    engine: &Engine<'_, P, S, T, Y>,
     asked: SolveAfter<'_>,
     input: &mut I,
     screen: &mut O,
@@ -97,6 +100,7 @@ pub fn solve_after_asked<
     ensures many { result ≡ Err Stop.TooManyKeys → asked.entry.game.now ≢ codes "-" →
         asked.entry.keys.now ≡ codes "-" →
         HasGivenTooMany (I.state input.old).remaining (I.state input.new).remaining }
+    ensures stopped { IfErr result StopsSearchAfter }
 {
     let text = read_text(rt, asked.game, input)?;
     let keys = read_keys(rt, asked.keys, input)?;
@@ -132,6 +136,7 @@ impl<'s, R: Files + AllocGlobal + Clock + Eprint, S: LevelSolver> Search<'s, R, 
             LacksStart level levels self.now.question text.now keys.now
             × ((O.state screen.new).contents ≡ (O.state screen.old).contents) }
         ensures few { result ≢ Err Stop.TooManyKeys }
+        ensures stopped { IfErr result StopsSearchAfter }
     {
         match self.solver.open(self.rt.alloc(), text) {
             Ok(game) => self.tell_led(path, &game, keys, screen),
@@ -165,6 +170,7 @@ impl<'s, R: Files + AllocGlobal + Clock + Eprint, S: LevelSolver> Search<'s, R, 
             LacksStart level levels self.now.question (S.Game.text game.now) keys.now
             × ((O.state screen.new).contents ≡ (O.state screen.old).contents) }
         ensures few { result ≢ Err Stop.TooManyKeys }
+        ensures stopped { IfErr result StopsSearchAfter }
     {
         let mut progress = SearchProgress::new(self.rt, self.is_watched, self.stop_file);
         let mut teller = LevelTeller {
@@ -212,6 +218,7 @@ fn read_keys<R: Files + AllocGlobal, I: ByteReader>(
         HasGivenTooMany (I.state input.old).remaining (I.state input.new).remaining }
     ensures fault { IfErr result (λ stop. stop ≢ Stop.NotAccepted) }
     ensures unlevelled { IfErr result NamesNoLevel }
+    ensures unkeyed { IfErr result IsUnkeyed }
 {
     if path == STANDARD_INPUT {
         return read_keys_given(rt.alloc(), input);
@@ -237,6 +244,7 @@ fn if_few(keys: Vec<u8>) -> Result<Vec<u8>, Stop>
     ensures many { result ≡ Err Stop.TooManyKeys → READ_LIMIT < length keys.items }
     ensures fault { IfErr result (λ stop. stop ≢ Stop.NotAccepted) }
     ensures unlevelled { IfErr result NamesNoLevel }
+    ensures unkeyed { IfErr result IsUnkeyed }
 {
     if keys.len() <= MOST_KEYS {
         Ok(keys)
@@ -256,6 +264,7 @@ pub fn read_keys_given<I: ByteReader>(alloc: Global, input: &mut I) -> Result<Ve
         HasGivenTooMany (I.state input.old).remaining (I.state input.new).remaining }
     ensures fault { IfErr result (λ stop. stop ≢ Stop.NotAccepted) }
     ensures unlevelled { IfErr result NamesNoLevel }
+    ensures unkeyed { IfErr result IsUnkeyed }
 {
     let mut keys = Vec::new(alloc);
     let mut piece = [0u8; CALL_LIMIT];

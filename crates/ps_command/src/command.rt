@@ -1,9 +1,10 @@
 //! The command line.
 
-ghost use Rattle.std.specs.Prelude.{◌≡◌, ◌∷◌, IfOk, IfSome, None, Some, codes, map};
+ghost use Rattle.std.specs.Prelude.{◌≡◌, ◌∷◌, IfErr, IfOk, IfSome, None, Some, codes, map};
 ghost use Rattle.clap.specs.Words.{first_of};
 ghost use Rattle.ps_command.specs.AskedFor.{Checks, IsAsked, Plays, names_more};
 ghost use Rattle.ps_command.specs.CommandLines.{matched};
+ghost use Rattle.ps_command.specs.LinesAtFault.{IsFaultOfLine, IsFaultOfRows, IsFaultOfWords};
 ghost use Rattle.ps_command.specs.Given.{IsCount, IsGameIn, IsLevelOf, IsSizeOf, keys_file, rows_in, text_of, texts_of};
 
 use crate::after_keys::SolveAfter;
@@ -99,6 +100,7 @@ pub enum Asked<'w> {
 /// What the words of a command line ask for, of which the first is the program's own name.
 pub fn read_command<'w, S: AsStr>(alloc: Global, words: &'w [S]) -> Result<Asked<'w>, Stop>
     ensures asked { IfOk result (IsAsked (matched (map S.text words.entry.now))) }
+    ensures refused { IfErr result (IsFaultOfLine (matched (map S.text words.entry.now))) }
 {
     let matches = matches_of(alloc, words)?;
     asked_by(alloc, &matches)
@@ -107,6 +109,7 @@ pub fn read_command<'w, S: AsStr>(alloc: Global, words: &'w [S]) -> Result<Asked
 /// What clap matches in the words of a command line.
 fn matches_of<'w, S: AsStr>(alloc: Global, words: &'w [S]) -> Result<ArgMatches<'w>, Stop>
     ensures matched { IfOk result (λ matches. rows_in matches ≡ matched (map S.text words.entry.now)) }
+    ensures refused { IfErr result IsFaultOfWords }
 {
     let command = player_command(alloc)?;
     let matches = command.try_get_matches_from(words)?;
@@ -116,6 +119,7 @@ fn matches_of<'w, S: AsStr>(alloc: Global, words: &'w [S]) -> Result<ArgMatches<
 /// What the matches of a command line ask for.
 fn asked_by<'w>(alloc: Global, matches: &ArgMatches<'w>) -> Result<Asked<'w>, Stop>
     ensures asked { IfOk result (IsAsked (rows_in matches.now)) }
+    ensures refused { IfErr result (IsFaultOfRows (rows_in matches.now)) }
 {
     if let Some(code) = value_given(matches, "explain") {
         return Ok(Asked::Explanation(code));
@@ -165,6 +169,7 @@ fn asked_show<'w>(
     requires output { first_of (codes "show") (rows_in matches.now) ≡ Some output.now }
     requires size { IsSizeOf (first_of (codes "view") (rows_in matches.now)) size }
     ensures asked { IfOk result (IsAsked (rows_in matches.now)) }
+    ensures refused { IfErr result (IsFaultOfRows (rows_in matches.now)) }
 {
     let Some(size) = size else {
         return Err(Stop::NoSize);
@@ -188,6 +193,7 @@ fn asked_play<'w>(
     requires shown { first_of (codes "show") (rows_in matches.now) ≡ None }
     requires size { IsSizeOf (first_of (codes "view") (rows_in matches.now)) size }
     ensures asked { IfOk result (IsAsked (rows_in matches.now)) }
+    ensures refused { IfErr result (IsFaultOfRows (rows_in matches.now)) }
 {
     let level = level_asked(matches)?;
     let keys = keys_named(value_given(matches, "keys"));
@@ -220,7 +226,8 @@ fn keys_named<'w>(word: Option<&'w str>) -> Option<&'w str>
 
 /// The size of the terminal that the matches of a command line give.
 fn size_asked(matches: &ArgMatches<'_>) -> Result<Option<Size>, Stop>
-    ensures { IfOk result (IsSizeOf (first_of (codes "view") (rows_in matches.now))) }
+    ensures size { IfOk result (IsSizeOf (first_of (codes "view") (rows_in matches.now))) }
+    ensures refused { IfErr result (IsFaultOfRows (rows_in matches.now)) }
 {
     let Some(word) = value_given(matches, "view") else {
         return Ok(None);
@@ -233,7 +240,8 @@ fn size_asked(matches: &ArgMatches<'_>) -> Result<Option<Size>, Stop>
 
 /// The number of the level that the matches of a command line give.
 pub fn level_asked(matches: &ArgMatches<'_>) -> Result<Option<usize>, Stop>
-    ensures { IfOk result (IsLevelOf (first_of (codes "level") (rows_in matches.now))) }
+    ensures level { IfOk result (IsLevelOf (first_of (codes "level") (rows_in matches.now))) }
+    ensures refused { IfErr result (IsFaultOfRows (rows_in matches.now)) }
 {
     let Some(word) = value_given(matches, "level") else {
         return Ok(None);
@@ -263,6 +271,7 @@ fn asked_check<'w>(
     requires game { IsGameIn (rows_in matches.now) path.now }
     requires task { Checks (rows_in matches.now) }
     ensures asked { IfOk result (IsAsked (rows_in matches.now)) }
+    ensures refused { IfErr result (IsFaultOfRows (rows_in matches.now)) }
 {
     let format = format_asked(matches)?;
     if tells_more(matches, format) {

@@ -3,6 +3,7 @@
 ghost use Rattle.std.specs.Prelude.{◌≡◌, ◌≢◌, ◌≤◌, false, is_some, IfErr, OnOk};
 ghost use Rattle.ps_model.specs.game.Games.{game};
 ghost use Rattle.ps_command.specs.Details.{TellsDetail};
+ghost use Rattle.ps_command.specs.Stops.{StopsCheck};
 ghost use Rattle.ps_report.specs.declared.details.Detail.TheVariants as Detail;
 ghost use Rattle.ps_command.specs.declared.stops.Stop.TheVariants as Stop;
 
@@ -21,6 +22,7 @@ fn show_lines<O: ByteWriter>(alloc: Global, text: &[u8], screen: &mut O) -> Resu
     ensures told { OnOk result
         (TellsDetail Detail.Why text.now (O.state screen.old).contents (O.state screen.new).contents) }
     ensures fault { IfErr result (λ stop. stop ≢ Stop.NotAccepted) }
+    ensures stopped { IfErr result (StopsCheck (O.state screen.new).has_failed) }
 {
     let Some(fault) = first_fault(alloc, text)? else {
         return Ok(());
@@ -46,6 +48,7 @@ pub fn show_detail<O: ByteWriter>(
     ensures told { OnOk result
         (TellsDetail detail text.now (O.state screen.old).contents (O.state screen.new).contents) }
     ensures fault { IfErr result (λ stop. stop ≢ Stop.NotAccepted) }
+    ensures stopped { IfErr result (StopsCheck (O.state screen.new).has_failed) }
 {
     match detail {
         Detail::Line => Ok(()),

@@ -3,6 +3,7 @@
 ghost use Rattle.std.specs.Prelude.{◌≡◌, ◌≢◌, ◌+◌, ◌<◌, false, IfErr, IfOk, IsSomeAnd, OnOk, codes, length};
 ghost use Rattle.ps_model.specs.declared.limits.TheConstants.{TEXT_LIMIT};
 ghost use Rattle.ps_command.specs.Statuses.{IsApart};
+ghost use Rattle.ps_command.specs.Stops.{IsUnread};
 ghost use Rattle.ps_command.specs.declared.stops.Stop.TheVariants as Stop;
 ghost use Rattle.ps_devices.specs.Devices.{IsSpent, Loses};
 
@@ -39,6 +40,7 @@ pub fn read_input<I: ByteReader>(alloc: Global, input: &mut I) -> Result<Vec<u8>
         length text.items < TEXT_LIMIT + 1 → IsSpent (I.state input.new).remaining) }
     ensures fault { IfErr result (λ stop. stop ≢ Stop.NotAccepted) }
     ensures apart { IfErr result IsApart }
+    ensures unread { IfErr result IsUnread }
 {
     let mut text = Vec::new(alloc);
     let mut piece = [0u8; CALL_LIMIT];
@@ -67,6 +69,7 @@ pub fn read_text<R: Files + AllocGlobal, I: ByteReader>(
     ensures unasked { path.now ≢ codes "-" → input.new ≡ input.old }
     ensures fault { IfErr result (λ stop. stop ≢ Stop.NotAccepted) }
     ensures apart { IfErr result IsApart }
+    ensures unread { IfErr result IsUnread }
 {
     if path == STANDARD_INPUT {
         return read_input(rt.alloc(), input);
@@ -86,6 +89,7 @@ pub fn read_one<R: Files + AllocGlobal + Eprint, I: ByteReader>(
     ensures read { path.now ≡ codes "-" → IfOk result (λ read. IsSomeAnd read (λ text.
         Loses (I.state input.old).remaining (I.state input.new).remaining text.items)) }
     ensures fault { IfErr result (λ stop. stop ≢ Stop.NotAccepted) }
+    ensures unread { IfErr result IsUnread }
 {
     if path == STANDARD_INPUT {
         let text = read_input(rt.alloc(), input)?;
@@ -117,6 +121,7 @@ pub fn tell_unread<R: AllocGlobal + Eprint>(
     error: io::Error,
 ) -> Result<(), Stop>
     ensures fault { IfErr result (λ stop. stop ≢ Stop.NotAccepted) }
+    ensures unread { IfErr result IsUnread }
 {
     let kind = error.kind();
     if kind == io::ErrorKind::OutOfMemory {

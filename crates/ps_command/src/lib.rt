@@ -30,3 +30,4 @@ mod words;
 
 pub use acts::run_command_line;
 pub use engine::Engine;
+pub use words::{NoWords, words_of};

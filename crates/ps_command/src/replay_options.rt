@@ -1,7 +1,8 @@
 //! The words of a command line that ask how far recorded keys get.
 
 ghost use Rattle.std.specs.List.{list_any};
-ghost use Rattle.std.specs.Prelude.{◌≡◌, IfOk, codes};
+ghost use Rattle.std.specs.Prelude.{◌≡◌, IfErr, IfOk, codes};
+ghost use Rattle.ps_command.specs.LinesAtFault.{IsFaultOfRows};
 ghost use Rattle.ps_command.specs.AskedFor.{IsAsked, Replays};
 ghost use Rattle.ps_command.specs.Given.{IsGameIn, further_in, is_input, rows_in, texts_of};
 
@@ -51,6 +52,7 @@ pub fn asked_replay<'w>(
     requires game { IsGameIn (rows_in matches.now) game.now }
     requires task { Replays (rows_in matches.now) }
     ensures asked { IfOk result (IsAsked (rows_in matches.now)) }
+    ensures refused { IfErr result (IsFaultOfRows (rows_in matches.now)) }
 {
     if value_given(matches, "level").is_some() {
         return Err(Stop::ReplayedLevel);

@@ -9,6 +9,7 @@ ghost use Rattle.ps_records.specs.Forms.{told_in};
 ghost use Rattle.ps_command.specs.Replayed.{AreLinesOn, AreLinesOnWon, AreLinesTold, IsLineOnGame, TellsOfGivenKeys};
 ghost use Rattle.ps_command.specs.Replayed.{TellsOfStreams, TellsOfUnwon, TellsOfWon, form_of, how_refused, how_told};
 ghost use Rattle.ps_command.specs.Searched.{IsRefused};
+ghost use Rattle.ps_command.specs.Stops.{IsUnread, StopsReplay};
 ghost use Rattle.ps_command.specs.Told.{TellsInOrder};
 ghost use Rattle.ps_command.specs.declared.stops.Stop.TheVariants as Stop;
 
@@ -84,6 +85,7 @@ pub fn replay_asked<R: Files + AllocGlobal + Eprint, Y: Replayer, I: ByteReader,
         (O.state screen.old).contents (O.state screen.new).contents) }
     ensures unwon { result ≡ Err Stop.NotAccepted → TellsOfUnwon asked.now (I.state input.old).remaining
         (O.state screen.old).contents (O.state screen.new).contents }
+    ensures stopped { IfErr result (StopsReplay (O.state screen.new).has_failed) }
 {
     let text = read_text(rt, asked.game, input)?;
     let streams = Streams {
@@ -129,6 +131,7 @@ impl<'s, R: Files + AllocGlobal + Eprint, Y: Replayer> Streams<'s, R, Y> {
         ensures told { OnOk result (TellsOfStreams self.now.form self.now.game.now self.now.text.now
             (map (λ path. path.now) paths.now) (O.state screen.old).contents (O.state screen.new).contents) }
         ensures fault { IfErr result (λ stop. stop ≢ Stop.NotAccepted) }
+        ensures stopped { IfErr result (StopsReplay (O.state screen.new).has_failed) }
     {
         match first_fault(self.rt.alloc(), self.text)? {
             None => self.replay_each(paths, input, screen),
@@ -147,6 +150,7 @@ impl<'s, R: Files + AllocGlobal + Eprint, Y: Replayer> Streams<'s, R, Y> {
         ensures told { OnOk result (Tells (IsLineOnGame self.now.form self.now.game.now self.now.text.now)
             (O.state screen.old).contents (O.state screen.new).contents) }
         ensures fault { IfErr result (λ stop. stop ≢ Stop.NotAccepted) }
+        ensures stopped { IfErr result (StopsReplay (O.state screen.new).has_failed) }
     {
         let how = how_refused(self.form);
         let _ = report_bytes(self.rt.alloc(), self.game, self.text, how, screen)?;
@@ -169,6 +173,7 @@ impl<'s, R: Files + AllocGlobal + Eprint, Y: Replayer> Streams<'s, R, Y> {
         ensures told { OnOk result (TellsInOrder (AreLinesTold self.now.form self.now.game.now self.now.text.now)
             (map (λ path. path.now) paths.now) (O.state screen.old).contents (O.state screen.new).contents) }
         ensures fault { IfErr result (λ stop. stop ≢ Stop.NotAccepted) }
+        ensures stopped { IfErr result (StopsReplay (O.state screen.new).has_failed) }
     {
         let mut all_won = true;
         for path in paths {
@@ -202,6 +207,7 @@ impl<'s, R: Files + AllocGlobal + Eprint, Y: Replayer> Streams<'s, R, Y> {
             (I.state input.old).remaining (I.state input.new).remaining
             (O.state screen.old).contents (O.state screen.new).contents) }
         ensures fault { IfErr result (λ stop. stop ≢ Stop.NotAccepted) }
+        ensures stopped { IfErr result (StopsReplay (O.state screen.new).has_failed) }
     {
         if path == STANDARD_INPUT {
             let keys = read_keys_given(self.rt.alloc(), input)?;
@@ -233,6 +239,7 @@ impl<'s, R: Files + AllocGlobal + Eprint, Y: Replayer> Streams<'s, R, Y> {
         ensures told { OnOk result (Tells (AreLinesTold self.now.form self.now.game.now self.now.text.now path.now)
             (O.state screen.old).contents (O.state screen.new).contents) }
         ensures fault { IfErr result (λ stop. stop ≢ Stop.NotAccepted) }
+        ensures stopped { IfErr result (StopsReplay (O.state screen.new).has_failed) }
     {
         if keys.len() > MOST_KEYS {
             self.tell_too_many(path)?;
@@ -256,6 +263,7 @@ impl<'s, R: Files + AllocGlobal + Eprint, Y: Replayer> Streams<'s, R, Y> {
             Tells (AreLinesOn self.now.form self.now.game.now self.now.text.now won path.now keys.now)
             (O.state screen.old).contents (O.state screen.new).contents) }
         ensures fault { IfErr result (λ stop. stop ≢ Stop.NotAccepted) }
+        ensures stopped { IfErr result (StopsReplay (O.state screen.new).has_failed) }
     {
         let replay = match self.replayer.replay(self.rt.alloc(), self.text, keys) {
             Ok(replay) => replay,
@@ -279,6 +287,7 @@ impl<'s, R: Files + AllocGlobal + Eprint, Y: Replayer> Streams<'s, R, Y> {
         ensures told { OnOk result (Grows (O.state screen.old).contents (O.state screen.new).contents
             (told_in self.now.form self.now.game.now path.now replay.now)) }
         ensures fault { IfErr result (λ stop. stop ≢ Stop.NotAccepted) }
+        ensures stopped { IfErr result (StopsReplay (O.state screen.new).has_failed) }
     {
         let told = told_in(self.rt.alloc(), self.form, self.game, path, replay)?;
         match write_whole(told.as_bytes(), screen) {
@@ -290,6 +299,7 @@ impl<'s, R: Files + AllocGlobal + Eprint, Y: Replayer> Streams<'s, R, Y> {
     /// Tells on standard error that a stream has more keys than are read.
     fn tell_too_many(&self, path: &str) -> Result<(), Stop>
         ensures fault { IfErr result (λ stop. stop ≢ Stop.NotAccepted) }
+        ensures unread { IfErr result IsUnread }
     {
         let line = format!(in self.rt.alloc(); "{path}: more keys than are read")?;
         let _ = self.rt.eprintln(line);

@@ -1,9 +1,10 @@
 //! The options of a check that tells more than whether a text is a game, or its first fault.
 
-ghost use Rattle.std.specs.Prelude.{◌≡◌, IfOk, IfSome, codes, true};
+ghost use Rattle.std.specs.Prelude.{◌≡◌, IfErr, IfOk, IfSome, codes, true};
 ghost use Rattle.clap.specs.Words.{first_of};
 ghost use Rattle.ps_command.specs.AskedFor.{Checks, IsAsked, IsHow, IsMost, tells_more};
 ghost use Rattle.ps_command.specs.Given.{IsCount, IsFormOf, IsGameIn, is_given, rows_in, word_of};
+ghost use Rattle.ps_command.specs.LinesAtFault.{IsFaultOfRows};
 
 use crate::command::{Asked, all_paths};
 use crate::given::{is_given, value_given, values_given};
@@ -29,7 +30,8 @@ fn format_of(word: &str) -> Option<Format>
 
 /// The form in which the matches of a command line ask for what is told.
 pub fn format_asked(matches: &ArgMatches<'_>) -> Result<Format, Stop>
-    ensures { IfOk result (IsFormOf (first_of (codes "format") (rows_in matches.now))) }
+    ensures form { IfOk result (IsFormOf (first_of (codes "format") (rows_in matches.now))) }
+    ensures refused { IfErr result (IsFaultOfRows (rows_in matches.now)) }
 {
     let Some(word) = value_given(matches, "format") else {
         return Ok(Format::Text);
@@ -60,7 +62,8 @@ fn limit_of(word: &str) -> Option<u32>
 
 /// Of how many lines a fault is told at most: of one, unless all faults are asked for.
 fn most_asked(matches: &ArgMatches<'_>) -> Result<u32, Stop>
-    ensures { IfOk result (IsMost (rows_in matches.now) (is_given (codes "all") (rows_in matches.now))) }
+    ensures most { IfOk result (IsMost (rows_in matches.now) (is_given (codes "all") (rows_in matches.now))) }
+    ensures refused { IfErr result (IsFaultOfRows (rows_in matches.now)) }
 {
     if !is_given(matches, "all") {
         return Ok(1);
@@ -78,7 +81,8 @@ fn most_asked(matches: &ArgMatches<'_>) -> Result<u32, Stop>
 fn how_asked(matches: &ArgMatches<'_>, format: Format, is_named: bool) -> Result<How, Stop>
     requires format { IsFormOf (first_of (codes "format") (rows_in matches.now)) format }
     requires more { tells_more (rows_in matches.now) format ≡ true }
-    ensures { IfOk result (IsHow (rows_in matches.now) is_named) }
+    ensures how { IfOk result (IsHow (rows_in matches.now) is_named) }
+    ensures refused { IfErr result (IsFaultOfRows (rows_in matches.now)) }
 {
     let most = most_asked(matches)?;
     let detail = if is_given(matches, "why") {
@@ -110,6 +114,7 @@ pub fn asked_report<'w>(
     requires format { IsFormOf (first_of (codes "format") (rows_in matches.now)) format }
     requires more { tells_more (rows_in matches.now) format ≡ true }
     ensures asked { IfOk result (IsAsked (rows_in matches.now)) }
+    ensures refused { IfErr result (IsFaultOfRows (rows_in matches.now)) }
 {
     let Some(further) = values_given(matches, "FURTHER") else {
         return Ok(Asked::Report(path, how_asked(matches, format, false)?));

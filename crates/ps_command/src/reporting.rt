@@ -3,10 +3,11 @@
 ghost use Rattle.std.specs.Prelude.{◌≡◌, ◌≢◌, ◌+◌, ◌≤◌, false, true, None, Err, Ok, codes, length, map};
 ghost use Rattle.std.specs.Prelude.{IfErr, IfOk, IfSome, OnOk};
 ghost use Rattle.ps_command.specs.Reported.{IsReportOfFile, IsReportOfGame, IsReportOfText, TellsReport};
-ghost use Rattle.ps_command.specs.Reported.{TellsReportGiven, TellsReportOn};
+ghost use Rattle.ps_command.specs.Reported.{TellsReportOn, TellsReportRead};
 ghost use Rattle.ps_command.specs.Told.{TellsInOrder};
 ghost use Rattle.ps_report.specs.Reports.{is_well};
 ghost use Rattle.ps_command.specs.Statuses.{IsApart};
+ghost use Rattle.ps_command.specs.Stops.{StopsCheck};
 ghost use Rattle.ps_command.specs.declared.stops.Stop.TheVariants as Stop;
 
 use crate::acts::Said;
@@ -33,6 +34,7 @@ pub fn report_bytes<O: ByteWriter>(
         (O.state screen.old).contents (O.state screen.new).contents) }
     ensures fault { IfErr result (λ stop. stop ≢ Stop.NotAccepted) }
     ensures apart { IfErr result IsApart }
+    ensures stopped { IfErr result (StopsCheck (O.state screen.new).has_failed) }
 {
     let told = report(alloc, name, text, how)?;
     match write_whole(told.lines.as_bytes(), screen) {
@@ -42,7 +44,7 @@ pub fn report_bytes<O: ByteWriter>(
 }
 
 /// Tells of the text of a file on the screen. It is well where that is.
-#[tactic(auto, using(crate::proofs::ReportsTold::report_told, crate::proofs::ReportsTold::given_told))]
+#[tactic(auto, using(crate::proofs::ReportsTold::read_told, crate::proofs::TasksStopped::unread_check))]
 pub fn report_alone<R: Files + AllocGlobal, I: ByteReader, O: ByteWriter>(
     rt: &R,
     path: &str,
@@ -53,15 +55,12 @@ pub fn report_alone<R: Files + AllocGlobal, I: ByteReader, O: ByteWriter>(
     requires heard { (I.state input.old).has_failed ≡ false }
     requires well { (O.state screen.old).has_failed ≡ false }
     ensures told { OnOk result
-        (TellsReport how path.now true (O.state screen.old).contents (O.state screen.new).contents) }
-    ensures given { path.now ≡ codes "-" → OnOk result
-        (TellsReportGiven how path.now true (I.state input.old).remaining (I.state input.new).remaining
+        (TellsReportRead how path.now true (I.state input.old).remaining (I.state input.new).remaining
         (O.state screen.old).contents (O.state screen.new).contents) }
     ensures refused { result ≡ Err Stop.NotAccepted →
-        TellsReport how path.now false (O.state screen.old).contents (O.state screen.new).contents }
-    ensures refused_given { path.now ≡ codes "-" → result ≡ Err Stop.NotAccepted →
-        TellsReportGiven how path.now false (I.state input.old).remaining (I.state input.new).remaining
+        TellsReportRead how path.now false (I.state input.old).remaining (I.state input.new).remaining
         (O.state screen.old).contents (O.state screen.new).contents }
+    ensures stopped { IfErr result (StopsCheck (O.state screen.new).has_failed) }
 {
     let text = read_text(rt, path, input)?;
     if report_bytes(rt.alloc(), path, &text, how, screen)? {
@@ -73,7 +72,7 @@ pub fn report_alone<R: Files + AllocGlobal, I: ByteReader, O: ByteWriter>(
 
 /// Tells of the text of one of several files on the screen, and answers whether it is well. Nothing is answered of a
 /// file that can't be read: standard error names it. Standard input that can't be read ends the check.
-#[tactic(auto, using(crate::proofs::ReportsTold::report_told))]
+#[tactic(auto, using(crate::proofs::ReportsTold::report_told, crate::proofs::TasksStopped::unread_check))]
 fn report_one<R: Files + AllocGlobal + Eprint, I: ByteReader, O: ByteWriter>(
     rt: &R,
     path: &str,
@@ -89,6 +88,7 @@ fn report_one<R: Files + AllocGlobal + Eprint, I: ByteReader, O: ByteWriter>(
     ensures told { IfOk result (λ said. IfSome said (λ well. TellsReport how path.now well
         (O.state screen.old).contents (O.state screen.new).contents)) }
     ensures fault { IfErr result (λ stop. stop ≢ Stop.NotAccepted) }
+    ensures stopped { IfErr result (StopsCheck (O.state screen.new).has_failed) }
 {
     let Some(text) = read_one(rt, path, input)? else {
         return Ok(None);
@@ -118,6 +118,7 @@ fn report_each<R: Files + AllocGlobal + Eprint, I: ByteReader, O: ByteWriter>(
     ensures files { OnOk result (TellsInOrder (IsReportOfFile how) (map (λ path. path.now) paths.now)
         (O.state screen.old).contents (O.state screen.new).contents) }
     ensures fault { IfErr result (λ stop. stop ≢ Stop.NotAccepted) }
+    ensures stopped { IfErr result (StopsCheck (O.state screen.new).has_failed) }
 {
     let mut games = 0;
     let mut faulty = 0;
@@ -152,6 +153,7 @@ pub fn report_texts<R: Files + AllocGlobal + Eprint, I: ByteReader, O: ByteWrite
     ensures files { result ≡ Err Stop.NotAccepted →
         TellsInOrder (IsReportOfFile how) (map (λ path. path.now) paths.now)
         (O.state screen.old).contents (O.state screen.new).contents }
+    ensures stopped { IfErr result (StopsCheck (O.state screen.new).has_failed) }
 {
     let said = report_each(rt, paths, how, input, screen)?;
     if said.faulty == 0 && said.unread == 0 {

@@ -1,10 +1,12 @@
 //! The words of a command line that ask whether levels can be won.
 
-ghost use Rattle.std.specs.Prelude.{◌≡◌, ◌≢◌, [], IfOk, IfSome, OnOk, codes};
+ghost use Rattle.std.specs.Prelude.{◌≡◌, ◌≢◌, ◌⊎◌, [], IfErr, IfOk, IfSome, OnOk, codes, is_some, true};
 ghost use Rattle.clap.specs.Words.{first_of};
 ghost use Rattle.ps_command.specs.AskedFor.{IsAsked, IsSearch, Solves};
 ghost use Rattle.ps_command.specs.Given.{AreWordsToSolve, IsCount, IsCountOr, IsFormOf, IsGameIn, form_for, rows_in};
 ghost use Rattle.ps_command.specs.Given.{files_of, text_of, texts_of};
+ghost use Rattle.ps_command.specs.LinesAtFault.{IsFaultOfRows};
+ghost use Rattle.ps_command.specs.declared.stops.Stop.TheVariants as Stop;
 
 use crate::after_keys::SolveAfter;
 use crate::command::{Asked, Solve, all_paths, level_asked};
@@ -31,7 +33,8 @@ fn states_of(word: &str) -> Option<u32>
 
 /// How many states the matches of a command line let be kept for a level.
 fn states_asked(matches: &ArgMatches<'_>) -> Result<u32, Stop>
-    ensures { IfOk result (IsCountOr 1000000 (first_of (codes "states") (rows_in matches.now))) }
+    ensures states { IfOk result (IsCountOr 1000000 (first_of (codes "states") (rows_in matches.now))) }
+    ensures refused { IfErr result (IsFaultOfRows (rows_in matches.now)) }
 {
     let Some(word) = value_given(matches, "states") else {
         return Ok(MOST_STATES);
@@ -44,7 +47,9 @@ fn states_asked(matches: &ArgMatches<'_>) -> Result<u32, Stop>
 
 /// Whether the matches of a command line ask for objects of JSON. There is no form for editors.
 pub fn wants_data(matches: &ArgMatches<'_>) -> Result<bool, Stop>
-    ensures { IfOk result (λ is_data. IsFormOf (first_of (codes "format") (rows_in matches.now)) (form_for is_data)) }
+    ensures form { IfOk result (λ is_data.
+        IsFormOf (first_of (codes "format") (rows_in matches.now)) (form_for is_data)) }
+    ensures refused { IfErr result (IsFaultOfRows (rows_in matches.now)) }
 {
     match format_asked(matches)? {
         Format::Text => Ok(false),
@@ -54,6 +59,7 @@ pub fn wants_data(matches: &ArgMatches<'_>) -> Result<bool, Stop>
 }
 
 /// What the matches of a command line ask for that searches levels of games, the first of which is in this file.
+#[tactic(auto, using(crate::proofs::LinesRefused::misfit_refused))]
 pub fn asked_solve<'w>(
     alloc: Global,
     matches: &ArgMatches<'w>,
@@ -62,6 +68,7 @@ pub fn asked_solve<'w>(
     requires game { IsGameIn (rows_in matches.now) path.now }
     requires task { Solves (rows_in matches.now) }
     ensures asked { IfOk result (IsAsked (rows_in matches.now)) }
+    ensures refused { IfErr result (IsFaultOfRows (rows_in matches.now)) }
 {
     let search = search_asked(matches)?;
     match value_given(matches, "after") {
@@ -103,9 +110,11 @@ struct SearchWords<'w, 'm> {
 }
 
 /// What the matches of a command line say of a search.
+#[tactic(auto, using(crate::proofs::LinesRefused::level_refused))]
 fn search_asked<'w, 'm>(matches: &'m ArgMatches<'w>) -> Result<SearchWords<'w, 'm>, Stop>
-    ensures { IfOk result (λ search. IsSearch (rows_in matches.entry.now) search.level (texts_of search.further.now)
-        search.limit search.is_data (text_of search.stop_file)) }
+    ensures search { IfOk result (λ search. IsSearch (rows_in matches.entry.now) search.level
+        (texts_of search.further.now) search.limit search.is_data (text_of search.stop_file)) }
+    ensures refused { IfErr result (IsFaultOfRows (rows_in matches.entry.now)) }
 {
     let given = level_asked(matches)?;
     let limit = states_asked(matches)?;
@@ -135,8 +144,9 @@ fn words_to_solve<'w, 'm>(
     level: Option<usize>,
     further: Option<&'m [&'w str]>,
 ) -> Result<WordsToSolve<'w, 'm>, Stop>
-    ensures { IfOk result (λ words.
+    ensures words { IfOk result (λ words.
         AreWordsToSolve level (files_of further.entry) words.level (texts_of words.further.now)) }
+    ensures refused { IfErr result (λ stop. (stop ≡ Stop.NoLevel) × (is_some further.entry ≡ true)) }
 {
     let Some(further) = further else {
         return Ok(WordsToSolve {
@@ -162,6 +172,8 @@ fn fitting<'w>(asked: SolveAfter<'w>, further: &[&str]) -> Result<SolveAfter<'w>
     ensures same { IfOk result (λ fits. fits ≡ asked.entry) }
     ensures alone { OnOk result (texts_of further.now ≡ []) }
     ensures one_input { OnOk result (asked.entry.game.now ≡ codes "-" → asked.entry.keys.now ≢ codes "-") }
+    ensures refused { IfErr result (λ stop.
+        (stop ≡ Stop.OneGame) ⊎ ((stop ≡ Stop.OneInput) × (asked.entry.game.now ≡ codes "-"))) }
 {
     if !further.is_empty() {
         return Err(Stop::OneGame);

@@ -1,6 +1,7 @@
 //! The output of a run, shown as a view shows it.
 
-ghost use Rattle.std.specs.Prelude.{◌≡◌, ◌||◌, [], codes, false, is_none, OnOk};
+ghost use Rattle.std.specs.Prelude.{◌≡◌, ◌||◌, [], codes, false, is_none, IfErr, OnOk};
+ghost use Rattle.ps_command.specs.Stops.{StopsShow};
 ghost use Rattle.ps_command.specs.Viewings.{ShowsInView, ShowsOn, ShowsOutput};
 
 use crate::command::Show;
@@ -14,6 +15,7 @@ use std::fs;
 use std::rt::Files;
 
 /// Shows the output of a run of a game as a view shows it, as it comes, up to its end.
+#[tactic(auto, using(crate::proofs::TasksStopped::unread_show))]
 pub fn show_asked<R: Files + AllocGlobal, I: ByteReader, O: ByteWriter>(
     rt: &R,
     asked: Show<'_>,
@@ -25,12 +27,14 @@ pub fn show_asked<R: Files + AllocGlobal, I: ByteReader, O: ByteWriter>(
     ensures shown { OnOk result (ShowsOutput asked.entry.game.now asked.entry.output.now asked.entry.size
         (is_none asked.entry.sizes) (I.state input.old).remaining (I.state input.new).remaining
         (O.state screen.old).contents (O.state screen.new).contents) }
+    ensures stopped { IfErr result StopsShow }
 {
     let text = read_text(rt, asked.game, input)?;
     show_in_view(rt, asked, &text, input, screen)
 }
 
 /// Shows the output of a run of a text's game as a view shows it.
+#[tactic(auto, using(crate::proofs::TasksStopped::unread_show))]
 fn show_in_view<R: Files + AllocGlobal, I: ByteReader, O: ByteWriter>(
     rt: &R,
     asked: Show<'_>,
@@ -43,6 +47,7 @@ fn show_in_view<R: Files + AllocGlobal, I: ByteReader, O: ByteWriter>(
     ensures shown { OnOk result (ShowsInView text.now asked.entry.output.now asked.entry.size
         (is_none asked.entry.sizes) (I.state input.old).remaining (I.state input.new).remaining
         (O.state screen.old).contents (O.state screen.new).contents) }
+    ensures stopped { IfErr result StopsShow }
 {
     let game = viewed_game(rt.alloc(), text)?;
     let sizes = FileSizes::new(rt, asked.sizes);
@@ -54,6 +59,7 @@ fn show_in_view<R: Files + AllocGlobal, I: ByteReader, O: ByteWriter>(
 }
 
 /// Shows the output that a file has, or a reader, in a view that has taken nothing yet.
+#[tactic(auto, using(crate::proofs::TasksStopped::output_unread))]
 fn show_from<R: Files, I: ByteReader, O: ByteWriter, S: SizeTeller>(
     rt: &R,
     path: &str,
@@ -66,6 +72,7 @@ fn show_from<R: Files, I: ByteReader, O: ByteWriter, S: SizeTeller>(
     ensures same_reference { view.new.writer.ghost_name ≡ view.old.writer.ghost_name }
     ensures shown { OnOk result (ShowsOn path.now view.old.past.begun (I.state input.old).remaining
         (I.state input.new).remaining (O.state view.new.writer.now).contents) }
+    ensures stopped { IfErr result StopsShow }
 {
     if path == STANDARD_INPUT {
         return show_given(input, view);
@@ -86,6 +93,7 @@ fn show_given<I: ByteReader, O: ByteWriter, S: SizeTeller>(
     ensures same_reference { view.new.writer.ghost_name ≡ view.old.writer.ghost_name }
     ensures shown { OnOk result (ShowsOn (codes "-") view.old.past.begun (I.state input.old).remaining
         (I.state input.new).remaining (O.state view.new.writer.now).contents) }
+    ensures stopped { IfErr result StopsShow }
 {
     match show_all(input, view) {
         Ok(()) => Ok(()),

@@ -5,6 +5,7 @@ ghost use Rattle.ps_answers.specs.TellsLevels.{Tells};
 ghost use Rattle.ps_command.specs.Searched.{AreLinesToldOf, AreLinesToldOfText, AreWonLines, IsLineOnRefused};
 ghost use Rattle.ps_command.specs.Searched.{IsRefused, TellsOfGivenText, form_of, how_refused, question_of};
 ghost use Rattle.ps_command.specs.Statuses.{IsApart};
+ghost use Rattle.ps_command.specs.Stops.{StopsSearch};
 ghost use Rattle.ps_command.specs.Told.{TellsInOrder};
 ghost use Rattle.ps_command.specs.declared.stops.Stop.TheVariants as Stop;
 
@@ -17,6 +18,7 @@ use ps_answers::{
     Form, LevelSolver, LevelTeller, Refusal, SearchProgress, SolvableGame, TellFault,
 };
 use ps_devices::{ByteReader, ByteWriter, Player, RunFault};
+use ps_records::Replayer;
 use ps_report::{Detail, Format, How};
 use ps_tracers::Tracing;
 use std::rt::Files;
@@ -30,11 +32,12 @@ pub fn solve_asked<
     P: Player,
     S: LevelSolver,
     T: Tracing,
+    Y: Replayer,
     I: ByteReader,
     O: ByteWriter,
 >(
     rt: &R,
-    engine: &Engine<'_, P, S, T>,
+    engine: &Engine<'_, P, S, T, Y>,
     asked: &Solve<'_>,
     input: &mut I,
     screen: &mut O,
@@ -45,6 +48,7 @@ pub fn solve_asked<
         (map (λ path. path.now) asked.now.paths.items) (O.state screen.old).contents (O.state screen.new).contents) }
     ensures told { result ≡ Err Stop.NotAccepted → TellsInOrder (AreLinesToldOf (question_of asked.now))
         (map (λ path. path.now) asked.now.paths.items) (O.state screen.old).contents (O.state screen.new).contents }
+    ensures stopped { IfErr result StopsSearch }
 {
     let question = Question {
         level: asked.level,
@@ -142,6 +146,7 @@ impl<'s, R: Files + AllocGlobal + Clock + Eprint, S: LevelSolver> Search<'s, R, 
         ensures told { OnOk result (TellsInOrder (AreLinesToldOf self.now.question)
             (map (λ path. path.now) paths.now) (O.state screen.old).contents (O.state screen.new).contents) }
         ensures fault { IfErr result (λ stop. stop ≢ Stop.NotAccepted) }
+        ensures stopped { IfErr result StopsSearch }
     {
         let mut all_won = true;
         for path in paths {
@@ -172,6 +177,7 @@ impl<'s, R: Files + AllocGlobal + Clock + Eprint, S: LevelSolver> Search<'s, R, 
             (I.state input.old).remaining (I.state input.new).remaining
             (O.state screen.old).contents (O.state screen.new).contents) }
         ensures fault { IfErr result (λ stop. stop ≢ Stop.NotAccepted) }
+        ensures stopped { IfErr result StopsSearch }
     {
         match read_one(self.rt, path, input)? {
             Some(text) => self.solve_text(path, &text, screen),
@@ -194,6 +200,7 @@ impl<'s, R: Files + AllocGlobal + Clock + Eprint, S: LevelSolver> Search<'s, R, 
         ensures told { OnOk result (Tells (AreLinesToldOfText self.now.question path.now text.now)
             (O.state screen.old).contents (O.state screen.new).contents) }
         ensures fault { IfErr result (λ stop. stop ≢ Stop.NotAccepted) }
+        ensures stopped { IfErr result StopsSearch }
     {
         match self.solver.open(self.rt.alloc(), text) {
             Ok(game) => self.solve_game(path, &game, screen),
@@ -219,6 +226,7 @@ impl<'s, R: Files + AllocGlobal + Clock + Eprint, S: LevelSolver> Search<'s, R, 
         ensures told { OnOk result (Tells (AreLinesToldOfText self.now.question path.now (S.Game.text game.now))
             (O.state screen.old).contents (O.state screen.new).contents) }
         ensures fault { IfErr result (λ stop. stop ≢ Stop.NotAccepted) }
+        ensures stopped { IfErr result StopsSearch }
     {
         let mut progress = SearchProgress::new(self.rt, self.is_watched, self.stop_file);
         let mut teller = LevelTeller {
@@ -242,7 +250,8 @@ impl<'s, R: Files + AllocGlobal + Clock + Eprint, S: LevelSolver> Search<'s, R, 
 
     /// What a line on standard error begins with, on the text with this name.
     fn front_of(&self, path: &str) -> Result<String, Stop>
-        ensures { IfErr result (λ stop. stop ≢ Stop.NotAccepted) }
+        ensures fault { IfErr result (λ stop. stop ≢ Stop.NotAccepted) }
+        ensures stopped { IfErr result StopsSearch }
     {
         if !self.question.is_named {
             return Ok(String::new(self.rt.alloc()));
@@ -254,7 +263,8 @@ impl<'s, R: Files + AllocGlobal + Clock + Eprint, S: LevelSolver> Search<'s, R, 
     /// Says on standard error that the game in a file has no level of the number that is asked for, and how many it
     /// has.
     fn tell_lacking(&self, path: &str, levels: usize) -> Result<(), Stop>
-        ensures { IfErr result (λ stop. stop ≢ Stop.NotAccepted) }
+        ensures fault { IfErr result (λ stop. stop ≢ Stop.NotAccepted) }
+        ensures stopped { IfErr result StopsSearch }
     {
         let front = self.front_of(path)?;
         if let Some(level) = self.question.level {
@@ -264,6 +274,7 @@ impl<'s, R: Files + AllocGlobal + Clock + Eprint, S: LevelSolver> Search<'s, R, 
     }
 
     /// Says of a text that is no game which fault it has first.
+    #[tactic(auto, using(crate::proofs::TasksStopped::check_search))]
     pub fn tell_refused<O: ByteWriter>(
         &self,
         path: &str,
@@ -276,6 +287,7 @@ impl<'s, R: Files + AllocGlobal + Clock + Eprint, S: LevelSolver> Search<'s, R, 
         ensures told { OnOk result (Tells (IsLineOnRefused self.now.question path.now text.now)
             (O.state screen.old).contents (O.state screen.new).contents) }
         ensures fault { IfErr result (λ stop. stop ≢ Stop.NotAccepted) }
+        ensures stopped { IfErr result StopsSearch }
         ensures apart { IfErr result IsApart }
     {
         let how = self.question.how_refused();

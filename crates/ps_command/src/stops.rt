@@ -1,15 +1,18 @@
 //! Why the program ends in place of a run's end, and how that is told.
 
 ghost use Rattle.std.specs.IoError.{error_kind};
-ghost use Rattle.std.specs.Prelude.{◌≡◌, ◌≢◌, ◌≤◌};
+ghost use Rattle.std.specs.Prelude.{◌≡◌, ◌≢◌, ◌≤◌, ℕ, List, OnOk, false};
+ghost use Rattle.ps_devices.specs.Devices.{Grows};
 ghost use Rattle.std.specs.declared.io.ErrorKind.TheVariants.{OutOfMemory};
-ghost use Rattle.ps_command.specs.Statuses.{IsApart, IsStatusOf, IsStatusOfLine};
+ghost use Rattle.ps_command.specs.ProgramRuns.{ShowsHelp, TellsStop};
+ghost use Rattle.ps_command.specs.Statuses.{IsApart, IsStatusOfLine};
+ghost use Rattle.ps_command.specs.Stops.{IsUnplayed, IsUnread};
 
 use clap::error::ErrorKind;
 use ps_check::CheckFault;
-use ps_devices::RunFault;
+use ps_devices::{ByteWriter, RunFault, write_whole};
 use ps_model::Memory;
-use std::alloc::AllocError;
+use std::alloc::{AllocError, Global};
 use std::io;
 
 /// What is told where no fault has the code that is to be explained.
@@ -191,6 +194,8 @@ pub fn stop_for(error: io::Error, other: Stop) -> Stop
     ensures other { error_kind error ≢ OutOfMemory → result ≡ other }
     ensures fault { other ≢ Stop.NotAccepted → result ≢ Stop.NotAccepted }
     ensures apart { IsApart other → IsApart result }
+    ensures unread { IsUnread other → IsUnread result }
+    ensures unplayed { IsUnplayed other → IsUnplayed result }
 {
     if error.kind() == io::ErrorKind::OutOfMemory {
         Stop::Run(RunFault::Memory)
@@ -199,14 +204,15 @@ pub fn stop_for(error: io::Error, other: Stop) -> Stop
     }
 }
 
-/// Says why the program ends, and gives its status: 0 after help or the version, 2 for a bad command line, 1 for a
-/// fault. What standard error doesn't take is lost.
-pub fn tell<R: Print + Eprint>(rt: &R, stop: &Stop) -> u8
-    ensures status { IsStatusOf stop.now result }
+/// Says why the program ends, and gives its status: 0 after help or the version, which the screen shows, 2 for a bad
+/// command line, 1 for a fault. What standard error doesn't take is lost.
+pub fn tell<R: AllocGlobal + Eprint, O: ByteWriter>(rt: &R, stop: &Stop, screen: &mut O) -> u8
+    requires well { (error : _) → stop.now ≡ Stop.CommandLine error → (O.state screen.old).has_failed ≡ false }
+    ensures told { TellsStop stop.now result (O.state screen.old) (O.state screen.new) }
     ensures few { result ≤ 2 }
 {
     match stop {
-        Stop::CommandLine(error) => return tell_command_line(rt, error),
+        Stop::CommandLine(error) => return tell_command_line(rt, error, screen),
         Stop::NotText(word) => return tell_not_text(rt, word),
         Stop::NoSuchCode => return tell_wrong_line(rt, NO_CODE),
         Stop::NoSize => return tell_wrong_line(rt, NO_SIZE),
@@ -262,18 +268,44 @@ pub fn tell_no_such_level<R: Eprint>(rt: &R, front: &str, level: usize, levels: 
     let _ = eprintln!(rt; "{front}the game has {levels} {word}: there is no level {level}");
 }
 
-/// Says what is wrong with a command line, or the help or the version that it asks for, and gives the status.
-fn tell_command_line<R: Print + Eprint>(rt: &R, error: &clap::Error) -> u8
+/// Says what is wrong with a command line, or shows the help or the version that it asks for, and gives the status.
+fn tell_command_line<R: AllocGlobal + Eprint, O: ByteWriter>(
+    rt: &R,
+    error: &clap::Error,
+    screen: &mut O,
+) -> u8
+    requires well { (O.state screen.old).has_failed ≡ false }
     ensures status { IsStatusOfLine error.now result }
+    ensures shown { ShowsHelp result (O.state screen.old) (O.state screen.new) }
     ensures few { result ≤ 2 }
 {
     if error.use_stderr() {
         let _ = rt.eprint(error);
         return 2;
     }
-    if rt.print(error).is_ok() {
-        return 0;
+    match show_text(rt.alloc(), error, screen) {
+        Ok(()) => 0,
+        Err(fault) => {
+            let _ = rt.eprintln(fault);
+            1
+        }
     }
-    let _ = rt.eprintln(RunFault::Write);
-    1
+}
+
+/// Shows the help or the version that a command line asks for.
+fn show_text<O: ByteWriter>(
+    alloc: Global,
+    error: &clap::Error,
+    screen: &mut O,
+) -> Result<(), RunFault>
+    requires well { (O.state screen.old).has_failed ≡ false }
+    ensures { OnOk result ((text : List ℕ) × Grows (O.state screen.old).contents (O.state screen.new).contents text) }
+{
+    let Ok(text) = format!(in alloc; "{error}") else {
+        return Err(RunFault::Memory);
+    };
+    match write_whole(text.as_bytes(), screen) {
+        Ok(()) => Ok(()),
+        Err(_) => Err(RunFault::Write),
+    }
 }

@@ -1,7 +1,8 @@
 //! A game that is played and traced.
 
-ghost use Rattle.std.specs.Prelude.{◌≡◌, false, OnOk};
-ghost use Rattle.ps_command.specs.Told.{EndsRightly, PlaysToAnEnd};
+ghost use Rattle.std.specs.Prelude.{◌≡◌, false, IfErr, OnOk};
+ghost use Rattle.ps_command.specs.Stops.{StopsPlay};
+ghost use Rattle.ps_command.specs.Told.{EndsRightly, TracesToAnEnd};
 
 use crate::command::Play;
 use crate::files::read_text;
@@ -15,6 +16,7 @@ use std::rt::Files;
 
 /// Plays a game and traces it. Where its text comes from standard input, the keys are what stands behind it there,
 /// unless a file has them. Lines of the trace go where the tracing has them go.
+#[tactic(auto, using(crate::proofs::TasksStopped::unread_play, crate::proofs::TasksStopped::unplayed_play))]
 pub fn trace_asked<R: Files + AllocGlobal, T: Tracing, I: ByteReader, O: ByteWriter>(
     rt: &R,
     tracing: &T,
@@ -24,7 +26,9 @@ pub fn trace_asked<R: Files + AllocGlobal, T: Tracing, I: ByteReader, O: ByteWri
 ) -> Result<(), Stop>
     requires heard { (I.state keys.old).has_failed ≡ false }
     requires well { (O.state screen.old).has_failed ≡ false }
-    ensures ended { OnOk result (PlaysToAnEnd asked.entry.level (O.state screen.old) (O.state screen.new)) }
+    ensures ended { OnOk result (TracesToAnEnd asked.entry (I.state keys.old) (O.state screen.old)
+        (O.state screen.new)) }
+    ensures stopped { IfErr result (StopsPlay asked.entry.level) }
 {
     let text = read_text(rt, asked.game, keys)?;
     let start = Start {
@@ -40,6 +44,7 @@ pub fn trace_asked<R: Files + AllocGlobal, T: Tracing, I: ByteReader, O: ByteWri
 }
 
 /// Plays a game with keys from a reader, and traces it.
+#[tactic(auto, using(crate::proofs::TracesEnded::trace_stopped))]
 fn trace<T: Tracing, I: ByteReader, O: ByteWriter>(
     alloc: Global,
     tracing: &T,
@@ -51,6 +56,7 @@ fn trace<T: Tracing, I: ByteReader, O: ByteWriter>(
     requires well { (O.state screen.old).has_failed ≡ false }
     ensures ended { OnOk result
         (EndsRightly start.entry.level start.entry.text.now (O.state screen.old) (O.state screen.new)) }
+    ensures stopped { IfErr result (StopsPlay start.entry.level) }
 {
     match tracing.play(alloc, start, keys, screen) {
         Ok(_ending) => Ok(()),

@@ -37,6 +37,7 @@ fn heard_keys(options: Options) -> HeardKeys
 pub fn viewed_game(alloc: Global, text: &[u8]) -> Result<ViewedGame, Stop>
     ensures told { IfOk result (λ told. IsToldOf text.now told.players.items told.heard) }
     ensures fault { IfErr result (λ stop. stop ≢ Stop.NotAccepted) }
+    ensures memory { IfErr result (λ stop. stop ≡ Stop.Run RunFault.Memory) }
 {
     let Some(facts) = facts_of(alloc, text)? else {
         return Ok(unknown_game(alloc));

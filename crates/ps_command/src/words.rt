@@ -1,28 +1,45 @@
 //! The words of a command line.
 
-use crate::stops::{Stop, stop_for};
-use ps_devices::RunFault;
+ghost use Rattle.std.specs.Prelude.{◌≡◌};
+
 use std::alloc::AllocError;
 use std::env;
 use std::env::FillError;
+use std::io::ErrorKind;
 use std::rt::Env;
 
 /// How many bytes a word has at most that is looked at, to name one that isn't UTF-8.
 const MOST_BYTES: usize = 4096;
 
-/// The words of the command line.
-///
-/// # Errors
-///
-/// `NotText` where one isn't UTF-8, `Run` with `Memory` where memory runs out.
-pub fn words_of<R: Env + AllocGlobal>(rt: &R) -> Result<Vec<String>, Stop> {
+/// Why there are no words to obey.
+#[derive(Drop)]
+pub enum NoWords {
+    /// One of them isn't UTF-8: a word with U+FFFD in place of what isn't, if it can be named.
+    NotText(String),
+    /// Memory ran out as they were read.
+    Memory,
+}
+
+impl From<AllocError> for NoWords {
+    ghost use Rattle.ps_command.specs.declared.words.NoWords.TheVariants.{Memory};
+
+    ghost from_gives = { λ _ why. why ≡ Memory };
+
+    fn from(_error: AllocError) -> NoWords {
+        NoWords::Memory
+    }
+}
+
+/// The words of the command line, of which the first is the program's own name.
+pub fn words_of<R: Env + AllocGlobal>(rt: &R) -> Result<Vec<String>, NoWords> {
     match env::args(rt) {
-        Ok(words) => words
-            .collect::<Vec<String>>(rt.alloc())
-            .map_err(|_| Stop::Run(RunFault::Memory)),
+        Ok(words) => Ok(words.collect::<Vec<String>>(rt.alloc())?),
         Err(error) => {
+            if error.kind() == ErrorKind::OutOfMemory {
+                return Err(NoWords::Memory);
+            }
             let odd = odd_word(rt)?;
-            Err(stop_for(error, Stop::NotText(odd)))
+            Err(NoWords::NotText(odd))
         }
     }
 }

@@ -3,7 +3,7 @@
 //! --check` says whether a text is a game, `ps_play --explain CODE` what a fault is.
 #![tactic(auto)]
 
-use ps_command::{Engine, run_command_line};
+use ps_command::{Engine, run_command_line, words_of};
 use ps_devices::FromStd;
 use ps_replay::GameReplayer;
 use ps_run::GamePlayer;
@@ -23,8 +23,9 @@ fn main(rt: HostRuntime) -> ExitCode {
         player: &GamePlayer,
         tracing: &tracing,
         solver: &GameSolver,
+        replayer: &GameReplayer,
         is_watched: rt.stderr().is_terminal(),
     };
-    let status = run_command_line(&rt, &engine, &GameReplayer, &mut keys, &mut screen);
+    let status = run_command_line(&rt, &engine, words_of(&rt), &mut keys, &mut screen);
     ExitCode::from(status)
 }

@@ -1,7 +1,7 @@
 //! The player, stored with a command line that names two games: it writes nothing, and ends with status 2.
 #![tactic(auto)]
 
-use ps_command::{Engine, run_command_line};
+use ps_command::{Engine, run_command_line, words_of};
 use ps_devices::FromStd;
 use ps_replay::GameReplayer;
 use ps_run::GamePlayer;
@@ -21,8 +21,9 @@ fn main(rt: HostRuntime) -> ExitCode {
         player: &GamePlayer,
         tracing: &tracing,
         solver: &GameSolver,
+        replayer: &GameReplayer,
         is_watched: rt.stderr().is_terminal(),
     };
-    let status = run_command_line(&rt, &engine, &GameReplayer, &mut keys, &mut screen);
+    let status = run_command_line(&rt, &engine, words_of(&rt), &mut keys, &mut screen);
     ExitCode::from(status)
 }

@@ -3,7 +3,7 @@
 use crate::games::{PUSHED, PUSHING};
 use crate::machine::{Kept, Machine};
 use crate::watched::Watched;
-use ps_command::{Engine, run_command_line};
+use ps_command::{Engine, run_command_line, words_of};
 use ps_devices::{MemoryReader, MemoryWriter};
 use ps_model::CALL_LIMIT;
 use ps_replay::GameReplayer;
@@ -21,8 +21,6 @@ pub struct Told {
     pub status: u8,
     /// What is written to the screen.
     pub shown: &'static str,
-    /// What standard output gets besides.
-    pub printed: &'static str,
     /// What standard error gets.
     pub complained: &'static str,
 }
@@ -59,7 +57,7 @@ const VIEWED_SMALL: &str =
 /// What is shown of the game where it is checked.
 const CHECKED: &str = "ok: objects 9, layers 4, rules 1, levels 1\n";
 
-/// What is printed for the code RU7.
+/// What is shown for the code RU7.
 const UNBOUND: &str =
     "The right has a property, or a word of several moves, and nothing on the left decides which one it means.\n";
 
@@ -195,7 +193,6 @@ const PLAYS: [(Told, &[Line]); 11] = [
             reads: 1,
             status: 0,
             shown: PUSHED,
-            printed: "",
             complained: "",
         },
         &[
@@ -211,7 +208,6 @@ const PLAYS: [(Told, &[Line]); 11] = [
             reads: 0,
             status: 0,
             shown: QUIT,
-            printed: "",
             complained: "",
         },
         &[
@@ -237,7 +233,6 @@ const PLAYS: [(Told, &[Line]); 11] = [
             reads: 1,
             status: 0,
             shown: VIEWED,
-            printed: "",
             complained: "",
         },
         &[
@@ -267,7 +262,6 @@ const PLAYS: [(Told, &[Line]); 11] = [
             reads: 1,
             status: 0,
             shown: VIEWED_SMALL,
-            printed: "",
             complained: "",
         },
         &[
@@ -295,7 +289,6 @@ const PLAYS: [(Told, &[Line]); 11] = [
             reads: 1,
             status: 0,
             shown: "= T\n# level 2\n.PO\n\n..P\n\n* level 2 done\n* the end\n",
-            printed: "",
             complained: "",
         },
         &[
@@ -310,7 +303,6 @@ const PLAYS: [(Told, &[Line]); 11] = [
             reads: 0,
             status: 1,
             shown: "",
-            printed: "",
             complained: "the game has 2 levels: there is no level 3\n",
         },
         &[
@@ -332,7 +324,6 @@ const PLAYS: [(Told, &[Line]); 11] = [
             reads: 0,
             status: 1,
             shown: "",
-            printed: "",
             complained: "the game has 1 level: there is no level 2\n",
         },
         &[(&["ps_play", "a.game", "--level", "2"], "a.game\n")],
@@ -344,7 +335,6 @@ const PLAYS: [(Told, &[Line]); 11] = [
             reads: 0,
             status: 1,
             shown: "",
-            printed: "",
             complained: CUT,
         },
         &[
@@ -363,7 +353,6 @@ const PLAYS: [(Told, &[Line]); 11] = [
             reads: 0,
             status: 1,
             shown: "",
-            printed: "",
             complained: TOO_LONG,
         },
         &[
@@ -381,7 +370,6 @@ const PLAYS: [(Told, &[Line]); 11] = [
             reads: PUSHING.len() + 2,
             status: 0,
             shown: "= T\n# level 1\n#P*O#\n\n* end of keys\n",
-            printed: "",
             complained: "",
         },
         &[(&["ps_play", "-"], "")],
@@ -393,7 +381,6 @@ const PLAYS: [(Told, &[Line]); 11] = [
             reads: PUSHING.len() + 1,
             status: 0,
             shown: QUIT,
-            printed: "",
             complained: "",
         },
         &[(&["ps_play", "-", "--keys", "a.keys"], "a.keys\n")],
@@ -409,7 +396,6 @@ const CHECKS: [(Told, &[Line]); 17] = [
             reads: 0,
             status: 0,
             shown: CHECKED,
-            printed: "",
             complained: "",
         },
         &[
@@ -429,7 +415,6 @@ const CHECKS: [(Told, &[Line]); 17] = [
             reads: 0,
             status: 1,
             shown: CUT,
-            printed: "",
             complained: "",
         },
         &[(&["ps_play", "cut.game", "--check"], "cut.game\n")],
@@ -441,7 +426,6 @@ const CHECKS: [(Told, &[Line]); 17] = [
             reads: 0,
             status: 1,
             shown: TOO_LONG,
-            printed: "",
             complained: "",
         },
         &[(&["ps_play", "--check", "too-long.game"], "too-long.game\n")],
@@ -454,7 +438,6 @@ const CHECKS: [(Told, &[Line]); 17] = [
             status: 0,
             shown: "a.game: ok: objects 9, layers 4, rules 1, levels 1\n\
             long.game: ok: objects 9, layers 4, rules 1, levels 1\n",
-            printed: "",
             complained: "",
         },
         &[(
@@ -471,7 +454,6 @@ const CHECKS: [(Told, &[Line]); 17] = [
             shown: "a.game: ok: objects 9, layers 4, rules 1, levels 1\n\
             cut.game: line 11: GM2 NoSection\n\
             b.game: ok: objects 9, layers 4, rules 1, levels 1\n",
-            printed: "",
             complained: "",
         },
         &[(
@@ -486,7 +468,6 @@ const CHECKS: [(Told, &[Line]); 17] = [
             reads: 0,
             status: 1,
             shown: "a.game: ok: objects 9, layers 4, rules 1, levels 1\n",
-            printed: "",
             complained: "cannot read lost.game: no such file\n",
         },
         &[(
@@ -501,7 +482,6 @@ const CHECKS: [(Told, &[Line]); 17] = [
             reads: 0,
             status: 1,
             shown: "line 11: GM2 NoSection\n1 fault\n",
-            printed: "",
             complained: "",
         },
         &[(&["ps_play", "--check", "--all", "cut.game"], "cut.game\n")],
@@ -515,7 +495,6 @@ const CHECKS: [(Told, &[Line]); 17] = [
             shown: "a.game: ok: objects 9, layers 4, rules 1, levels 1\n\
             cut.game: line 11: GM2 NoSection\n\
             cut.game: 1 fault\n",
-            printed: "",
             complained: "cannot read lost.game: no such file\n",
         },
         &[(
@@ -542,7 +521,6 @@ const CHECKS: [(Told, &[Line]); 17] = [
             line 2: warning: this line has no effect: did you mean `noundo`?\n\
             line 16: warning: this rule has no effect\n\
             line 22: warning: this level has no Player\n",
-            printed: "",
             complained: "",
         },
         &[(
@@ -562,7 +540,6 @@ const CHECKS: [(Told, &[Line]); 17] = [
             line 17: warning: no level, rule or win condition uses this object\n\
             line 19: warning: no level, rule or win condition uses this object\n\
             line 23: warning: no rule, win condition, layer or other name uses this name\n",
-            printed: "",
             complained: "",
         },
         &[(&["ps_play", "--check", "--warn", "a.game"], "a.game\n")],
@@ -576,7 +553,6 @@ const CHECKS: [(Told, &[Line]); 17] = [
             shown: "warned.game:2:1: warning: this line has no effect: did you mean `noundo`?\n\
             warned.game:16:1: warning: this rule has no effect\n\
             warned.game:22:1: warning: this level has no Player\n",
-            printed: "",
             complained: "",
         },
         &[(
@@ -599,7 +575,6 @@ const CHECKS: [(Told, &[Line]); 17] = [
             reads: 0,
             status: 0,
             shown: "ok: objects 3, layers 3, rules 0, levels 2\n",
-            printed: "",
             complained: "",
         },
         &[(
@@ -614,7 +589,6 @@ const CHECKS: [(Told, &[Line]); 17] = [
             reads: 0,
             status: 1,
             shown: "cut.game:11:1: error: There is no header LEVELS. [GM2]\n",
-            printed: "",
             complained: "",
         },
         &[(
@@ -631,7 +605,6 @@ const CHECKS: [(Told, &[Line]); 17] = [
             reads: 0,
             status: 1,
             shown: OBJECTS,
-            printed: "",
             complained: "cannot read lost.game: no such file\n",
         },
         &[(
@@ -653,7 +626,6 @@ const CHECKS: [(Told, &[Line]); 17] = [
             reads: 0,
             status: 0,
             shown: CHECKED,
-            printed: "",
             complained: "",
         },
         &[(
@@ -668,7 +640,6 @@ const CHECKS: [(Told, &[Line]); 17] = [
             reads: PUSHING.len() + 1,
             status: 0,
             shown: CHECKED,
-            printed: "",
             complained: "",
         },
         &[(&["ps_play", "--check", "-"], "")],
@@ -681,7 +652,6 @@ const CHECKS: [(Told, &[Line]); 17] = [
             status: 0,
             shown: "a.game: ok: objects 9, layers 4, rules 1, levels 1\n\
             -: ok: objects 9, layers 4, rules 1, levels 1\n",
-            printed: "",
             complained: "",
         },
         &[(&["ps_play", "--check", "a.game", "-"], "a.game\n")],
@@ -706,7 +676,6 @@ const FRONT_END: [(Told, &[Line]); 4] = [
             reads: 0,
             status: 0,
             shown: DESCRIBED,
-            printed: "",
             complained: "",
         },
         &[(&["ps_play", "--describe", "a.game"], "a.game\n")],
@@ -718,7 +687,6 @@ const FRONT_END: [(Told, &[Line]); 4] = [
             reads: 0,
             status: 1,
             shown: "line 11: GM2 NoSection\n    11  WINCONDITIONS\nThere is no header LEVELS.\n",
-            printed: "",
             complained: "",
         },
         &[(&["ps_play", "cut.game", "--describe"], "cut.game\n")],
@@ -730,7 +698,6 @@ const FRONT_END: [(Told, &[Line]); 4] = [
             reads: 22,
             status: 0,
             shown: SHOWN,
-            printed: "",
             complained: "",
         },
         &[(
@@ -745,7 +712,6 @@ const FRONT_END: [(Told, &[Line]); 4] = [
             reads: 0,
             status: 1,
             shown: "",
-            printed: "",
             complained: "cannot read output: --show takes a file with the output of a run, or - for standard input\n",
         },
         &[(
@@ -757,14 +723,13 @@ const FRONT_END: [(Told, &[Line]); 4] = [
 
 /// Command lines that ask what a fault is, and what must come of each.
 const EXPLANATIONS: [(Told, &[Line]); 5] = [
-    // The sentence of a fault is printed, by its code alone.
+    // The sentence of a fault is shown, by its code alone.
     (
         Told {
             input: b"d",
             reads: 0,
             status: 0,
-            shown: "",
-            printed: "The text isn't UTF-8.\n",
+            shown: "The text isn't UTF-8.\n",
             complained: "",
         },
         &[(&["ps_play", "--explain", "TX1"], "")],
@@ -775,8 +740,7 @@ const EXPLANATIONS: [(Told, &[Line]); 5] = [
             input: b"d",
             reads: 0,
             status: 0,
-            shown: "",
-            printed: "LEVELS has no level; messages don't count. A level is rows of characters such as `#P.#`, \
+            shown: "LEVELS has no level; messages don't count. A level is rows of characters such as `#P.#`, \
                 each a name of one character.\n",
             complained: "",
         },
@@ -788,8 +752,7 @@ const EXPLANATIONS: [(Told, &[Line]); 5] = [
             input: b"d",
             reads: 0,
             status: 0,
-            shown: "",
-            printed: "Nothing declares `Player`. Name an object so, or write a line such as `Player = Hero` in LEGEND.\n",
+            shown: "Nothing declares `Player`. Name an object so, or write a line such as `Player = Hero` in LEGEND.\n",
             complained: "",
         },
         &[
@@ -803,8 +766,7 @@ const EXPLANATIONS: [(Told, &[Line]); 5] = [
             input: b"d",
             reads: 0,
             status: 0,
-            shown: "",
-            printed: UNBOUND,
+            shown: UNBOUND,
             complained: "",
         },
         &[(&["ps_play", "--explain", "RU7"], "")],
@@ -816,7 +778,6 @@ const EXPLANATIONS: [(Told, &[Line]); 5] = [
             reads: 0,
             status: 2,
             shown: "",
-            printed: "",
             complained: "error: no fault has this code: there are TX1, TX2, GM1 to GM6, NA1 to NA16,\n\
                 RU1 to RU14, LV1 to LV5, WN1 and WN2\n\nFor more information, try '--help'.\n",
         },
@@ -867,9 +828,11 @@ pub fn obey_on(
         player: &GamePlayer,
         tracing: &tracing,
         solver: &GameSolver,
+        replayer: &GameReplayer,
         is_watched: true,
     };
-    let status = run_command_line(&machine, &engine, &GameReplayer, &mut keys, &mut screen);
+    let words = words_of(&machine);
+    let status = run_command_line(&machine, &engine, words, &mut keys, &mut screen);
     Outcome {
         status,
         kept: machine.kept(),
@@ -888,9 +851,6 @@ fn differing(outcome: &Outcome, told: &Told, opened: &str) -> &'static str {
     }
     if outcome.screen.bytes() != told.shown.as_bytes() {
         return "what is shown";
-    }
-    if outcome.kept.printed.as_str() != told.printed {
-        return "what is printed";
     }
     if outcome.kept.complained.as_str() != told.complained {
         return "what is complained of";
@@ -931,9 +891,9 @@ fn explains_what_is_asked_for(rt: HostRuntime) {
     expect_each(&rt, &EXPLANATIONS);
 }
 
-/// Whether no file was opened for a command line, no key asked for, and nothing shown.
+/// Whether no file was opened for a command line, and no key asked for.
 fn is_idle(outcome: &Outcome) -> bool {
-    outcome.kept.opened.is_empty() && outcome.reads == 0 && outcome.screen.bytes().is_empty()
+    outcome.kept.opened.is_empty() && outcome.reads == 0
 }
 
 /// Whether nothing is done for a command line but to tell that it isn't right.
@@ -941,7 +901,7 @@ fn is_refused(outcome: &Outcome) -> bool {
     let complaint = outcome.kept.complained.as_str();
     outcome.status == 2
         && is_idle(outcome)
-        && outcome.kept.printed.is_empty()
+        && outcome.screen.bytes().is_empty()
         && complaint.ends_with("try '--help'.\n")
 }
 
@@ -953,22 +913,22 @@ fn refuses_bad_lines(rt: HostRuntime) {
     }
 }
 
-/// What is printed for a command line for which nothing else is done; nothing, where something else is.
-fn printed(outcome: &Outcome) -> &str {
+/// What is shown for a command line for which nothing else is done; nothing, where something else is.
+fn shown_alone(outcome: &Outcome) -> &str {
     if outcome.status == 0 && is_idle(outcome) && outcome.kept.complained.is_empty() {
-        return outcome.kept.printed.as_str();
+        return std::str::from_utf8(outcome.screen.bytes()).unwrap_or("");
     }
     ""
 }
 
 #[test]
-fn prints_help(rt: HostRuntime) {
-    let outcome = obey(&rt, &["ps_play", "--help"], b"d");
-    assert!(rt; printed(&outcome).contains("Usage: ps_play"));
+fn shows_help(rt: HostRuntime) {
+    let outcome = obey_on(&rt, &["ps_play", "--help"], b"d", 10_000);
+    assert!(rt; shown_alone(&outcome).contains("Usage: ps_play"));
 }
 
 #[test]
-fn prints_the_version(rt: HostRuntime) {
+fn shows_the_version(rt: HostRuntime) {
     let outcome = obey(&rt, &["ps_play", "--version"], b"d");
-    assert!(rt; printed(&outcome).starts_with("ps_play "));
+    assert!(rt; shown_alone(&outcome).starts_with("ps_play "));
 }

@@ -34,7 +34,6 @@ pub struct Machine<'w> {
     alloc: Global,
     words: &'w [&'w str],
     opened: RefCell<String>,
-    printed: RefCell<String>,
     complained: RefCell<String>,
 }
 
@@ -43,8 +42,6 @@ pub struct Machine<'w> {
 pub struct Kept {
     /// The names of the files that were to be opened, each in a line.
     pub opened: String,
-    /// What standard output got.
-    pub printed: String,
     /// What standard error got.
     pub complained: String,
 }
@@ -56,7 +53,6 @@ impl<'w> Machine<'w> {
             alloc,
             words,
             opened: RefCell::new(String::new(alloc)),
-            printed: RefCell::new(String::new(alloc)),
             complained: RefCell::new(String::new(alloc)),
         }
     }
@@ -65,7 +61,6 @@ impl<'w> Machine<'w> {
     pub fn kept(self) -> Kept {
         Kept {
             opened: self.opened.into_inner(),
-            printed: self.printed.into_inner(),
             complained: self.complained.into_inner(),
         }
     }
@@ -105,20 +100,6 @@ impl Alloc for Machine<'_> {
 
     fn alloc(&self) -> Global {
         self.alloc
-    }
-}
-
-impl Print for Machine<'_> {
-    fn print<D: Display + Drop>(&self, value: D) -> io::Result<()> {
-        self.add(&self.printed, value, "")
-    }
-
-    fn println<D: Display + Drop>(&self, value: D) -> io::Result<()> {
-        self.add(&self.printed, value, "\n")
-    }
-
-    fn write_all(&self, _bytes: &[u8]) -> io::Result<()> {
-        unsupported()
     }
 }
 

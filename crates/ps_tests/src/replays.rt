@@ -13,7 +13,6 @@ const REPLAYS: [(Told, &[Line]); 14] = [
             reads: 0,
             status: 0,
             shown: "level 1 won in 1 key\nwon\n",
-            printed: "",
             complained: "",
         },
         &[
@@ -40,7 +39,6 @@ const REPLAYS: [(Told, &[Line]); 14] = [
             reads: 0,
             status: 1,
             shown: "not won: level 1, 0 keys left after q\n",
-            printed: "",
             complained: "",
         },
         &[(
@@ -56,7 +54,6 @@ const REPLAYS: [(Told, &[Line]); 14] = [
             status: 1,
             shown: "right.keys: level 1 won in 1 key\nright.keys: won\n\
             a.keys: not won: level 1, 0 keys left after q\n",
-            printed: "",
             complained: "cannot read lost.keys: no such file\n",
         },
         &[(
@@ -78,7 +75,6 @@ const REPLAYS: [(Told, &[Line]); 14] = [
             reads: 2,
             status: 0,
             shown: "right.keys: level 1 won in 1 key\nright.keys: won\n-: level 1 won in 1 key\n-: won\n",
-            printed: "",
             complained: "",
         },
         &[(
@@ -93,7 +89,6 @@ const REPLAYS: [(Told, &[Line]); 14] = [
             reads: 14,
             status: 0,
             shown: "level 1 won in 2 keys\nlevel 2 won in 3 keys\nwon, 1 key left\n",
-            printed: "",
             complained: "",
         },
         &[(&["ps_play", "--replay", "two.game", "-"], "two.game\n")],
@@ -105,7 +100,6 @@ const REPLAYS: [(Told, &[Line]); 14] = [
             reads: 7,
             status: 1,
             shown: "level 1 won in 1 key\nnot won: level 2, 3 keys left\n",
-            printed: "",
             complained: "",
         },
         &[(&["ps_play", "--replay", "two.game", "-"], "two.game\n")],
@@ -117,7 +111,6 @@ const REPLAYS: [(Told, &[Line]); 14] = [
             reads: 7,
             status: 1,
             shown: "level 1 won in 1 key\nnot won: level 2, 1 key left after q\n",
-            printed: "",
             complained: "",
         },
         &[(&["ps_play", "--replay", "two.game", "-"], "two.game\n")],
@@ -128,7 +121,6 @@ const REPLAYS: [(Told, &[Line]); 14] = [
             reads: 5,
             status: 1,
             shown: "level 1 won in 1 key\nnot won: a message after 1 level, 1 key left after q\n",
-            printed: "",
             complained: "",
         },
         &[(&["ps_play", "--replay", "two.game", "-"], "two.game\n")],
@@ -140,7 +132,6 @@ const REPLAYS: [(Told, &[Line]); 14] = [
             reads: 3,
             status: 1,
             shown: "level 1 won in 1 key\nnot won: a message after 1 level, 0 keys left\n",
-            printed: "",
             complained: "",
         },
         &[(&["ps_play", "--replay", "two.game", "-"], "two.game\n")],
@@ -151,7 +142,6 @@ const REPLAYS: [(Told, &[Line]); 14] = [
             reads: 1,
             status: 1,
             shown: "not won: a message after 0 levels, 0 keys left\n",
-            printed: "",
             complained: "",
         },
         &[(&["ps_play", "--replay", "two.game", "-"], "two.game\n")],
@@ -163,7 +153,6 @@ const REPLAYS: [(Told, &[Line]); 14] = [
             reads: 0,
             status: 1,
             shown: CUT,
-            printed: "",
             complained: "",
         },
         &[(
@@ -177,7 +166,6 @@ const REPLAYS: [(Told, &[Line]); 14] = [
             reads: 0,
             status: 1,
             shown: "cut.game: line 11: GM2 NoSection\n",
-            printed: "",
             complained: "",
         },
         &[(
@@ -192,7 +180,6 @@ const REPLAYS: [(Told, &[Line]); 14] = [
             reads: 0,
             status: 1,
             shown: "",
-            printed: "",
             complained: "cannot read game\n",
         },
         &[(
@@ -207,7 +194,6 @@ const REPLAYS: [(Told, &[Line]); 14] = [
             reads: PUSHING.len() + 1,
             status: 0,
             shown: "level 1 won in 1 key\nwon\n",
-            printed: "",
             complained: "",
         },
         &[(&["ps_play", "--replay", "-", "right.keys"], "right.keys\n")],
@@ -234,7 +220,6 @@ const DATA: [(Told, &[Line]); 3] = [
             reads: 0,
             status: 1,
             shown: OBJECTS,
-            printed: "",
             complained: "cannot read lost.keys: no such file\n",
         },
         &[(
@@ -256,7 +241,6 @@ const DATA: [(Told, &[Line]); 3] = [
             reads: 7,
             status: 1,
             shown: UNWON_OBJECT,
-            printed: "",
             complained: "",
         },
         &[(
@@ -270,7 +254,6 @@ const DATA: [(Told, &[Line]); 3] = [
             reads: 0,
             status: 1,
             shown: CUT_OBJECT,
-            printed: "",
             complained: "",
         },
         &[(

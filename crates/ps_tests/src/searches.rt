@@ -21,7 +21,6 @@ const SEARCHES: [(Told, &[Line]); 18] = [
             reads: 0,
             status: 0,
             shown: "level 1: won in 1 key: d\n",
-            printed: "",
             complained: "",
         },
         &[
@@ -51,7 +50,6 @@ const SEARCHES: [(Told, &[Line]); 18] = [
             reads: 0,
             status: 0,
             shown: "level 1: won in 1 key: d\nlevel 2: won in 1 key: d\n",
-            printed: "",
             complained: "",
         },
         &[(&["ps_play", "--solve", "two.game"], "two.game\n")],
@@ -63,7 +61,6 @@ const SEARCHES: [(Told, &[Line]); 18] = [
             reads: 0,
             status: 1,
             shown: "level 1: won in 1 key: d\nlevel 2: can't be won (2 states)\nlevel 3: won in 3 keys: ddd\n",
-            printed: "",
             complained: "",
         },
         &[(&["ps_play", "--solve", "three.game"], "three.game\n")],
@@ -76,7 +73,6 @@ const SEARCHES: [(Told, &[Line]); 18] = [
             status: 1,
             shown: "level 1: won in 1 key: d\nlevel 2: can't be won (2 states)\n\
             level 3: unknown: not in 1 key (2 states)\n",
-            printed: "",
             complained: "",
         },
         &[(
@@ -91,7 +87,6 @@ const SEARCHES: [(Told, &[Line]); 18] = [
             reads: 0,
             status: 0,
             shown: "level 3: won in 3 keys: ddd\n",
-            printed: "",
             complained: "",
         },
         &[
@@ -110,7 +105,6 @@ const SEARCHES: [(Told, &[Line]); 18] = [
             reads: 0,
             status: 1,
             shown: "level 2: can't be won (2 states)\n",
-            printed: "",
             complained: "",
         },
         &[(&["ps_play", "--solve", "three.game", "2"], "three.game\n")],
@@ -122,7 +116,6 @@ const SEARCHES: [(Told, &[Line]); 18] = [
             reads: 0,
             status: 1,
             shown: "",
-            printed: "",
             complained: "the game has 3 levels: there is no level 4\n",
         },
         &[
@@ -142,7 +135,6 @@ const SEARCHES: [(Told, &[Line]); 18] = [
             shown: "a.game: level 1: won in 1 key: d\n\
             two.game: level 1: won in 1 key: d\n\
             two.game: level 2: won in 1 key: d\n",
-            printed: "",
             complained: "",
         },
         &[(
@@ -157,7 +149,6 @@ const SEARCHES: [(Told, &[Line]); 18] = [
             reads: 0,
             status: 1,
             shown: "cut.game: line 11: GM2 NoSection\ntwo.game: level 2: won in 1 key: d\n",
-            printed: "",
             complained: "a.game: the game has 1 level: there is no level 2\ncannot read lost.game: no such file\n",
         },
         &[(
@@ -181,7 +172,6 @@ const SEARCHES: [(Told, &[Line]); 18] = [
             reads: 0,
             status: 1,
             shown: "two.game: level 2: won in 1 key: d\n",
-            printed: "",
             complained: "7: the game has 1 level: there is no level 2\n",
         },
         &[(
@@ -198,7 +188,6 @@ const SEARCHES: [(Told, &[Line]); 18] = [
             shown: "a.game: level 1: won in 1 key: d\n\
             2: level 1: won in 1 key: d\n\
             3: level 1: won in 1 key: d\n",
-            printed: "",
             complained: "",
         },
         &[(
@@ -213,7 +202,6 @@ const SEARCHES: [(Told, &[Line]); 18] = [
             reads: 0,
             status: 1,
             shown: CUT,
-            printed: "",
             complained: "",
         },
         &[
@@ -228,7 +216,6 @@ const SEARCHES: [(Told, &[Line]); 18] = [
             reads: 0,
             status: 1,
             shown: TOO_LONG,
-            printed: "",
             complained: "",
         },
         &[(&["ps_play", "--solve", "too-long.game"], "too-long.game\n")],
@@ -240,7 +227,6 @@ const SEARCHES: [(Told, &[Line]); 18] = [
             reads: 0,
             status: 1,
             shown: "",
-            printed: "",
             complained: "cannot read lost.game: no such file\n",
         },
         &[(&["ps_play", "--solve", "lost.game"], "lost.game\n")],
@@ -252,7 +238,6 @@ const SEARCHES: [(Told, &[Line]); 18] = [
             reads: PUSHING.len() + 1,
             status: 0,
             shown: "level 1: won in 1 key: d\n",
-            printed: "",
             complained: "",
         },
         &[(&["ps_play", "--solve", "-"], "")],
@@ -264,7 +249,6 @@ const SEARCHES: [(Told, &[Line]); 18] = [
             reads: PUSHING.len() + 1,
             status: 0,
             shown: "a.game: level 1: won in 1 key: d\n-: level 1: won in 1 key: d\n",
-            printed: "",
             complained: "",
         },
         &[(&["ps_play", "--solve", "a.game", "-"], "a.game\n")],
@@ -276,7 +260,6 @@ const SEARCHES: [(Told, &[Line]); 18] = [
             reads: 0,
             status: 1,
             shown: ANSWERS,
-            printed: "",
             complained: "",
         },
         &[(
@@ -299,7 +282,6 @@ const SEARCHES: [(Told, &[Line]); 18] = [
             reads: 0,
             status: 1,
             shown: CUT_OBJECT,
-            printed: "",
             complained: "two.game: the game has 2 levels: there is no level 3\ncannot read lost.game: no such file\n",
         },
         &[(

@@ -21,7 +21,6 @@ const SEARCHES: [(Told, &[Line]); 12] = [
             reads: 0,
             status: 0,
             shown: "level 3: won in 2 keys: dd\n",
-            printed: "",
             complained: "",
         },
         &[
@@ -55,7 +54,6 @@ const SEARCHES: [(Told, &[Line]); 12] = [
             reads: 0,
             status: 1,
             shown: "level 2: can't be won (2 states)\n",
-            printed: "",
             complained: "",
         },
         &[(
@@ -70,7 +68,6 @@ const SEARCHES: [(Told, &[Line]); 12] = [
             reads: 11,
             status: 0,
             shown: "level 3: won in 1 key: d\n",
-            printed: "",
             complained: "",
         },
         &[(
@@ -85,7 +82,6 @@ const SEARCHES: [(Told, &[Line]); 12] = [
             reads: 1,
             status: 0,
             shown: "level 1: won in 1 key: d\n",
-            printed: "",
             complained: "",
         },
         &[(
@@ -100,7 +96,6 @@ const SEARCHES: [(Told, &[Line]); 12] = [
             reads: 1,
             status: 1,
             shown: "",
-            printed: "",
             complained: NOWHERE,
         },
         &[(
@@ -114,7 +109,6 @@ const SEARCHES: [(Told, &[Line]); 12] = [
             reads: 2,
             status: 0,
             shown: "level 1: won in 1 key: d\n",
-            printed: "",
             complained: "",
         },
         &[(
@@ -129,7 +123,6 @@ const SEARCHES: [(Told, &[Line]); 12] = [
             reads: 0,
             status: 1,
             shown: "",
-            printed: "",
             complained: NOWHERE,
         },
         &[
@@ -156,7 +149,6 @@ const SEARCHES: [(Told, &[Line]); 12] = [
             reads: 0,
             status: 1,
             shown: "",
-            printed: "",
             complained: "the game has 3 levels: there is no level 4\n",
         },
         &[(
@@ -178,7 +170,6 @@ const SEARCHES: [(Told, &[Line]); 12] = [
             reads: 0,
             status: 1,
             shown: "",
-            printed: "",
             complained: "cannot read keys\n",
         },
         &[(
@@ -192,7 +183,6 @@ const SEARCHES: [(Told, &[Line]); 12] = [
             reads: 0,
             status: 1,
             shown: "",
-            printed: "",
             complained: "cannot read game\n",
         },
         &[(
@@ -207,7 +197,6 @@ const SEARCHES: [(Told, &[Line]); 12] = [
             reads: 0,
             status: 1,
             shown: CUT,
-            printed: "",
             complained: "",
         },
         &[(
@@ -222,7 +211,6 @@ const SEARCHES: [(Told, &[Line]); 12] = [
             reads: PUSHING.len() + 1,
             status: 1,
             shown: "",
-            printed: "",
             complained: NOWHERE,
         },
         &[(
@@ -240,7 +228,6 @@ const DATA: [(Told, &[Line]); 2] = [
             reads: 2,
             status: 0,
             shown: ANSWER,
-            printed: "",
             complained: "",
         },
         &[(
@@ -263,7 +250,6 @@ const DATA: [(Told, &[Line]); 2] = [
             reads: 0,
             status: 1,
             shown: CUT_OBJECT,
-            printed: "",
             complained: "",
         },
         &[(

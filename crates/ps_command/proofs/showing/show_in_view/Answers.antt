@@ -1,10 +1,11 @@
 -- The view began with the text's game, the size and the screen, and the screen that comes back is what it wrote to.
-use Rattle.std.proofs.Common.{◌≡◌, ◌∙◌, sym, ap, subst}
+use Rattle.std.proofs.Common.{◌≡◌, ◌∙◌, sym, ap, subst, refl, inl, inr}
 use Rattle.std.specs.Prelude.{is_none}
 use Rattle.ps_view.specs.Games.{KnownGame}
 use Rattle.ps_command.specs.Viewings.{ShowsInView}
 use Rattle.ps_command.specs.ViewedGames.{IsToldOf}
-use Rattle.ps_command.proofs.PlayedInView.{drawn_ok}
+use Rattle.ps_command.proofs.PlayedInView.{drawn_ok, drawn_stopped}
+use Rattle.ps_command.specs.Stops.{StopsShow}
 use Rattle.ps_command.proofs.ShownInView.{shown_in_view}
 use Rattle.ps_command.proofs.showing.show_in_view.Goals as goal
 
@@ -30,4 +31,6 @@ returns g c =
             keeps = began.keeps_size ∙ ap is_none c.new-sizes.ensures;
             had = began.before;
           }) c.show_from-shown.ensures.shown));
+      stopped = drawn_stopped StopsShow _ c.show_from-shown.result c.drawn.result _ c.drawn.ensures.short
+          c.drawn.ensures.same (inl (inr refl)) c.show_from-shown.ensures.stopped;
     }
