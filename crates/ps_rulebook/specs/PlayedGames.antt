@@ -16,9 +16,9 @@ use Rattle.ps_program.specs.ProgramShown.{sections_shown}
 use Rattle.ps_compile.specs.AlikeRuns.{RunsAlike}
 use Rattle.ps_compile.specs.RunnablePrograms.{RunsOnBoards}
 use Rattle.ps_engine.specs.RulesInRoom.{sections_meaning}
-use Rattle.ps_stage.specs.Standings.{SessionParts, script_for}
+use Rattle.ps_stage.specs.Standings.{SessionParts, all_sides, script_for}
 
--- a game without its rules, begun at an entry
+-- a game without its rules, begun at an entry, on boards for all levels
 abbrev pub parts_at : Game → ℕ → SessionParts
 parts_at read entry = record {
   title = read.title;
@@ -27,6 +27,7 @@ parts_at read entry = record {
   entries = read.entries;
   first_entry = entry;
   wins = read.wins;
+  sides = all_sides;
 }
 
 -- a kind of board gives every object room on its own layer, by the table that its boards have for layers

@@ -5,7 +5,8 @@ use Rattle.ps_model.specs.meaning.Compiled as model
 use Rattle.ps_model.specs.names.Names.{Names}
 use Rattle.ps_model.specs.rules.SourceRules.{RuleLine}
 use Rattle.ps_program.specs.declared.program.CompiledSection.{CompiledSection}
-use Rattle.ps_stage.specs.Standings.{SessionParts, script_for}
+use Rattle.ps_stage.specs.Standings.{SessionParts, on_boards, script_for}
+use Rattle.ps_stage.specs.declared.sides.BoardSides.{BoardSides}
 use Rattle.ps_stage.proofs.Scripts.{same_script}
 use Rattle.ps_rulebook.specs.PlayedGames.{AreCompiled, meant_of}
 use Rattle.ps_run.specs.GamesInPlay.{GameInPlay, script_in, script_on}
@@ -27,6 +28,19 @@ script_same game game' plain late plain' late' g p l =
     script_is game' plain' late'
     ∙ same_script own_table game game' (meant_of plain) (meant_of late) (meant_of plain') (meant_of late') g p l
     ∙ sym (script_is game plain late)
+
+-- and the same on whatever boards
+on_any_boards : (game : SessionParts) (sides : BoardSides) (plain late : List CompiledSection) →
+    script_on (on_boards game sides) plain late ≡ script_on game plain late
+unfolding script_on
+on_any_boards game sides plain late = refl
+
+pub script_on_boards : (game boarded game' : SessionParts) (sides : BoardSides)
+    (plain late plain' late' : List CompiledSection) → boarded ≡ on_boards game sides → game' ≡ boarded →
+    meant_of plain' ≡ meant_of plain → meant_of late' ≡ meant_of late →
+    script_on game' plain' late' ≡ script_on game plain late
+script_on_boards game boarded game' sides plain late plain' late' b g p l =
+    script_same (on_boards game sides) game' plain late plain' late' (g ∙ b) p l ∙ on_any_boards game sides plain late
 
 -- the names of a game in play are those of its script
 pub names_in : (play : GameInPlay) (game : SessionParts) (plain late : List CompiledSection) →

@@ -45,7 +45,7 @@ pub fn copied_rows<V: ColumnWords>(
     ensures names { IfOk result (λ copy. copy.names ≡ rested.old.names) }
     ensures session { IfOk result (λ copy. copy.session ≡ without_history rested.old.session) }
 {
-    let mut stage = Stage::new(alloc, game, sides)?;
+    let mut stage = Stage::new(alloc, game.on_boards(sides))?;
     let copy = rested.copied(alloc, &mut stage)?;
     Ok(copy)
 }
@@ -93,7 +93,8 @@ impl<'g, V: ColumnWords> RowPlay<'g, V> {
             HasBegun (script_shown script.entry) entry play output.old output.new) }
     {
         let mut rules = rules_of_sections(alloc, script.plain, script.late)?;
-        let session = Session::start_at(alloc, script.game, sides, &mut rules, entry, output)?;
+        let game = script.game.on_boards(sides);
+        let session = Session::start_at(alloc, game, &mut rules, entry, output)?;
         Ok(RowPlay { session, rules })
     }
 
@@ -114,7 +115,7 @@ impl<'g, V: ColumnWords> RowPlay<'g, V> {
         ensures session { IfOk result (λ play. play.session ≡ rested.session) }
     {
         let rules = rules_of_sections(alloc, script.plain, script.late)?;
-        let stage = Stage::new(alloc, script.game, sides)?;
+        let stage = Stage::new(alloc, script.game.on_boards(sides))?;
         let session = Session::resume(alloc, stage, rested)?;
         Ok(RowPlay { session, rules })
     }

@@ -4,6 +4,7 @@ mod Heeded
 mod HistoryBoards
 mod IgnoredSteps
 mod KeyEnds
+mod OwnBoards
 mod Rests
 mod Starts
 mod UndoneSteps

@@ -4,5 +4,6 @@ pub mod Histories
 pub mod IgnoredKeys
 pub mod Left
 pub mod Nexts
+pub mod OwnBoards
 pub mod Phases
 pub mod RestedSessions

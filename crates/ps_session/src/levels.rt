@@ -7,7 +7,8 @@ ghost use Rattle.ps_model.specs.session.KeySteps.{input_taken, key_in_level, qui
 ghost use Rattle.ps_model.specs.session.Sessions.{with_board_in_history};
 ghost use Rattle.ps_model.specs.session.StartSteps.{restarted};
 ghost use Rattle.ps_stage.specs.Meanings.{meaning_of, script_by};
-ghost use Rattle.ps_stage.specs.Standings.{Basis, Standing, basis_of, play_of, script_of};
+ghost use Rattle.ps_stage.specs.OwnBoards.{IsForOthers};
+ghost use Rattle.ps_stage.specs.Standings.{Basis, SessionParts, Standing, basis_of, play_of, script_of};
 ghost use Rattle.ps_stage.specs.StepsShown.{IsStopped};
 ghost use Rattle.ps_stage.specs.declared.locations.Location.{Location as MeantLocation};
 ghost use Rattle.ps_stage.specs.declared.locations.Location.TheVariants.{Playing};
@@ -16,6 +17,7 @@ ghost use Rattle.ps_model.specs.session.IgnoredKeys.{is_ignored_in_level};
 ghost use Rattle.ps_session.specs.Nexts.{next_step};
 ghost use Rattle.ps_session.specs.Behind.{AnswersFrom, ComesAnew, ComesFrom};
 ghost use Rattle.ps_session.specs.Bases.{AnswersOnBasis, ComesOnBasis};
+ghost use Rattle.ps_session.specs.OwnBoards.{AnswerFits, NextFits};
 
 use crate::ignored::is_ignored_in_level;
 use crate::nexts::{Next, NextLevel, next_of};
@@ -35,6 +37,7 @@ pub fn quits<B: Board>(stage: &mut Stage<'_, B>) -> Result<NextLevel<B>, Memory>
     ensures came { IfOk result (λ next. (history : List Grid) (location : MeantLocation Standing)
         → quit ≡ next_step history location (Some next) stage.new.text) }
     ensures basis { IfOk result (λ next. (basis : Basis) → ComesOnBasis basis next) }
+    ensures boards { IfOk result (λ next. (parts : SessionParts) (before : ℕ) → NextFits parts before next) }
     ensures touched { IfOk result (λ next. (before : Grid) → ComesFrom before next) }
     ensures anew { IfOk result ComesAnew }
 {
@@ -67,6 +70,8 @@ fn moves<B: Board, R: Rules<B>>(
         (input_taken (script_by B.Board R.Rules stage.old.game rules.old)
         (play_of history level.old) input) stage.new.text) }
     ensures basis { IfOk result (λ next. AnswersOnBasis (basis_of B.table_for stage.old.game.names) next) }
+    ensures boards { IfOk result (AnswerFits stage.old.game level.old.entry) }
+    ensures elsewhere { IfErr result (IsForOthers stage.old.game) }
     ensures touched { IfOk result (λ next. AnswersFrom (Playing level.old) next) }
 {
     let change = stage.take_input(rules, level, input)?;
@@ -92,6 +97,7 @@ fn undoes<B: Board, H: History<B>>(
         → undone (script_of stage.old.game plain late) (play_of (grids_of (H.boards history.now)) level.old)
         ≡ next_step (grids_of (H.boards history.now)) (Playing level.old) (Some next) stage.new.text) }
     ensures basis { IfOk result (λ next. ComesOnBasis (basis_of B.table_for stage.old.game.names) next) }
+    ensures boards { IfOk result (NextFits stage.old.game level.old.entry) }
     ensures touched { IfOk result (λ next. ComesFrom level.old.board next) }
 {
     let Some(latest) = history.latest() else {
@@ -129,6 +135,7 @@ fn restarts<B: Board, R: Rules<B>>(
         (with_board_in_history (play_of history level.old)) None
         ≡ next_step history (Playing level.old) (Some next) stage.new.text) }
     ensures basis { IfOk result (λ next. ComesOnBasis (basis_of B.table_for stage.old.game.names) next) }
+    ensures boards { IfOk result (NextFits stage.old.game level.old.entry) }
     ensures touched { IfOk result (λ next. ComesFrom level.old.board next) }
 {
     let location = stage.restart(rules, level, None)?;
@@ -163,6 +170,8 @@ pub fn key_in_level<B: Board, H: History<B>, R: Rules<B>>(
         (key_in_level (script_by B.Board R.Rules stage.old.game rules.old)
         (play_of (grids_of (H.boards history.now)) level.old) key) stage.new.text) }
     ensures basis { IfOk result (λ next. AnswersOnBasis (basis_of B.table_for stage.old.game.names) next) }
+    ensures boards { IfOk result (AnswerFits stage.old.game level.old.entry) }
+    ensures elsewhere { IfErr result (IsForOthers stage.old.game) }
     ensures touched { IfOk result (λ next. AnswersFrom (Playing level.old) next) }
     ensures ignored { is_ignored_in_level stage.old.game.options key ≡ true → result ≡ Ok None }
 {

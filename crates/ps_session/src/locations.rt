@@ -4,6 +4,7 @@ ghost use Rattle.std.specs.Prelude.{◌≡◌, [], true, IfErr, IfOk, None, Ok};
 ghost use Rattle.ps_model.specs.session.KeySteps.{key_step};
 ghost use Rattle.ps_stage.specs.Meanings.{meaning_of, script_by};
 ghost use Rattle.ps_stage.specs.Locations.{location_shown, IsOnBasis};
+ghost use Rattle.ps_stage.specs.OwnBoards.{IsForOthers};
 ghost use Rattle.ps_stage.specs.Standings.{basis_of};
 ghost use Rattle.ps_stage.specs.StepsShown.{IsStopped};
 ghost use Rattle.ps_session.specs.Histories.{AreOnTable, grids_of};
@@ -11,6 +12,7 @@ ghost use Rattle.ps_model.specs.session.IgnoredKeys.{is_ignored};
 ghost use Rattle.ps_session.specs.Nexts.{next_step};
 ghost use Rattle.ps_session.specs.Behind.{AnswersFrom};
 ghost use Rattle.ps_session.specs.Bases.{AnswersOnBasis};
+ghost use Rattle.ps_session.specs.OwnBoards.{AnswerFitsFrom};
 
 use crate::levels::key_in_level;
 use crate::messages::{key_at_entry, key_at_level_message};
@@ -47,6 +49,8 @@ pub fn next_at<B: Board, H: History<B>, R: Rules<B>>(
         (key_step (script_by B.Board R.Rules stage.old.game rules.old)
         (location_shown (grids_of (H.boards history.now)) location.old) key) stage.new.text) }
     ensures basis { IfOk result (λ next. AnswersOnBasis (basis_of B.table_for stage.old.game.names) next) }
+    ensures boards { IfOk result (AnswerFitsFrom stage.old.game location.old) }
+    ensures elsewhere { IfErr result (IsForOthers stage.old.game) }
     ensures touched { IfOk result (λ next. AnswersFrom location.old next) }
     ensures ignored { let here = location_shown (grids_of (H.boards history.now)) location.old in
         is_ignored stage.old.game.options here key ≡ true → result ≡ Ok None }

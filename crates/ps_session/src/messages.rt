@@ -1,9 +1,10 @@
 //! Keys at a message.
 
-ghost use Rattle.std.specs.Prelude.{◌≡◌, [], true, IfErr, IfOk, List, None, Ok};
+ghost use Rattle.std.specs.Prelude.{◌≡◌, [], ℕ, true, IfErr, IfOk, List, None, Ok};
 ghost use Rattle.ps_model.specs.board.Grid.{Grid};
 ghost use Rattle.ps_model.specs.session.KeySteps.{key_at_entry, key_at_level_message};
 ghost use Rattle.ps_stage.specs.Meanings.{meaning_of, script_by};
+ghost use Rattle.ps_stage.specs.OwnBoards.{IsForOthers};
 ghost use Rattle.ps_stage.specs.Standings.{basis_of, play_of};
 ghost use Rattle.ps_stage.specs.StepsShown.{IsStopped, pending_shown};
 ghost use Rattle.ps_stage.specs.declared.locations.Location.TheVariants.{AtMessage, Waiting};
@@ -11,6 +12,7 @@ ghost use Rattle.ps_model.specs.session.IgnoredKeys.{is_ignored_at_message};
 ghost use Rattle.ps_session.specs.Nexts.{next_step};
 ghost use Rattle.ps_session.specs.Behind.{AnswersFrom};
 ghost use Rattle.ps_session.specs.Bases.{AnswersOnBasis};
+ghost use Rattle.ps_session.specs.OwnBoards.{AnswerFits};
 
 use crate::ignored::is_ignored_at_message;
 use crate::levels::quits;
@@ -47,6 +49,8 @@ pub fn key_at_level_message<B: Board, R: Rules<B>>(
         (key_at_level_message (script_by B.Board R.Rules stage.old.game rules.old)
         (play_of history level.old) (pending_shown pending) key) stage.new.text) }
     ensures basis { IfOk result (λ next. AnswersOnBasis (basis_of B.table_for stage.old.game.names) next) }
+    ensures boards { IfOk result (AnswerFits stage.old.game level.old.entry) }
+    ensures elsewhere { IfErr result (IsForOthers stage.old.game) }
     ensures touched { IfOk result (λ next. AnswersFrom (Waiting level.old pending) next) }
     ensures ignored { is_ignored_at_message key ≡ true → result ≡ Ok None }
 {
@@ -84,6 +88,8 @@ pub fn key_at_entry<B: Board, R: Rules<B>>(
         (key_at_entry (script_by B.Board R.Rules stage.old.game rules.old)
         entry.now key) stage.new.text) }
     ensures basis { IfOk result (λ next. AnswersOnBasis (basis_of B.table_for stage.old.game.names) next) }
+    ensures boards { IfOk result (λ next. (before : ℕ) → AnswerFits stage.old.game before next) }
+    ensures elsewhere { IfErr result (IsForOthers stage.old.game) }
     ensures touched { IfOk result (λ next. AnswersFrom (AtMessage entry.now) next) }
     ensures ignored { is_ignored_at_message key ≡ true → result ≡ Ok None }
 {

@@ -3,13 +3,15 @@
 ghost use Rattle.std.specs.Prelude.{◌≡◌, ℕ, List, Option};
 ghost use Rattle.ps_model.specs.board.Grid.{Grid};
 ghost use Rattle.ps_stage.specs.Locations.{change_shown, GoesOnBasis};
-ghost use Rattle.ps_stage.specs.Standings.{Basis, Standing};
+ghost use Rattle.ps_stage.specs.OwnBoards.{ChangeFits};
+ghost use Rattle.ps_stage.specs.Standings.{Basis, SessionParts, Standing};
 ghost use Rattle.ps_stage.specs.declared.locations.Pending.{Pending as MeantPending};
 ghost use Rattle.ps_stage.specs.declared.locations.Location.TheVariants.{Playing, Waiting};
 ghost use Rattle.ps_session.specs.Nexts.{next_shown};
 ghost use Rattle.ps_stage.specs.Touched.{GoesFrom};
 ghost use Rattle.ps_session.specs.Bases.{ComesOnBasis};
 ghost use Rattle.ps_session.specs.Behind.{ComesFrom};
+ghost use Rattle.ps_session.specs.OwnBoards.{NextFits};
 
 use ps_board::{Board, Columns};
 use ps_stage::{Change, HistoryChange, LevelChange, Location, Pending, PlayedLevel};
@@ -37,6 +39,8 @@ pub fn next_of<B: Board>(change: LevelChange<B>) -> NextLevel<B>
         → next_shown history (Waiting level pending) result ≡ change_shown history level change }
     ensures basis { (basis : Basis) → GoesOnBasis basis change → ComesOnBasis basis result }
     ensures touched { (before : Grid) → GoesFrom before change → ComesFrom before result }
+    ensures boards { (parts : SessionParts) (before : ℕ) → ChangeFits parts before change
+        → NextFits parts before result }
 {
     match change {
         Change::Stays(pending) => Next::Stands(pending),

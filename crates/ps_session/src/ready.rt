@@ -7,7 +7,8 @@ ghost use Rattle.ps_model.specs.session.StartSteps.{enter};
 ghost use Rattle.ps_stage.specs.Meanings.{meaning_of, script_by};
 ghost use Rattle.ps_stage.specs.Locations.{location_shown, IsOnBasis};
 ghost use Rattle.ps_stage.specs.Sides.{side_at};
-ghost use Rattle.ps_stage.specs.Standings.{basis_of};
+ghost use Rattle.ps_stage.specs.OwnBoards.{IsForOthers};
+ghost use Rattle.ps_stage.specs.Standings.{SessionParts, basis_of};
 ghost use Rattle.ps_stage.specs.StepsShown.{IsStopped};
 ghost use Rattle.ps_session.specs.Behind.{IsBehind};
 ghost use Rattle.ps_session.specs.Histories.{grids_of};
@@ -80,6 +81,7 @@ pub fn tell_stop<B: Board>(stage: &mut Stage<'_, B>, stop: Stop, output: &mut Ou
     ensures game { stage.new.game ≡ stage.old.game }
     ensures left { (script : Script) (step : Step) → IsStopped script stop step stage.old.text
         → IsLeft script result step output.old output.new }
+    ensures elsewhere { (parts : SessionParts) → IsForOthers parts stop → IsForOthers parts result }
 {
     match stop {
         Stop::Memory => Stop::Memory,

@@ -6,11 +6,13 @@ ghost use Rattle.ps_model.specs.session.KeySteps.{key_step};
 ghost use Rattle.ps_model.specs.session.Solving.{spot};
 ghost use Rattle.ps_model.specs.session.StartSteps.{enter};
 ghost use Rattle.ps_model.specs.board.Grid.{Grid};
+ghost use Rattle.ps_stage.specs.OwnBoards.{IsForOthers};
 ghost use Rattle.ps_stage.specs.Sides.{side_at};
 ghost use Rattle.ps_stage.specs.Standings.{basis_of, play_of, script_for};
 ghost use Rattle.ps_stage.specs.StepsShown.{stands};
 ghost use Rattle.ps_model.specs.session.IgnoredKeys.{is_ignored};
 ghost use Rattle.ps_session.specs.Left.{IsLeft};
+ghost use Rattle.ps_session.specs.OwnBoards.{SessionFits};
 ghost use Rattle.ps_session.specs.Phases.{phase_of};
 
 use crate::commit::{commit, give_up};
@@ -21,7 +23,7 @@ use crate::rested::{Rested, history_or_new};
 use ps_board::{Board, Columns, History};
 use ps_model::{Ending, Key, Memory};
 use ps_screen::OutputText;
-use ps_stage::{BoardSides, Location, Pending, PlayedLevel, SessionGame, Stage, Stop};
+use ps_stage::{Location, Pending, PlayedLevel, SessionGame, Stage, Stop};
 use ps_turn::{Rules, TurnRules};
 use std::alloc::Global;
 use std::marker::Model;
@@ -69,8 +71,7 @@ impl<'g, B: Board, H: History<B>> Model for Session<'g, B, H> {
 }
 
 impl<'g, B: Board, H: History<B>> Session<'g, B, H> {
-    /// Starts a game at an entry, on boards for levels with such sides, which have room for that entry: adds to the
-    /// output what the entry writes.
+    /// Starts a game at an entry, for which its boards have room: adds to the output what the entry writes.
     ///
     /// # Errors
     ///
@@ -78,12 +79,11 @@ impl<'g, B: Board, H: History<B>> Session<'g, B, H> {
     pub fn start_at<R: Rules<B>>(
         alloc: Global,
         game: SessionGame<'g>,
-        sides: BoardSides,
         rules: &mut TurnRules<R>,
         entry: usize,
         output: &mut OutputText,
     ) -> Result<Session<'g, B, H>, Memory>
-        requires sides { sides.most ≤ B.Words.limit }
+        requires sides { game.sides.most ≤ B.Words.limit }
         requires room { side_at game.entries entry ≤ B.Words.limit }
         ensures game { IfOk result (λ session. session.game ≡ game.entry) }
         ensures session { IfOk result (λ session. session.session
@@ -97,7 +97,7 @@ impl<'g, B: Board, H: History<B>> Session<'g, B, H> {
         ensures late { R.meant rules.new.late ≡ R.meant rules.old.late }
     {
         let history = H::try_new(alloc)?;
-        let mut stage = Stage::new(alloc, game, sides)?;
+        let mut stage = Stage::new(alloc, game)?;
         let location = begin(&mut stage, rules, entry, output)?;
         Ok(Session {
             stage,
@@ -113,8 +113,8 @@ impl<'g, B: Board, H: History<B>> Session<'g, B, H> {
     /// # Errors
     ///
     /// `Memory`: the session and the output are as before, and the same key may be tried again. `Elsewhere`: the key
-    /// leads to an entry that is a level for other boards. The session is as before, and the output has what the key
-    /// writes before that entry begins.
+    /// leads to an entry that is a level for other boards, where it never succeeds. The session is as before, and the
+    /// output has what the key writes before that entry begins.
     pub fn key<R: Rules<B>>(
         &mut self,
         rules: &mut TurnRules<R>,
@@ -134,6 +134,8 @@ impl<'g, B: Board, H: History<B>> Session<'g, B, H> {
             (script_for B.table_for self.old.game (R.meant rules.old.plain) (R.meant rules.old.late)) stop
             (key_step (script_for B.table_for self.old.game (R.meant rules.old.plain) (R.meant rules.old.late))
             self.old.session key) output.old output.new) }
+        ensures elsewhere { IfErr result (IsForOthers self.old.game) }
+        ensures boards { OnOk result (SessionFits self.old.game self.old.session self.new.session) }
         ensures ignored { is_ignored self.old.game.options self.old.session key ≡ true → IsOk result }
         ensures plain { R.meant rules.new.plain ≡ R.meant rules.old.plain }
         ensures late { R.meant rules.new.late ≡ R.meant rules.old.late }

@@ -4,6 +4,7 @@ pub mod EntriesFound
 mod KeyChanges
 mod KeyTurns
 mod LevelPlaces
+pub mod OwnBoards
 mod OwnRooms
 mod PartLoaded
 mod Results

@@ -7,3 +7,4 @@ pub mod Standings
 pub mod StepsShown
 pub mod Touched
 pub mod Meanings
+pub mod OwnBoards

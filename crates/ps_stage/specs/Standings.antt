@@ -1,5 +1,6 @@
 -- A level that is played and a game that is played, as contracts see them.
 use Rattle.std.specs.Prelude.{ℕ, if◌then◌else◌, List, Option}
+use Rattle.ps_model.specs.declared.limits.TheConstants.{SIDE_LIMIT}
 use Rattle.ps_model.specs.declared.options.Options.{Options}
 use Rattle.ps_model.specs.declared.rooms.Room.{Room}
 use Rattle.ps_model.specs.names.Names.{Names}
@@ -12,8 +13,9 @@ use Rattle.ps_model.specs.session.Rooms.{room_after}
 use Rattle.ps_model.specs.session.Sessions.{Play, Session}
 use Rattle.ps_turn.specs.States.{TurnParts}
 use Rattle.ps_turn.specs.declared.outcomes.DoneTurn.{DoneTurn}
+use Rattle.ps_stage.specs.declared.sides.BoardSides.{BoardSides}
 
--- a game without its rules, which begins at one of its entries
+-- a game without its rules, which begins at one of its entries, and the levels that its boards are for
 pub record SessionParts : Type 0 where
   pub title : List ℕ
   pub options : Options
@@ -21,6 +23,7 @@ pub record SessionParts : Type 0 where
   pub entries : List Entry
   pub first_entry : ℕ
   pub wins : List Win
+  pub sides : BoardSides
 
 -- that game, begun at an entry
 abbrev pub begun_at : SessionParts → ℕ → SessionParts
@@ -31,7 +34,24 @@ begun_at parts entry = record {
   entries = parts.entries;
   first_entry = entry;
   wins = parts.wins;
+  sides = parts.sides;
 }
+
+-- that game, on boards for levels with such sides
+abbrev pub on_boards : SessionParts → BoardSides → SessionParts
+on_boards parts sides = record {
+  title = parts.title;
+  options = parts.options;
+  names = parts.names;
+  entries = parts.entries;
+  first_entry = parts.first_entry;
+  wins = parts.wins;
+  sides = sides;
+}
+
+-- the sides of all levels
+abbrev pub all_sides : BoardSides
+all_sides = record { above = 0; most = SIDE_LIMIT }
 
 -- that game with these programs
 abbrev pub script_of : SessionParts → List Section → List Section → Script

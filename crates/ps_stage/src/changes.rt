@@ -1,6 +1,6 @@
 //! What comes of a key in a level: a turn with an input, and going on after a message.
 
-ghost use Rattle.std.specs.Prelude.{◌≡◌, IfErr, IfOk, IfSome, OnOk, List, Some, false};
+ghost use Rattle.std.specs.Prelude.{◌≡◌, ℕ, IfErr, IfOk, IfSome, OnOk, List, Some, false};
 ghost use Rattle.ps_model.specs.board.Grid.{Grid};
 ghost use Rattle.ps_model.specs.declared.limits.TheConstants.{AGAIN_LIMIT};
 ghost use Rattle.ps_model.specs.session.Rooms.{frame_in};
@@ -12,6 +12,7 @@ ghost use Rattle.ps_turn.specs.States.{done_shown};
 ghost use Rattle.ps_stage.specs.Meanings.{meaning_of, script_by};
 ghost use Rattle.ps_stage.specs.KeysShown.{IsNext, key_end_step, key_shown, tried_outcome};
 ghost use Rattle.ps_stage.specs.Locations.{change_shown, history_behind, history_change_if, GoesOnBasis};
+ghost use Rattle.ps_stage.specs.OwnBoards.{ChangeFits, IsForOthers};
 ghost use Rattle.ps_stage.specs.Standings.{Standing, basis_of, play_of};
 ghost use Rattle.ps_stage.specs.StepsShown.{IsStopped, came, stands, pending_shown};
 ghost use Rattle.ps_stage.specs.Touched.{AreTouched, GoesFrom, IsTouchedBy};
@@ -71,6 +72,8 @@ impl<'g, B: Board> Stage<'g, B> {
         ensures game { self.new.game ≡ self.old.game }
         ensures meaning { meaning_of R.Rules rules.new ≡ meaning_of R.Rules rules.old }
         ensures basis { IfOk result (λ change. GoesOnBasis (basis_of B.table_for self.old.game.names) change) }
+        ensures boards { IfOk result (λ change. (before : ℕ) → ChangeFits self.old.game before change) }
+        ensures elsewhere { IfErr result (IsForOthers self.old.game) }
         ensures touched { IfOk result (λ change. (before : Grid) → GoesFrom before change) }
         ensures came { IfOk result (λ change. (history before : List Grid) (first : Standing) → after self.old.text
             (level_done (script_by B.Board R.Rules self.old.game rules.old)
@@ -101,6 +104,8 @@ impl<'g, B: Board> Stage<'g, B> {
         ensures game { self.new.game ≡ self.old.game }
         ensures meaning { meaning_of R.Rules rules.new ≡ meaning_of R.Rules rules.old }
         ensures basis { IfOk result (λ change. GoesOnBasis (basis_of B.table_for self.old.game.names) change) }
+        ensures boards { IfOk result (ChangeFits self.old.game level.entry) }
+        ensures elsewhere { IfErr result (IsForOthers self.old.game) }
         ensures touched { IfOk result (λ change. (before : Grid)
             → IfSome rows (λ rows. AreTouched rows before level.board) → GoesFrom before change) }
         ensures came { IfOk result (λ change. (history : List Grid) (first : Standing)
@@ -143,6 +148,7 @@ impl<'g, B: Board> Stage<'g, B> {
         ensures game { self.new.game ≡ self.old.game }
         ensures meaning { meaning_of R.Rules rules.new ≡ meaning_of R.Rules rules.old }
         ensures basis { level.new.basis ≡ level.old.basis }
+        ensures entry { level.new.entry ≡ level.old.entry }
         ensures ends { done.now.again ≡ false → OnOk result (level.new.board ≡ level.old.board) }
         ensures came { IfOk result (λ end. (history : List Grid)
             → after self.old.text
@@ -172,6 +178,8 @@ impl<'g, B: Board> Stage<'g, B> {
         ensures game { self.new.game ≡ self.old.game }
         ensures meaning { meaning_of R.Rules rules.new ≡ meaning_of R.Rules rules.old }
         ensures basis { IfOk result (λ change. GoesOnBasis (basis_of B.table_for self.old.game.names) change) }
+        ensures boards { IfOk result (ChangeFits self.old.game level.entry) }
+        ensures elsewhere { IfErr result (IsForOthers self.old.game) }
         ensures touched { IfOk result (λ change. (before : Grid)
             → AreTouched rows before level.board → GoesFrom before change) }
         ensures came { IfOk result (λ change. (history : List Grid) (first : Standing)
@@ -242,6 +250,8 @@ impl<'g, B: Board> Stage<'g, B> {
         ensures game { self.new.game ≡ self.old.game }
         ensures meaning { meaning_of R.Rules rules.new ≡ meaning_of R.Rules rules.old }
         ensures basis { IfOk result (λ change. GoesOnBasis (basis_of B.table_for self.old.game.names) change) }
+        ensures boards { IfOk result (ChangeFits self.old.game level.old.entry) }
+        ensures elsewhere { IfErr result (IsForOthers self.old.game) }
         ensures touched { IfOk result (λ change. GoesFrom level.old.board change) }
         ensures came { IfOk result (λ change. (history : List Grid) → after self.old.text
             (turn_taken (script_by B.Board R.Rules self.old.game rules.old)
@@ -290,6 +300,8 @@ impl<'g, B: Board> Stage<'g, B> {
         ensures game { self.new.game ≡ self.old.game }
         ensures meaning { meaning_of R.Rules rules.new ≡ meaning_of R.Rules rules.old }
         ensures basis { IfOk result (λ change. GoesOnBasis (basis_of B.table_for self.old.game.names) change) }
+        ensures boards { IfOk result (ChangeFits self.old.game level.old.entry) }
+        ensures elsewhere { IfErr result (IsForOthers self.old.game) }
         ensures touched { IfOk result (λ change. GoesFrom level.old.board change) }
         ensures came { IfOk result (λ change. (history : List Grid) → after self.old.text
             (input_taken (script_by B.Board R.Rules self.old.game rules.old)
@@ -328,6 +340,8 @@ impl<'g, B: Board> Stage<'g, B> {
         ensures game { self.new.game ≡ self.old.game }
         ensures meaning { meaning_of R.Rules rules.new ≡ meaning_of R.Rules rules.old }
         ensures basis { IfOk result (λ change. GoesOnBasis (basis_of B.table_for self.old.game.names) change) }
+        ensures boards { IfOk result (ChangeFits self.old.game level.old.entry) }
+        ensures elsewhere { IfErr result (IsForOthers self.old.game) }
         ensures touched { IfOk result (λ change. (before : Grid) → GoesFrom before change) }
         ensures came { IfOk result (λ change. (history : List Grid) (first : Standing) → after self.old.text
             (key_turns (script_by B.Board R.Rules self.old.game rules.old) left
@@ -357,6 +371,8 @@ impl<'g, B: Board> Stage<'g, B> {
         ensures game { self.new.game ≡ self.old.game }
         ensures meaning { meaning_of R.Rules rules.new ≡ meaning_of R.Rules rules.old }
         ensures basis { IfOk result (λ change. GoesOnBasis (basis_of B.table_for self.old.game.names) change) }
+        ensures boards { IfOk result (ChangeFits self.old.game level.old.entry) }
+        ensures elsewhere { IfErr result (IsForOthers self.old.game) }
         ensures touched { IfOk result (λ change. (before : Grid) → GoesFrom before change) }
         ensures came { IfOk result (λ change. (history : List Grid) (first : Standing) → after self.old.text
             (start_turns (script_by B.Board R.Rules self.old.game rules.old) left
@@ -392,6 +408,8 @@ impl<'g, B: Board> Stage<'g, B> {
         ensures game { self.new.game ≡ self.old.game }
         ensures meaning { meaning_of R.Rules rules.new ≡ meaning_of R.Rules rules.old }
         ensures basis { IfOk result (λ change. GoesOnBasis (basis_of B.table_for self.old.game.names) change) }
+        ensures boards { IfOk result (ChangeFits self.old.game level.old.entry) }
+        ensures elsewhere { IfErr result (IsForOthers self.old.game) }
         ensures touched { IfOk result (λ change. (before : Grid) → GoesFrom before change) }
         ensures came { IfOk result (λ change. (history : List Grid) → after self.old.text
             (gone_on (script_by B.Board R.Rules self.old.game rules.old)

@@ -11,6 +11,7 @@ ghost use Rattle.ps_stage.specs.Meanings.{meaning_of, script_by};
 ghost use Rattle.ps_stage.specs.Playable.{IsPlayable, LevelFits};
 ghost use Rattle.ps_stage.specs.Standings.{Basis, basis_of, play_of, script_of};
 ghost use Rattle.ps_stage.specs.Sides.{side_at};
+ghost use Rattle.ps_stage.specs.OwnBoards.{HasEntry, IsForOthers, LocationFits};
 ghost use Rattle.ps_stage.specs.StepsShown.{IsStopped, came, stands};
 ghost use Rattle.ps_stage.specs.Locations.{location_shown, IsOnBasis};
 ghost use Rattle.ps_stage.specs.Touched.{AreTouched, IsTouchedAt};
@@ -19,7 +20,6 @@ use crate::entries::EntryNumber;
 use crate::levels::PlayedLevel;
 use crate::locations::{Location, Pending};
 use crate::numbers::level_number;
-use crate::sides::side_at;
 use crate::stage::Stage;
 use crate::stops::Stop;
 use ps_board::Board;
@@ -35,6 +35,7 @@ pub(crate) fn located<B: Board>(
 ) -> Location<PlayedLevel<B>>
     ensures shown { (history : List Grid) → location_shown history result ≡ stands pending (play_of history level) }
     ensures basis { (basis : Basis) → level.basis ≡ basis → IsOnBasis basis result }
+    ensures entry { HasEntry level.entry result }
     ensures touched { (rows : List Bool) (before : Grid) → AreTouched rows before level.board
         → IsTouchedAt rows before result }
 {
@@ -59,6 +60,7 @@ impl<'g, B: Board> Stage<'g, B> {
         ensures game { self.new.game ≡ self.old.game }
         ensures meaning { meaning_of R.Rules rules.new ≡ meaning_of R.Rules rules.old }
         ensures basis { IfOk result (λ location. IsOnBasis (basis_of B.table_for self.old.game.names) location) }
+        ensures entry { IfOk result (HasEntry entry) }
         ensures came { IfOk result (λ location. after self.old.text
             (entered (script_by B.Board R.Rules self.old.game rules.old)
             entry (Some (LevelEntry level.now)))
@@ -91,6 +93,7 @@ impl<'g, B: Board> Stage<'g, B> {
         ensures game { self.new.game ≡ self.old.game }
         ensures meaning { meaning_of R.Rules rules.new ≡ meaning_of R.Rules rules.old }
         ensures basis { IfOk result (λ location. IsOnBasis (basis_of B.table_for self.old.game.names) location) }
+        ensures entry { IfOk result (HasEntry entry) }
         ensures came { IfOk result (λ location. after self.old.text
             (enter (script_by B.Board R.Rules self.old.game rules.old) entry)
             ≡ came (location_shown [] location) self.new.text) }
@@ -126,6 +129,8 @@ impl<'g, B: Board> Stage<'g, B> {
         ensures game { self.new.game ≡ self.old.game }
         ensures meaning { meaning_of R.Rules rules.new ≡ meaning_of R.Rules rules.old }
         ensures basis { IfOk result (λ location. IsOnBasis (basis_of B.table_for self.old.game.names) location) }
+        ensures boards { IfOk result (λ location. (before : ℕ) → LocationFits self.old.game before location) }
+        ensures elsewhere { IfErr result (IsForOthers self.old.game) }
         ensures came { IfOk result (λ location. after self.old.text
             (enter (script_by B.Board R.Rules self.old.game rules.old) entry)
             ≡ came (location_shown [] location) self.new.text) }
@@ -135,7 +140,7 @@ impl<'g, B: Board> Stage<'g, B> {
             (enter (script_by B.Board R.Rules self.old.game rules.old) entry))
             self.new.text) }
     {
-        if !self.sides.has(side_at(self.entries(), entry)) {
+        if !self.game.has_boards(entry) {
             return Err(Stop::Elsewhere(entry));
         }
         let location = self.begin(rules, entry)?;
@@ -155,6 +160,8 @@ impl<'g, B: Board> Stage<'g, B> {
         ensures game { self.new.game ≡ self.old.game }
         ensures meaning { meaning_of R.Rules rules.new ≡ meaning_of R.Rules rules.old }
         ensures basis { IfOk result (λ location. IsOnBasis (basis_of B.table_for self.old.game.names) location) }
+        ensures boards { IfOk result (λ location. (before : ℕ) → LocationFits self.old.game before location) }
+        ensures elsewhere { IfErr result (IsForOthers self.old.game) }
         ensures came { IfOk result (λ location. (history : List Grid) → after self.old.text
             (level_done (script_by B.Board R.Rules self.old.game rules.old)
             (play_of history level.now))
@@ -188,6 +195,7 @@ impl<'g, B: Board> Stage<'g, B> {
         ensures game { self.new.game ≡ self.old.game }
         ensures meaning { meaning_of R.Rules rules.new ≡ meaning_of R.Rules rules.old }
         ensures basis { IfOk result (λ location. IsOnBasis (basis_of B.table_for self.old.game.names) location) }
+        ensures entry { IfOk result (HasEntry level.old.entry) }
         ensures came { IfOk result (λ location. (history : List Grid) → after self.old.text
             (restarted (script_by B.Board R.Rules self.old.game rules.old)
             (play_of history level.old) message)

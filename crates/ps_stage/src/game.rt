@@ -6,11 +6,12 @@ ghost use Rattle.ps_levels.specs.WinsShown.{wins_shown};
 ghost use Rattle.ps_model.specs.declared.limits.TheConstants.{SIDE_LIMIT};
 ghost use Rattle.ps_model.specs.session.RoomSizes.{HasRoomSize};
 ghost use Rattle.ps_model.specs.session.Rooms.{room_after};
+ghost use Rattle.ps_stage.specs.OwnBoards.{has_boards};
 ghost use Rattle.ps_stage.specs.Playable.{ArePlayable, EntriesFit};
 ghost use Rattle.ps_stage.specs.Sides.{side_at};
-ghost use Rattle.ps_stage.specs.Standings.{begun_at, turn_parts};
+ghost use Rattle.ps_stage.specs.Standings.{all_sides, begun_at, on_boards, turn_parts};
 
-use crate::sides::side_at;
+use crate::sides::{BoardSides, side_at};
 use ps_board::Board;
 use ps_levels::{Entry, Win};
 use ps_model::{Options, Room};
@@ -19,7 +20,8 @@ use ps_screen::room_of;
 use ps_turn::TurnGame;
 use std::marker::Model;
 
-/// A game without its rules: its title, options, names, entries and win conditions, and the entry at which it begins.
+/// A game without its rules: its title, options, names, entries and win conditions, the entry at which it begins, and
+/// which levels its boards are for.
 #[derive(Drop)]
 pub struct SessionGame<'g> {
     title: &'g str,
@@ -27,6 +29,7 @@ pub struct SessionGame<'g> {
     names: &'g Names,
     entries: &'g [Entry],
     first_entry: usize,
+    sides: BoardSides,
     turns: TurnGame<'g>,
 }
 
@@ -46,6 +49,7 @@ impl<'g> Model for SessionGame<'g> {
       entries = entries_shown g.entries.now;
       first_entry = g.first_entry;
       wins = g.turns.wins;
+      sides = g.sides;
     } };
 
     ghost invariant = { λ g. ArePlayable g.names.now (entries_shown g.entries.now)
@@ -53,7 +57,7 @@ impl<'g> Model for SessionGame<'g> {
 }
 
 impl<'g> SessionGame<'g> {
-    /// The game of these parts, from its start. The sides of its levels are those of a board, and so are those of its
+    /// The game of these parts, from its start, on boards for all levels. The sides of its levels are those of a board, and so are those of its
     /// rooms, if it has rooms.
     pub fn new(
         title: &'g str,
@@ -70,6 +74,7 @@ impl<'g> SessionGame<'g> {
         ensures entries { result.entries ≡ entries_shown entries.entry.now }
         ensures first { result.first_entry ≡ 0 }
         ensures wins { result.wins ≡ wins_shown wins.entry.now }
+        ensures sides { result.sides ≡ all_sides }
         ensures fit { EntriesFit SIDE_LIMIT result.entries }
     {
         SessionGame {
@@ -78,6 +83,7 @@ impl<'g> SessionGame<'g> {
             names,
             entries,
             first_entry: 0,
+            sides: BoardSides::all(),
             turns: TurnGame::new(names, options, wins),
         }
     }
@@ -92,8 +98,31 @@ impl<'g> SessionGame<'g> {
             names: self.names,
             entries: self.entries,
             first_entry: entry,
+            sides: self.sides,
             turns: self.turns.copied(),
         }
+    }
+
+    /// The same game, on boards for levels with such sides.
+    pub fn on_boards(self, sides: BoardSides) -> SessionGame<'g>
+        ensures { result ≡ on_boards self.entry sides }
+    {
+        SessionGame {
+            title: self.title,
+            options: self.options,
+            names: self.names,
+            entries: self.entries,
+            first_entry: self.first_entry,
+            sides,
+            turns: self.turns.copied(),
+        }
+    }
+
+    /// Whether its boards are for an entry: it is no level, or one with such sides.
+    pub fn has_boards(&self, entry: usize) -> bool
+        ensures { result ≡ has_boards self.now entry }
+    {
+        self.sides.has(side_at(self.entries, entry))
     }
 
     /// The entry at which it begins.
@@ -135,6 +164,7 @@ impl<'g> SessionGame<'g> {
             names: self.names,
             entries: self.entries,
             first_entry: self.first_entry,
+            sides: self.sides,
             turns: self.turns.copied(),
         }
     }

@@ -66,6 +66,7 @@ impl<'g, B: Board> Stage<'g, B> {
         requires { level.old.basis ≡ basis_of B.table_for self.old.game.names }
         ensures game { self.new.game ≡ self.old.game }
         ensures basis { level.new.basis ≡ level.old.basis }
+        ensures entry { level.new.entry ≡ level.old.entry }
         ensures board { level.new.board ≡ level.old.board }
         ensures ends { done.now.again ≡ false → IfOk result (λ told. is_going_on told ≡ false) }
         ensures told { IfOk result (λ told. (history : List Grid) (plain late : List Section) (turns : Play → Step)
@@ -88,6 +89,7 @@ impl<'g, B: Board> Stage<'g, B> {
         requires { level.old.basis ≡ basis_of B.table_for self.old.game.names }
         ensures game { self.new.game ≡ self.old.game }
         ensures basis { level.new.basis ≡ level.old.basis }
+        ensures entry { level.new.entry ≡ level.old.entry }
         ensures told { IfOk result (λ told. (history : List Grid) (plain late : List Section) (turns : Play → Step)
             → after self.old.text
             (key_outcome_shown (script_of self.old.game plain late) (play_of history level.old) turned left turns)
@@ -124,6 +126,7 @@ impl<'g, B: Board> Stage<'g, B> {
         ensures game { self.new.game ≡ self.old.game }
         ensures meaning { meaning_of R.Rules rules.new ≡ meaning_of R.Rules rules.old }
         ensures basis { level.new.basis ≡ level.old.basis }
+        ensures entry { level.new.entry ≡ level.old.entry }
         ensures told { IfOk result (λ told. (history : List Grid) → after self.old.text
             (key_turns (script_by B.Board R.Rules self.old.game rules.old)
             (suc left) (play_of history level.old))
@@ -147,6 +150,7 @@ impl<'g, B: Board> Stage<'g, B> {
         ensures game { self.new.game ≡ self.old.game }
         ensures meaning { meaning_of R.Rules rules.new ≡ meaning_of R.Rules rules.old }
         ensures basis { level.new.basis ≡ level.old.basis }
+        ensures entry { level.new.entry ≡ level.old.entry }
         ensures came { IfOk result (λ end. (history : List Grid) → after self.old.text
             (key_turns (script_by B.Board R.Rules self.old.game rules.old) most
             (play_of history level.old))
@@ -174,6 +178,7 @@ impl<'g, B: Board> Stage<'g, B> {
         ensures game { self.new.game ≡ self.old.game }
         ensures meaning { meaning_of R.Rules rules.new ≡ meaning_of R.Rules rules.old }
         ensures basis { level.new.basis ≡ level.old.basis }
+        ensures entry { level.new.entry ≡ level.old.entry }
         ensures came { IfOk result (λ end. (history : List Grid) → after self.old.text
             (all_key_turns (script_by B.Board R.Rules self.old.game rules.old)
             (play_of history level.old))

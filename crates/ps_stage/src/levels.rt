@@ -529,6 +529,7 @@ impl<B: Board> PlayedLevel<B> {
             self.old.board)
             × (self.new ≡ taken counting turned self.old g)) }
         ensures basis { self.new.basis ≡ self.old.basis }
+        ensures entry { self.new.entry ≡ self.old.entry }
         ensures meaning { meaning_of R.Rules rules.new ≡ meaning_of R.Rules rules.old }
     {
         let mut spare = lent(alloc, spares, &*self.parts, game.names(), self.spare.take())?;
@@ -559,6 +560,7 @@ impl<B: Board> PlayedLevel<B> {
     ) -> Result<(), Memory>
         ensures kept { OnOk result (self.new ≡ taken counting turned.now self.old self.old.board) }
         ensures basis { self.new.basis ≡ self.old.basis }
+        ensures entry { self.new.entry ≡ self.old.entry }
     {
         let Turned::Done(done) = turned else {
             return Ok(());

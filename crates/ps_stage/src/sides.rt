@@ -3,8 +3,10 @@
 ghost use Rattle.std.specs.Prelude.{◌≡◌};
 ghost use Rattle.ps_levels.specs.EntriesShown.{entries_shown, entry_shown};
 ghost use Rattle.ps_stage.specs.Sides.{has_side, longer_side, side_at, side_of};
+ghost use Rattle.ps_stage.specs.Standings.{all_sides};
 
 use ps_levels::{Entry, Level};
+use ps_model::SIDE_LIMIT;
 
 /// The longer side of a level.
 fn longer_side(level: &Level) -> u32
@@ -43,6 +45,16 @@ pub struct BoardSides {
 }
 
 impl BoardSides {
+    /// The sides of all levels.
+    pub fn all() -> BoardSides
+        ensures { result ≡ all_sides }
+    {
+        BoardSides {
+            above: 0,
+            most: SIDE_LIMIT,
+        }
+    }
+
     /// Whether an entry with this longer side is played on such boards. One that is no level has side 0, and is played
     /// on every kind.
     pub fn has(self, side: u32) -> bool

@@ -10,7 +10,6 @@ ghost use Rattle.ps_stage.specs.Touched.{AreTouched};
 
 use crate::game::SessionGame;
 use crate::levels::PlayedLevel;
-use crate::sides::BoardSides;
 use crate::spares::SpareLevels;
 use ps_board::{Board, Columns};
 use ps_levels::Entry;
@@ -24,8 +23,6 @@ use std::marker::Model;
 pub struct Stage<'g, B: Board> {
     pub(crate) alloc: Global,
     pub(crate) game: SessionGame<'g>,
-    /// Which levels its boards are for.
-    pub(crate) sides: BoardSides,
     pub(crate) picture: Picture<'g>,
     pub(crate) spares: SpareLevels<B>,
     pub(crate) text: OutputText,
@@ -37,7 +34,6 @@ impl<'g, B: Board> Drop for Stage<'g, B> {
         let Stage {
             alloc: _,
             game: _game,
-            sides: _,
             picture: _picture,
             spares: _spares,
             text: _text,
@@ -53,21 +49,17 @@ impl<'g, B: Board> Model for Stage<'g, B> {
 
     ghost view = { λ s. record { game = s.game; text = s.text } };
 
-    ghost invariant = { λ s. (s.picture ≡ s.game.names) × (s.sides.most ≤ B.Words.limit) };
+    ghost invariant = { λ s. (s.picture ≡ s.game.names) × (s.game.sides.most ≤ B.Words.limit) };
 }
 
 impl<'g, B: Board> Stage<'g, B> {
-    /// A game without a text, on boards for levels with such sides.
+    /// A game without a text.
     ///
     /// # Errors
     ///
     /// `Memory`.
-    pub fn new(
-        alloc: Global,
-        game: SessionGame<'g>,
-        sides: BoardSides,
-    ) -> Result<Stage<'g, B>, Memory>
-        requires { sides.most ≤ B.Words.limit }
+    pub fn new(alloc: Global, game: SessionGame<'g>) -> Result<Stage<'g, B>, Memory>
+        requires { game.sides.most ≤ B.Words.limit }
         ensures game { IfOk result (λ stage. stage.game ≡ game.entry) }
         ensures text { IfOk result (λ stage. stage.text ≡ []) }
     {
@@ -75,7 +67,6 @@ impl<'g, B: Board> Stage<'g, B> {
         Ok(Stage {
             alloc,
             game,
-            sides,
             picture,
             spares: SpareLevels::none(),
             text: OutputText::new(alloc),

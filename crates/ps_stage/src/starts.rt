@@ -118,6 +118,7 @@ impl<'g, B: Board> Stage<'g, B> {
         requires { level.old.basis ≡ basis_of B.table_for self.old.game.names }
         ensures game { self.new.game ≡ self.old.game }
         ensures basis { level.new.basis ≡ level.old.basis }
+        ensures entry { level.new.entry ≡ level.old.entry }
         ensures told { IfOk result (λ told. (history : List Grid) (plain late : List Section) (turns : Play → Step)
             → after self.old.text
             (start_shown (script_of self.old.game plain late) (play_of history level.old) done.now left turns)
@@ -141,6 +142,7 @@ impl<'g, B: Board> Stage<'g, B> {
         ensures stage { self.new ≡ self.old }
         ensures meaning { meaning_of R.Rules rules.new ≡ meaning_of R.Rules rules.old }
         ensures basis { level.new.basis ≡ level.old.basis }
+        ensures entry { level.new.entry ≡ level.old.entry }
         ensures turned { IfOk result (λ turned. (g : Grid)
             × (outcome_shown turned g
             ≡ turn (script_by B.Board R.Rules self.old.game rules.old) None
@@ -168,6 +170,7 @@ impl<'g, B: Board> Stage<'g, B> {
         requires { level.old.basis ≡ basis_of B.table_for self.old.game.names }
         ensures game { self.new.game ≡ self.old.game }
         ensures basis { level.new.basis ≡ level.old.basis }
+        ensures entry { level.new.entry ≡ level.old.entry }
         ensures told { IfOk result (λ told. (history : List Grid) (plain late : List Section) (turns : Play → Step)
             → after self.old.text
             (start_outcome_shown (script_of self.old.game plain late) (play_of history level.old) turned.now left turns)
@@ -190,6 +193,7 @@ impl<'g, B: Board> Stage<'g, B> {
         ensures game { self.new.game ≡ self.old.game }
         ensures meaning { meaning_of R.Rules rules.new ≡ meaning_of R.Rules rules.old }
         ensures basis { level.new.basis ≡ level.old.basis }
+        ensures entry { level.new.entry ≡ level.old.entry }
         ensures told { IfOk result (λ told. (history : List Grid)
             → after self.old.text (start_turns
             (script_by B.Board R.Rules self.old.game rules.old)
@@ -214,6 +218,7 @@ impl<'g, B: Board> Stage<'g, B> {
         ensures game { self.new.game ≡ self.old.game }
         ensures meaning { meaning_of R.Rules rules.new ≡ meaning_of R.Rules rules.old }
         ensures basis { level.new.basis ≡ level.old.basis }
+        ensures entry { level.new.entry ≡ level.old.entry }
         ensures came { IfOk result (λ pending. (history : List Grid)
             → after self.old.text (start_turns
             (script_by B.Board R.Rules self.old.game rules.old) most
@@ -241,6 +246,7 @@ impl<'g, B: Board> Stage<'g, B> {
         ensures game { self.new.game ≡ self.old.game }
         ensures meaning { meaning_of R.Rules rules.new ≡ meaning_of R.Rules rules.old }
         ensures basis { level.new.basis ≡ level.old.basis }
+        ensures entry { level.new.entry ≡ level.old.entry }
         ensures came { IfOk result (λ pending. (history : List Grid)
             → after self.old.text (all_start_turns
             (script_by B.Board R.Rules self.old.game rules.old)
@@ -263,6 +269,7 @@ impl<'g, B: Board> Stage<'g, B> {
         ensures game { self.new.game ≡ self.old.game }
         ensures meaning { meaning_of R.Rules rules.new ≡ meaning_of R.Rules rules.old }
         ensures basis { level.new.basis ≡ level.old.basis }
+        ensures entry { level.new.entry ≡ level.old.entry }
         ensures came { IfOk result (λ pending. (history : List Grid)
             → after self.old.text (started
             (script_by B.Board R.Rules self.old.game rules.old)
@@ -288,6 +295,7 @@ impl<'g, B: Board> Stage<'g, B> {
         ensures game { self.new.game ≡ self.old.game }
         ensures meaning { meaning_of R.Rules rules.new ≡ meaning_of R.Rules rules.old }
         ensures basis { level.new.basis ≡ level.old.basis }
+        ensures entry { level.new.entry ≡ level.old.entry }
         ensures came { IfOk result (λ pending. (history : List Grid)
             → after self.old.text (start_step
             (script_by B.Board R.Rules self.old.game rules.old)
@@ -315,6 +323,7 @@ impl<'g, B: Board> Stage<'g, B> {
         ensures game { self.new.game ≡ self.old.game }
         ensures meaning { meaning_of R.Rules rules.new ≡ meaning_of R.Rules rules.old }
         ensures basis { level.new.basis ≡ level.old.basis }
+        ensures entry { level.new.entry ≡ level.old.entry }
         ensures came { IfOk result (λ pending. (history : List Grid)
             → after self.old.text (start_step
             (script_by B.Board R.Rules self.old.game rules.old)

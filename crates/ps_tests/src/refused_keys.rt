@@ -97,14 +97,13 @@ fn expect_programs_again(
     if let Err(_) = output.add_line("= ", title) {
         return;
     }
-    let sides = BoardSides {
+    let parts = parts.on_boards(BoardSides {
         above: 0,
         most: WORD_BITS,
-    };
+    });
     let started = Session::<RowBoard<OneWord>, RowHistory<OneWord>>::start_at(
         rt.alloc(),
         parts,
-        sides,
         &mut rules,
         0,
         &mut output,

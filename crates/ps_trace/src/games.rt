@@ -96,10 +96,10 @@ impl<'g, V: ColumnWords> TracedGame<'g, V> {
             plain: rules_of(alloc, plain)?,
             late: rules_of(alloc, late)?,
         };
-        let sides = BoardSides { above: 0, most };
         let entry = parts.first_entry();
+        let parts = parts.on_boards(BoardSides { above: 0, most });
         let mut output = OutputText::new(alloc);
-        let session = Session::start_at(alloc, parts, sides, &mut rules, entry, &mut output)?;
+        let session = Session::start_at(alloc, parts, &mut rules, entry, &mut output)?;
         Ok(TracedGame { session, rules })
     }
 

@@ -39,6 +39,8 @@ returns-then-is_ignored_in_level g c =
           c.args.level.now) c.args.key ignored;
       stopped = tt;
       basis = tt;
+      boards = tt;
+      elsewhere = tt;
       touched = tt;
       ignored = λ e. refl;
     }
@@ -62,6 +64,8 @@ returns-in-Move g c =
       stopped = if_err c.moves.result c.moves.ensures.stopped (λ stop stops.
           subst (λ (step : Step). IsStopped script stop step c.moves.new.stage.text) (sym moved) (stops grids));
       basis = c.moves.ensures.basis;
+      boards = c.moves.ensures.boards;
+      elsewhere = c.moves.ensures.elsewhere;
       touched = c.moves.ensures.touched;
       ignored = λ e. absurd (true≢false (sym e ∙ heeded));
     }
@@ -83,6 +87,8 @@ returns-in_ok-next-in-Undo g c =
           ∙ c.in_ok-next-in-Undo.ensures.came script.plain script.late;
       stopped = tt;
       basis = c.in_ok-next-in-Undo.ensures.basis;
+      boards = c.in_ok-next-in-Undo.ensures.boards;
+      elsewhere = tt;
       touched = c.in_ok-next-in-Undo.ensures.touched;
       ignored = λ e. absurd (true≢false (sym e ∙ heeded));
     }
@@ -103,6 +109,8 @@ returns-in_ok-next-in-Restart g c =
       came = restarted_by script play c.args.key c.in-Restart.is heeded ∙ c.in_ok-next-in-Restart.ensures.came grids;
       stopped = tt;
       basis = c.in_ok-next-in-Restart.ensures.basis;
+      boards = c.in_ok-next-in-Restart.ensures.boards;
+      elsewhere = tt;
       touched = c.in_ok-next-in-Restart.ensures.touched;
       ignored = λ e. absurd (true≢false (sym e ∙ heeded));
     }
@@ -124,6 +132,8 @@ returns-in_ok-next-in-Quit g c =
           ∙ c.in_ok-next-in-Quit.ensures.came grids (Playing c.args.level.now);
       stopped = tt;
       basis = c.in_ok-next-in-Quit.ensures.basis _;
+      boards = c.in_ok-next-in-Quit.ensures.boards c.args.stage.now.game c.args.level.now.entry;
+      elsewhere = tt;
       touched = c.in_ok-next-in-Quit.ensures.touched _;
       ignored = λ e. absurd (true≢false (sym e ∙ heeded));
     }

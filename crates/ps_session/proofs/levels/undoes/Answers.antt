@@ -47,6 +47,8 @@ returns-in-Ok g c =
           (ap (λ (level : Standing). level.room) c.in-Ok.ensures.level ∙ c.in_ok-back.ensures.room);
       basis = ap (λ (level : Standing). level.basis) c.in-Ok.ensures.level ∙ c.in_ok-back.ensures.basis
           ∙ c.requires.basis;
+      boards = λ other. absurd (other (ap (λ (level : Standing). level.entry) c.in-Ok.ensures.level
+          ∙ c.in_ok-back.ensures.entry));
       touched = tt;
     }
 
@@ -58,5 +60,6 @@ returns-in_default g c = record {
       c.args.level.now c.args.level.now.board c.args.level.now.room c.args.stage.now.text c.show.new.self.text
       (c.latest.ensures.none c.in_default.is) refl refl c.requires.empty c.in_ok-show.ensures.shown;
   basis = tt;
+  boards = tt;
   touched = tt;
 }

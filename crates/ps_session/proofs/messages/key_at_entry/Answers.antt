@@ -21,12 +21,17 @@ returns-then-is_ignored_at_message g c =
           ignored;
       stopped = tt;
       basis = tt;
+      boards = λ before. tt;
+      elsewhere = tt;
       touched = tt;
       ignored = λ e. refl;
     }
 
 pub returns-in-Quit-clause-basis : goal.returns-in-Quit-clause-basis
 returns-in-Quit-clause-basis g c = c.in_ok-next.ensures.basis _
+
+pub returns-in-Quit-clause-boards : goal.returns-in-Quit-clause-boards
+returns-in-Quit-clause-boards g c before = c.in_ok-next.ensures.boards c.args.stage.now.game before
 
 pub returns : goal.returns
 returns g c =
@@ -43,6 +48,8 @@ returns g c =
           ∙ c.in_ok-location.ensures.came;
       stopped = tt;
       basis = c.in_ok-location.ensures.basis;
+      boards = c.in_ok-location.ensures.boards;
+      elsewhere = tt;
       touched = refl;
       ignored = λ e. absurd (true≢false (sym e ∙ heeded));
     }

@@ -12,6 +12,9 @@ use Rattle.ps_session.proofs.messages.key_at_level_message.Goals as goal
 pub returns-in-Quit-clause-basis : goal.returns-in-Quit-clause-basis
 returns-in-Quit-clause-basis g c = c.in_ok-next.ensures.basis _
 
+pub returns-in-Quit-clause-boards : goal.returns-in-Quit-clause-boards
+returns-in-Quit-clause-boards g c = c.in_ok-next.ensures.boards c.args.stage.now.game c.args.level.now.entry
+
 pub returns-in-Quit-clause-touched : goal.returns-in-Quit-clause-touched
 returns-in-Quit-clause-touched g c = c.in_ok-next.ensures.touched _
 
@@ -35,6 +38,8 @@ returns g c =
           (sym (c.next_of.ensures.waiting history c.args.level.now c.args.pending));
       stopped = tt;
       basis = c.next_of.ensures.basis _ c.in_ok-change.ensures.basis;
+      boards = c.next_of.ensures.boards c.args.stage.now.game c.args.level.now.entry c.in_ok-change.ensures.boards;
+      elsewhere = tt;
       touched = c.next_of.ensures.touched _ (c.in_ok-change.ensures.touched _);
       ignored = λ e. absurd (true≢false (sym e ∙ heeded));
     }

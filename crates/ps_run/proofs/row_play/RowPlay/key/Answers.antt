@@ -27,6 +27,7 @@ returns-in-Err g c =
     subst (λ (old : GameInPlay). IsKeyed old next c.args.key c.args.output.now c.key.new.output (Err c.in-Err.stop))
     c.self.view_is
     (keyed_err lent next c.args.key c.args.output.now c.key.new.output c.in-Err.stop same c.in-Err.ensures.left
+    c.in-Err.ensures.elsewhere
     (not_ignored (is_ignored lent.game.options lent.session c.args.key) c.in-Err.ensures.ignored))
 
 pub returns : goal.returns
@@ -50,4 +51,4 @@ returns g c =
     c.in_default.ensures.plain c.in_default.ensures.late in
     subst (λ (old : GameInPlay). IsKeyed old next c.args.key c.args.output.now c.key.new.output (Ok tt)) c.self.view_is
     (keyed_ok lent next c.args.key c.args.output.now c.key.new.output tt same c.in_default.ensures.session
-    c.in_default.ensures.written)
+    c.in_default.ensures.written c.in_default.ensures.boards)

@@ -3,7 +3,8 @@ use Rattle.ps_model.specs.session.KeySteps.{key_step}
 use Rattle.ps_model.specs.session.Sessions.{Step}
 use Rattle.ps_board.specs.Histories.{BoardShown}
 use Rattle.ps_stage.specs.Locations.{IsOnBasis, location_shown}
-use Rattle.ps_stage.specs.Standings.{Basis, SessionValue, StageValue, basis_of, script_for}
+use Rattle.ps_stage.specs.OwnBoards.{IsForOthers}
+use Rattle.ps_stage.specs.Standings.{Basis, SessionParts, SessionValue, StageValue, basis_of, script_for}
 use Rattle.ps_session.specs.Histories.{AreOnTable, grids_of}
 use Rattle.ps_session.specs.Nexts.{next_shown, next_step}
 use Rattle.ps_session.specs.Bases.{AnswersOnBasis}
@@ -11,6 +12,7 @@ use Rattle.ps_session.specs.Behind.{AnswersFrom}
 use Rattle.ps_session.proofs.KeyEnds.{error_came, game_of_value, ignored_inside, left_of_value, no_text_come}
 use Rattle.ps_session.proofs.KeyEnds.{none_came, same_value, session_come, step_of_value, text_come}
 use Rattle.ps_stage.specs.Meanings.{same_late, same_plain}
+use Rattle.ps_session.proofs.OwnBoards.{fits_behind, plays_on}
 use Rattle.ps_session.proofs.session.Session.key.Goals as goal
 
 pub next_at-found-requires : goal.next_at-found-requires
@@ -60,6 +62,10 @@ returns-in-Ok-None g c =
       written = no_text_come step inside.session c.args.output.now is;
       same = tt;
       left = tt;
+      elsewhere = tt;
+      boards = plays_on c.args.self.now.game c.args.self.now.session _
+          (ap (location_shown (grids_of boards)) c.in-Ok-None.ensures.same
+          ∙ ap (λ (value : SessionValue). value.session) c.self.view_is);
       ignored = λ ignored. refl;
       plain = same_plain c.in-Ok-None.ensures.meaning;
       late = same_late c.in-Ok-None.ensures.meaning;
@@ -86,6 +92,11 @@ returns-in-Err g c =
           (g.R.Rules.meant c.args.rules.now.late) c.forget_text.new.self.game inside c.args.self.now c.args.key
           c.tell_stop.result c.args.output.now c.tell_stop.new.output c.forget_text.ensures.game c.self.view_is
           (c.tell_stop.ensures.left _ _ c.in-Err.ensures.stopped);
+      elsewhere = c.tell_stop.ensures.elsewhere c.args.self.now.game
+          (subst (λ (parts : SessionParts). IsForOthers parts c.in-Err.stop)
+          (c.forget_text.ensures.game ∙ ap (λ (value : SessionValue). value.game) c.self.view_is)
+          c.in-Err.ensures.elsewhere);
+      boards = tt;
       ignored = λ ignored. error_came _ _ (c.next_at-found.ensures.ignored
           (ignored_inside c.forget_text.new.self.game inside c.args.self.now c.args.key c.forget_text.ensures.game
           c.self.view_is ignored)) c.in-Err.is;
@@ -113,6 +124,8 @@ returns-in-Err-done g c =
           (g.H.History.boards c.prepare-done.new.history) boards inside c.args.self.now refl game
           c.in-Ok-Some.ensures.same c.prepare-done.ensures.boards c.self.view_is;
       left = c.in-Err-done.ensures.kept;
+      elsewhere = tt;
+      boards = tt;
       ignored = λ ignored. none_came _ _ (c.in-Ok-Some.ensures.ignored
           (ignored_inside c.forget_text.new.self.game inside c.args.self.now c.args.key c.forget_text.ensures.game
           c.self.view_is ignored)) c.in-Ok-Some.field-0-is;
@@ -148,6 +161,15 @@ returns g c =
       written = text_come step _ c.next_at-found.new.stage.text c.args.output.now _ is c.in_default.ensures.moved;
       same = tt;
       left = tt;
+      elsewhere = tt;
+      boards = fits_behind c.args.self.now.game c.forget_text.new.self.game (grids_of boards) c.self.inside.location
+          c.in-Ok-Some.field-0 c.in-Ok-Some.next c.args.self.now.session _
+          (c.forget_text.ensures.game ∙ ap (λ (value : SessionValue). value.game) c.self.view_is)
+          c.in-Ok-Some.field-0-is (ap (λ (value : SessionValue). value.session) c.self.view_is)
+          (c.commit.ensures.shown ∙ ap (λ (boards : List BoardShown).
+          next_shown (grids_of boards) c.next_at-found.new.location c.in-Ok-Some.next) c.prepare-done.ensures.boards
+          ∙ ap (λ location. next_shown (grids_of boards) location c.in-Ok-Some.next) c.in-Ok-Some.ensures.same)
+          c.in-Ok-Some.ensures.boards;
       ignored = λ ignored. refl;
       plain = same_plain c.in-Ok-Some.ensures.meaning;
       late = same_late c.in-Ok-Some.ensures.meaning;

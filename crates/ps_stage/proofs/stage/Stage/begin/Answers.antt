@@ -1,4 +1,4 @@
-use Rattle.std.proofs.Common.{◌∙◌, ◌<◌, ℕ, suc, List, Some, length, take, refl, sym, ap, arith}
+use Rattle.std.proofs.Common.{◌∙◌, ◌<◌, ℕ, suc, List, Some, length, take, refl, sym, ap, arith, subst}
 use Rattle.std.specs.Prelude.{Option, filter}
 use Rattle.ps_model.specs.board.Turns.{Script}
 use Rattle.ps_model.specs.session.LevelLines.{Entry as Meant, LevelEntry}
@@ -9,6 +9,7 @@ use Rattle.ps_levels.specs.EntriesShown.{entry_shown}
 use Rattle.ps_stage.specs.Standings.{script_for}
 use Rattle.ps_stage.proofs.EntriesFound.{entry_found, fits_at, playable_at}
 use Rattle.ps_stage.proofs.Results.{if_ok}
+use Rattle.ps_stage.specs.OwnBoards.{HasEntry}
 use Rattle.ps_stage.proofs.stage.Stage.begin.Goals as goal
 
 pub enter_level-requires-clause-playable : goal.enter_level-requires-clause-playable
@@ -57,3 +58,8 @@ enter_level-requires-clause-number g c =
     c.level_number-count.ensures
     ∙ ap (λ (entries : List Meant). length (filter is_level (take (suc c.new-number.result) entries)))
     c.entries-entries.ensures.entries
+
+pub returns-in-Level-clause-entry : goal.returns-in-Level-clause-entry
+returns-in-Level-clause-entry g c =
+    if_ok c.enter_level.result c.enter_level.ensures.entry (λ location has.
+    subst (λ (entry : ℕ). HasEntry entry location) c.new-number.ensures has)

@@ -1,4 +1,4 @@
-use Rattle.std.proofs.Common.{◌∙◌, [], ◌++◌, None, sym, ap}
+use Rattle.std.proofs.Common.{◌∙◌, [], ◌++◌, None, sym, ap, ℕ, subst}
 use Rattle.std.specs.Fmt.{decimal}
 use Rattle.std.specs.Prelude.{codes}
 use Rattle.ps_model.specs.board.Levels.{loaded}
@@ -10,6 +10,7 @@ use Rattle.ps_model.specs.session.StartSteps.{start_step}
 use Rattle.ps_stage.specs.Standings.{StageValue, basis_of, play_of, script_for}
 use Rattle.ps_stage.specs.StepsShown.{came}
 use Rattle.ps_stage.proofs.Entered.{level_entered}
+use Rattle.ps_stage.specs.OwnBoards.{HasEntry}
 use Rattle.ps_stage.proofs.stage.Stage.enter_level.Goals as goal
 
 pub returns-clause-basis : goal.returns-clause-basis
@@ -39,3 +40,8 @@ returns-clause-came g c =
     (play_of [] c.in_ok-played.played) None)) (sym c.self.view_is)
     ∙ c.in_ok-pending.ensures.came []
     ∙ ap (λ (session : Session). came session c.start_step.new.self.text) (sym (c.located.ensures.shown []))
+
+pub returns-clause-entry : goal.returns-clause-entry
+returns-clause-entry g c =
+    subst (λ (entry : ℕ). HasEntry entry c.located.result)
+    (c.in_ok-pending.ensures.entry ∙ c.in_ok-played.ensures.entry) c.located.ensures.entry

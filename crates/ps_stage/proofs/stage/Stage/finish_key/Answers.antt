@@ -1,4 +1,4 @@
-use Rattle.std.proofs.Common.{◌∙◌, List, sym, subst, ap}
+use Rattle.std.proofs.Common.{◌∙◌, List, sym, subst, ap, refl}
 use Rattle.std.proofs.lemmas.Option.{IfSome_then}
 use Rattle.ps_model.specs.board.Grid.{Grid}
 use Rattle.ps_model.specs.board.Turns.{Script}
@@ -10,6 +10,7 @@ use Rattle.ps_stage.specs.Locations.{change_shown, history_behind}
 use Rattle.ps_stage.specs.Standings.{StageValue, script_for, play_of}
 use Rattle.ps_stage.specs.StepsShown.{IsStopped, came}
 use Rattle.ps_stage.proofs.Results.{if_err, if_ok}
+use Rattle.ps_stage.proofs.OwnBoards.{stays_there}
 use Rattle.ps_stage.proofs.stage.Stage.finish_key.Goals as goal
 
 pub returns-in-Stops-clause-came : goal.returns-in-Stops-clause-came
@@ -50,3 +51,11 @@ returns-in-Won-clause-stopped g c =
 pub returns-in-Stops-clause-touched : goal.returns-in-Stops-clause-touched
 returns-in-Stops-clause-touched g c = λ before touched.
     IfSome_then c.args.rows touched (λ rows known. c.located.ensures.touched rows before known)
+
+pub returns-in-Stops-clause-boards : goal.returns-in-Stops-clause-boards
+returns-in-Stops-clause-boards g c =
+    stays_there c.args.self.now.game c.args.level.entry c.args.level.entry c.located.result refl c.located.ensures.entry
+
+pub returns-in-Won-clause-boards : goal.returns-in-Won-clause-boards
+returns-in-Won-clause-boards g c =
+    if_ok c.end_level-change.result c.end_level-change.ensures.boards (λ change fits. fits c.args.level.entry)

@@ -1,4 +1,4 @@
-use Rattle.std.proofs.Common.{◌≡◌, ◌∙◌, sym, ap}
+use Rattle.std.proofs.Common.{◌≡◌, ◌∙◌, sym, ap, ℕ, subst}
 use Rattle.ps_model.specs.board.Turns.{Script}
 use Rattle.ps_stage.specs.declared.locations.HistoryChange.{HistoryChange}
 use Rattle.ps_stage.specs.KeysShown.{key_end_step}
@@ -8,6 +8,7 @@ use Rattle.ps_stage.proofs.KeyChanges.{stopped_as}
 use Rattle.ps_stage.proofs.Results.{if_err, if_ok}
 use Rattle.ps_stage.proofs.Scripts.{same_script}
 use Rattle.ps_stage.specs.Meanings.{same_late, same_plain}
+use Rattle.ps_stage.specs.OwnBoards.{ChangeFits, IsForOthers}
 use Rattle.ps_stage.proofs.stage.Stage.follow_key.Goals as goal
 
 pub returns-in-Ok-clause-came : goal.returns-in-Ok-clause-came
@@ -55,3 +56,14 @@ pub finish_key-requires : goal.finish_key-requires
 finish_key-requires g c =
     c.in-Ok.ensures.basis ∙ c.requires
     ∙ sym (ap (λ (parts : SessionParts). basis_of g.B.Board.table_for parts.names) c.in-Ok.ensures.game)
+
+pub returns-in-Ok-clause-boards : goal.returns-in-Ok-clause-boards
+returns-in-Ok-clause-boards g c =
+    if_ok c.finish_key.result c.finish_key.ensures.boards (λ change fits.
+    subst (λ (parts : SessionParts). ChangeFits parts c.args.level.entry change) c.in-Ok.ensures.game
+    (subst (λ (entry : ℕ). ChangeFits c.end_key.new.self.game entry change) c.in-Ok.ensures.entry fits))
+
+pub returns-in-Ok-clause-elsewhere : goal.returns-in-Ok-clause-elsewhere
+returns-in-Ok-clause-elsewhere g c =
+    if_err c.finish_key.result c.finish_key.ensures.elsewhere (λ stop others.
+    subst (λ (parts : SessionParts). IsForOthers parts stop) c.in-Ok.ensures.game others)

@@ -1,4 +1,4 @@
-use Rattle.std.proofs.Common.{◌≡◌, ◌∙◌, List, sym, subst, ap, Bool}
+use Rattle.std.proofs.Common.{◌≡◌, ◌∙◌, List, sym, subst, ap, Bool, ℕ, refl}
 use Rattle.ps_model.specs.board.Grid.{Grid}
 use Rattle.ps_model.specs.board.Turns.{Script}
 use Rattle.ps_model.specs.session.Sessions.{Step, after}
@@ -9,6 +9,8 @@ use Rattle.ps_stage.specs.Standings.{Standing, play_of, script_for, with_done}
 use Rattle.ps_stage.specs.StepsShown.{IsStopped}
 use Rattle.ps_stage.proofs.KeyChanges.{done_taken}
 use Rattle.ps_stage.proofs.Results.{if_err, if_ok}
+use Rattle.ps_stage.specs.OwnBoards.{ChangeFits}
+use Rattle.ps_stage.proofs.OwnBoards.{stays_there}
 use Rattle.ps_stage.proofs.stage.Stage.follow_tried.Goals as goal
 
 pub returns-in-Done-clause-came : goal.returns-in-Done-clause-came
@@ -44,3 +46,15 @@ pub follow_key-change-requires : goal.follow_key-change-requires
 follow_key-change-requires g c =
     ap (λ (level : Standing). level.basis) (subst (IsNext c.args.level.now) c.in-Done.is c.requires.next)
     ∙ c.requires.basis
+
+pub returns-in_ok-location-in-Restarted-clause-boards : goal.returns-in_ok-location-in-Restarted-clause-boards
+returns-in_ok-location-in-Restarted-clause-boards g c =
+    stays_there c.args.self.now.game c.args.level.now.entry c.args.level.now.entry c.in_ok-location-in-Restarted.location
+    refl c.in_ok-location-in-Restarted.ensures.entry
+
+pub returns-in-Done-clause-boards : goal.returns-in-Done-clause-boards
+returns-in-Done-clause-boards g c =
+    let same : c.in-Done.next.entry ≡ c.args.level.now.entry =
+    ap (λ (level : Standing). level.entry) (subst (IsNext c.args.level.now) c.in-Done.is c.requires.next) in
+    if_ok c.follow_key-change.result c.follow_key-change.ensures.boards (λ change fits.
+    subst (λ (entry : ℕ). ChangeFits c.args.self.now.game entry change) same fits)

@@ -70,3 +70,7 @@ returns-in-StartAgain-clause-stopped g c =
     (after c.args.self.now.text (gone_on script (play_of history c.args.level.now) (pending_shown pending)))
     c.go_on_with_start.new.self.text)
     (sym c.in-StartAgain.is) (stops history))
+
+pub returns-in-LevelDone-clause-boards : goal.returns-in-LevelDone-clause-boards
+returns-in-LevelDone-clause-boards g c =
+    if_ok c.end_level.result c.end_level.ensures.boards (λ change fits. fits c.args.level.now.entry)

@@ -1,9 +1,10 @@
-use Rattle.std.proofs.Common.{◌∙◌, sym, ap}
+use Rattle.std.proofs.Common.{◌∙◌, sym, ap, ◌≡◌, ℕ, subst}
 use Rattle.ps_stage.specs.Standings.{SessionParts, StageValue, Standing, basis_of, script_for}
 use Rattle.ps_stage.proofs.KeyChanges.{key_gone_on, stopped_as}
 use Rattle.ps_stage.proofs.Results.{if_err, if_ok}
 use Rattle.ps_stage.proofs.Scripts.{same_script}
 use Rattle.ps_stage.specs.Meanings.{same_late, same_plain}
+use Rattle.ps_stage.specs.OwnBoards.{ChangeFits, IsForOthers}
 use Rattle.ps_stage.proofs.stage.Stage.go_on_with_key.Goals as goal
 
 pub finish_key-requires : goal.finish_key-requires
@@ -44,3 +45,18 @@ returns-clause-stopped g c =
     c.in_ok-next.ensures.copy c.in_ok-end.ensures.game (same_plain c.in_ok-end.ensures.meaning) (same_late c.in_ok-end.ensures.meaning)
     (c.in_ok-end.ensures.came history))
     (stops history c.args.level.now))
+
+pub returns-clause-boards : goal.returns-clause-boards
+returns-clause-boards g c =
+    let same : c.key_turns.new.level.entry ≡ c.args.level.now.entry =
+    c.in_ok-end.ensures.entry ∙ ap (λ (level : Standing). level.entry) c.in_ok-next.ensures.copy in
+    if_ok c.finish_key.result c.finish_key.ensures.boards (λ change fits.
+    subst (λ (parts : SessionParts). ChangeFits parts c.args.level.now.entry change)
+    (c.in_ok-end.ensures.game ∙ ap (λ (stage : StageValue). stage.game) c.in_ok-next.ensures.stage)
+    (subst (λ (entry : ℕ). ChangeFits c.key_turns.new.self.game entry change) same fits))
+
+pub returns-clause-elsewhere : goal.returns-clause-elsewhere
+returns-clause-elsewhere g c =
+    if_err c.finish_key.result c.finish_key.ensures.elsewhere (λ stop others.
+    subst (λ (parts : SessionParts). IsForOthers parts stop)
+    (c.in_ok-end.ensures.game ∙ ap (λ (stage : StageValue). stage.game) c.in_ok-next.ensures.stage) others)

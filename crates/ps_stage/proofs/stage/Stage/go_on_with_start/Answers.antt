@@ -3,6 +3,7 @@ use Rattle.ps_model.specs.session.Sessions.{Session, after}
 use Rattle.ps_model.specs.session.StartSteps.{start_turns}
 use Rattle.ps_stage.specs.Standings.{StageValue, Standing, script_for, play_of}
 use Rattle.ps_stage.specs.StepsShown.{came}
+use Rattle.ps_stage.proofs.OwnBoards.{stays_there}
 use Rattle.ps_stage.proofs.stage.Stage.go_on_with_start.Goals as goal
 
 pub returns-clause-basis : goal.returns-clause-basis
@@ -25,3 +26,9 @@ returns-clause-came g c history first =
     (sym c.in_ok-next.ensures.stage)
     ∙ c.in_ok-pending.ensures.came history
     ∙ ap (λ (session : Session). came session c.start_turns.new.self.text) (sym (c.located.ensures.shown history))
+
+pub returns-clause-boards : goal.returns-clause-boards
+returns-clause-boards g c =
+    stays_there c.args.self.now.game c.args.level.now.entry c.start_turns.new.level.entry c.located.result
+    (c.in_ok-pending.ensures.entry ∙ ap (λ (level : Standing). level.entry) c.in_ok-next.ensures.copy)
+    c.located.ensures.entry

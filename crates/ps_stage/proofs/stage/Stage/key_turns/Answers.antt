@@ -36,6 +36,7 @@ loop-left-preserved g c =
       game = c.in_ok-end.ensures.game ∙ c.loop-left.invariant.game;
       meaning = c.in_ok-end.ensures.meaning ∙ c.loop-left.invariant.meaning;
       basis = c.in_ok-end.ensures.basis ∙ c.loop-left.invariant.basis;
+      entry = c.in_ok-end.ensures.entry ∙ c.loop-left.invariant.entry;
       rest = λ history.
           one_more key_turns g.B.Board.table_for c.args.self.now.game c.loop-left.self.game
           (g.R.Rules.meant c.args.rules.now.plain) (g.R.Rules.meant c.args.rules.now.late)

@@ -1,4 +1,4 @@
-use Rattle.std.proofs.Common.{◌∙◌, ◌++◌, sym, ap}
+use Rattle.std.proofs.Common.{◌∙◌, ◌++◌, sym, ap, subst}
 use Rattle.std.specs.Fmt.{decimal}
 use Rattle.std.specs.Prelude.{codes}
 use Rattle.ps_model.specs.board.Turns.{Script}
@@ -9,6 +9,7 @@ use Rattle.ps_stage.specs.Standings.{StageValue, play_of, script_for}
 use Rattle.ps_stage.proofs.Entered.{done_entered}
 use Rattle.ps_stage.proofs.KeyChanges.{stopped_as}
 use Rattle.ps_stage.proofs.Results.{if_err, if_ok}
+use Rattle.ps_stage.specs.OwnBoards.{LocationFits, IsForOthers}
 use Rattle.ps_stage.proofs.stage.Stage.level_done.Goals as goal
 
 pub returns-clause-came : goal.returns-clause-came
@@ -48,3 +49,13 @@ returns-clause-stopped g c =
     ∙ ap (λ (stage : StageValue). after c.add_level_done.new.self
     (enter (script_for table_for stage.game plain late) c.next.result)) (sym c.self.view_is))
     stops)
+
+pub returns-clause-boards : goal.returns-clause-boards
+returns-clause-boards g c =
+    if_ok c.enter.result c.enter.ensures.boards (λ location fits before.
+    subst (λ (stage : StageValue). LocationFits stage.game before location) c.self.view_is (fits before))
+
+pub returns-clause-elsewhere : goal.returns-clause-elsewhere
+returns-clause-elsewhere g c =
+    if_err c.enter.result c.enter.ensures.elsewhere (λ stop others.
+    subst (λ (stage : StageValue). IsForOthers stage.game stop) c.self.view_is others)

@@ -1,10 +1,11 @@
-use Rattle.std.proofs.Common.{◌∙◌, sym, ap}
+use Rattle.std.proofs.Common.{◌∙◌, sym, ap, ℕ, subst}
 use Rattle.ps_model.specs.board.Turns.{Script}
 use Rattle.ps_model.specs.session.Sessions.{Session, after}
 use Rattle.ps_model.specs.session.StartSteps.{start_step}
 use Rattle.ps_stage.specs.Standings.{StageValue, play_of, script_for}
 use Rattle.ps_stage.specs.StepsShown.{came}
 use Rattle.ps_stage.proofs.Entered.{restarted_of}
+use Rattle.ps_stage.specs.OwnBoards.{HasEntry}
 use Rattle.ps_stage.proofs.stage.Stage.restart.Goals as goal
 
 pub returns-in-Ok-start_step-clause-came : goal.returns-in-Ok-start_step-clause-came
@@ -19,3 +20,8 @@ returns-in-Ok-start_step-clause-came g c history =
     (play_of history c.in-Ok.again) c.args.message)) (sym c.self.view_is)
     ∙ c.in-Ok-start_step.ensures.came history
     ∙ ap (λ (session : Session). came session c.start_step.new.self.text) (sym (c.located.ensures.shown history))
+
+pub returns-in-Ok-start_step-clause-entry : goal.returns-in-Ok-start_step-clause-entry
+returns-in-Ok-start_step-clause-entry g c =
+    subst (λ (entry : ℕ). HasEntry entry c.located.result)
+    (c.in-Ok-start_step.ensures.entry ∙ c.in-Ok.ensures.entry) c.located.ensures.entry

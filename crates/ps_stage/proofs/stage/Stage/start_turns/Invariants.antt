@@ -19,6 +19,7 @@ invariant-loop-left g l =
       game : l.self.game ≡ l.fn.self.game;
       meaning : meaning_of g.R.Rules l.rules ≡ meaning_of g.R.Rules l.fn.rules;
       basis : l.level.basis ≡ l.fn.level.basis;
+      entry : l.level.entry ≡ l.fn.level.entry;
       rest : (history : List Grid) → after l.fn.self.text (start_turns script l.most (play_of history l.fn.level)) ≡
           after l.self.text (start_turns script l.left (play_of history l.level));
     }

@@ -7,6 +7,7 @@ use Rattle.ps_stage.proofs.KeyChanges.{stopped_as, taken_of}
 use Rattle.ps_stage.proofs.Results.{if_err, if_ok}
 use Rattle.ps_stage.proofs.Scripts.{same_script}
 use Rattle.ps_stage.specs.Meanings.{same_late, same_plain}
+use Rattle.ps_stage.specs.OwnBoards.{ChangeFits, IsForOthers}
 use Rattle.ps_stage.proofs.stage.Stage.take_input.Goals as goal
 
 pub returns-clause-came : goal.returns-clause-came
@@ -48,3 +49,15 @@ pub follow_tried-requires-clause-next : goal.follow_tried-requires-clause-next
 follow_tried-requires-clause-next g c =
     subst (λ (level : Standing). IsNext level c.in_ok-tried.tried) (sym c.in_ok-tried.ensures.level)
     c.in_ok-tried.ensures.next
+
+pub returns-clause-boards : goal.returns-clause-boards
+returns-clause-boards g c =
+    if_ok c.follow_tried.result c.follow_tried.ensures.boards (λ change fits.
+    subst (λ (level : Standing). ChangeFits c.args.self.now.game level.entry change) c.in_ok-tried.ensures.level
+    (subst (λ (stage : StageValue). ChangeFits stage.game c.try_turn.new.level.entry change)
+    c.in_ok-tried.ensures.stage fits))
+
+pub returns-clause-elsewhere : goal.returns-clause-elsewhere
+returns-clause-elsewhere g c =
+    if_err c.follow_tried.result c.follow_tried.ensures.elsewhere (λ stop others.
+    subst (λ (stage : StageValue). IsForOthers stage.game stop) c.in_ok-tried.ensures.stage others)
