@@ -16,7 +16,7 @@ use Rattle.ps_command.specs.declared.stops.Stop.TheVariants as stop
 pub line_refused : (words : List Text) (why : Stop) (had : ReaderState) (before : WriterState) →
     IsFaultOfLine (matched words) why → EndsGiven words (Err why) had had before before
 line_refused words why had before fault =
-    inl (record { why = why; is = refl; fault = fault; untouched = (refl , refl) })
+    inl (record { why = why; is = refl; fault = fault; untouched = (refl, refl) })
 
 -- they ask for a task
 pub line_obeyed : (words : List Text) (task : Asked) (end : End) (had left : ReaderState) (before after : WriterState) →
