@@ -10,9 +10,9 @@ import re
 # How many lines a subtree has at least that is a part.
 LEAST_PART = 45_000
 # How many lines a function has at most that stands in each part that calls it: a part that plays keys, and another one. With fewer a
-# key costs up to a half more; parts that read texts or tell faults gain nothing by more.
+# key costs up to a half more, and a start up to a tenth.
 MOST_COPIED_AT_PLAY = 600
-MOST_COPIED = 150
+MOST_COPIED = 300
 # The crates of which no function is called for a key, or for the first frame of a level.
 NOT_AT_PLAY = re.compile(r'"(clap|ps_(causes|check|compile|describe|game|levels|names|report|rules|why)|ps_command::(acts|command|details|report_options|reporting))::')
 ROOT = "main"
