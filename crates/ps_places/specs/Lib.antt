@@ -16,3 +16,5 @@ pub mod WrittenTogether
 pub mod PartTargets
 pub mod Scratch
 pub mod InTurn
+pub mod AxisParts
+pub mod PartsOnLines

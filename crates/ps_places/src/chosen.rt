@@ -3,19 +3,19 @@
 
 ghost use Rattle.std.specs.Prelude.{◌≡◌, ℕ, ◌*◌, ◌<◌, ◌∷◌, [], IfSome, None, false, length, true};
 ghost use Rattle.ps_model.specs.board.Attempts.{Rewritten, rewritten_along};
-ghost use Rattle.ps_model.specs.declared.limits.TheConstants.{SIDE_LIMIT};
 ghost use Rattle.ps_match.specs.FixedParts.{fixed_part};
-ghost use Rattle.ps_program.specs.declared.rows.TheConstants.{PART_LIMIT};
 ghost use Rattle.ps_places.specs.Forgetting.{HaveForgotten, IsAmong, IsPlaceOf};
 ghost use Rattle.ps_places.specs.Lines.{line_count};
 ghost use Rattle.ps_places.specs.RowPlaces.{all_places, cells_meaning, part_sizes, place_at, place_fits, places_behind};
-ghost use Rattle.ps_places.specs.RowPlaces.{places_on_lines};
 ghost use Rattle.ps_places.specs.Spaced.{HasSpacedWay, IsSpaced};
-ghost use Rattle.ps_places.specs.Seeking.{AreLines, place_on, places_after};
+ghost use Rattle.ps_places.specs.Seeking.{AreLines, FitsFirstAt, FitsNowhere, places_from_line, places_past};
 ghost use Rattle.ps_places.specs.Starts.{HasLinesOf, HaveSameStarts, IsOnLine};
-ghost use Rattle.ps_places.specs.Ways.{from_first, positions_from};
+ghost use Rattle.ps_places.specs.Ways.{from_first};
 
+use crate::found_lines::FoundLines;
+use crate::lines::Line;
 use crate::parts::{behind_position, part_fits, rewrite_fitting_part, rewrite_part};
+use crate::parts_on_lines::PartsOnLine;
 use crate::scratch::RowScratch;
 use crate::ways::{first_way, next_way};
 use ps_match::{ColumnWords, Columns, Scan, recall_shape};
@@ -26,37 +26,37 @@ use ps_program::CompiledRow;
 fn seek<B: Scan>(
     board: &B,
     row: &CompiledRow,
-    lines: Columns<B::Words>,
-    starts: &[Columns<B::Words>],
+    found: &FoundLines<'_, Columns<B::Words>>,
     from: usize,
     way: &mut [u8],
 ) -> Option<u8>
-    requires lines { AreLines (B.grid board.now) row.now.axis lines }
-    requires starts { length starts.now ≡ PART_LIMIT * SIDE_LIMIT }
+    requires lines { AreLines (B.grid board.now) row.now.axis found.now.lines }
     requires way { length way.old ≡ length row.now.parts }
-    ensures some { let fits = place_fits (B.grid board.now) (B.table board.now) row.now.parts in
-        let height = (B.grid board.now).height in
-        let all = places_on_lines row.now.axis height row.now.parts starts.now (positions_from lines from) in
-        IfSome result (λ line. from_first fits all
-        ≡ place_on row.now.axis height row.now.parts line way.new
-        ∷ places_after row.now.axis height row.now.parts starts.now lines line way.new) }
-    ensures none { let fits = place_fits (B.grid board.now) (B.table board.now) row.now.parts in
-        let height = (B.grid board.now).height in
-        result ≡ None →
-        from_first fits (places_on_lines row.now.axis height row.now.parts starts.now (positions_from lines from))
-        ≡ [] }
-    ensures among { IfSome result (λ line. IsPlaceOf lines starts.now row.now.parts line way.new) }
+    ensures some { let all = places_from_line (B.grid board.now).height row.now found.now from in
+        IfSome result (λ line. FitsFirstAt B.Board board.now row.now found.now all line way.new) }
+    ensures none { let all = places_from_line (B.grid board.now).height row.now found.now from in
+        result ≡ None → FitsNowhere B.Board board.now row.now all }
+    ensures among { let f = found.now in
+        IfSome result (λ line. IsPlaceOf f.lines f.starts.now row.now.parts line way.new) }
     ensures line { IfSome result (λ line. line < line_count row.now.axis (B.grid board.now)) }
     ensures long { length way.new ≡ length way.old }
     ensures spaced { IfSome result (λ _line. IsSpaced (part_sizes row.now.parts) 0 way.new) }
 {
     let parts = row.parts.as_slice();
     let count = parts.len();
-    let mut left = behind_position(lines, from);
+    let starts = found.starts;
+    let mut left = behind_position(found.lines, from);
     while let Some(line) = left.take_first() {
         let at = line as usize * count;
         let sets = &starts[at..at + count];
-        if first_way(board, row.axis, line as u8, parts, sets, 0, way) {
+        let number = line as u8;
+        let axis = row.axis;
+        let on_line = PartsOnLine {
+            line: Line { axis, number },
+            parts,
+            sets,
+        };
+        if first_way(board, on_line, 0, way) {
             return Some(line as u8);
         }
     }
@@ -68,25 +68,17 @@ fn seek<B: Scan>(
 fn seek_on<B: Scan>(
     board: &B,
     row: &CompiledRow,
-    lines: Columns<B::Words>,
-    starts: &[Columns<B::Words>],
+    found: &FoundLines<'_, Columns<B::Words>>,
     line: u8,
     way: &mut [u8],
 ) -> Option<u8>
-    requires lines { AreLines (B.grid board.now) row.now.axis lines }
+    requires lines { AreLines (B.grid board.now) row.now.axis found.now.lines }
     requires line { line < line_count row.now.axis (B.grid board.now) }
-    requires starts { length starts.now ≡ PART_LIMIT * SIDE_LIMIT }
     requires way { length way.old ≡ length row.now.parts }
-    ensures some { let fits = place_fits (B.grid board.now) (B.table board.now) row.now.parts in
-        let height = (B.grid board.now).height in
-        let all = places_after row.now.axis height row.now.parts starts.now lines line way.old in
-        IfSome result (λ next. from_first fits all
-        ≡ place_on row.now.axis height row.now.parts next way.new
-        ∷ places_after row.now.axis height row.now.parts starts.now lines next way.new) }
-    ensures none { let fits = place_fits (B.grid board.now) (B.table board.now) row.now.parts in
-        let height = (B.grid board.now).height in
-        result ≡ None →
-        from_first fits (places_after row.now.axis height row.now.parts starts.now lines line way.old) ≡ [] }
+    ensures some { let all = places_past (B.grid board.now).height row.now found.now line way.old in
+        IfSome result (λ next. FitsFirstAt B.Board board.now row.now found.now all next way.new) }
+    ensures none { let all = places_past (B.grid board.now).height row.now found.now line way.old in
+        result ≡ None → FitsNowhere B.Board board.now row.now all }
     ensures line { IfSome result (λ next. next < line_count row.now.axis (B.grid board.now)) }
     ensures long { length way.new ≡ length way.old }
     ensures spaced { let sizes = part_sizes row.now.parts in
@@ -95,12 +87,19 @@ fn seek_on<B: Scan>(
     recall_shape(board);
     let parts = row.parts.as_slice();
     let count = parts.len();
+    let starts = found.starts;
     let at = line as usize * count;
     let sets = &starts[at..at + count];
-    if next_way(board, row.axis, line, parts, sets, way) {
+    let axis = row.axis;
+    let on_line = PartsOnLine {
+        line: Line { axis, number: line },
+        parts,
+        sets,
+    };
+    if next_way(board, on_line, way) {
         return Some(line);
     }
-    seek(board, row, lines, starts, usize::from(line) + 1, way)
+    seek(board, row, found, usize::from(line) + 1, way)
 }
 
 impl<W: ColumnWords> RowScratch<Columns<W>> {
@@ -121,7 +120,11 @@ impl<W: ColumnWords> RowScratch<Columns<W>> {
         let count = row.parts.as_slice().len();
         let mut way = self.way;
         let starts = self.starts.as_slice();
-        match seek(board, row, self.lines, starts, 0, &mut way[..count]) {
+        let found = FoundLines {
+            lines: self.lines,
+            starts,
+        };
+        match seek(board, row, &found, 0, &mut way[..count]) {
             Some(line) => {
                 self.line = line;
                 self.way = way;
@@ -161,7 +164,11 @@ impl<W: ColumnWords> RowScratch<Columns<W>> {
         let count = row.parts.as_slice().len();
         let mut way = self.way;
         let starts = self.starts.as_slice();
-        match seek_on(board, row, self.lines, starts, self.line, &mut way[..count]) {
+        let found = FoundLines {
+            lines: self.lines,
+            starts,
+        };
+        match seek_on(board, row, &found, self.line, &mut way[..count]) {
             Some(line) => {
                 self.line = line;
                 self.way = way;
@@ -177,14 +184,12 @@ impl<W: ColumnWords> RowScratch<Columns<W>> {
             result ≡ place_fits (B.grid board.now) (B.table board.now) row.now.parts place }
     {
         let parts = row.parts.as_slice();
+        let line = Line {
+            axis: row.axis,
+            number: self.line,
+        };
         for number in 0..parts.len() {
-            if !part_fits(
-                board,
-                row.axis,
-                self.line,
-                parts[number].as_slice(),
-                self.way[number],
-            ) {
+            if !part_fits(board, line, parts[number].as_slice(), self.way[number]) {
                 return false;
             }
         }
@@ -206,16 +211,14 @@ impl<W: ColumnWords> RowScratch<Columns<W>> {
         ensures fixed { fixed_part B.Board board.new ≡ fixed_part B.Board board.old }
     {
         let parts = row.parts.as_slice();
+        let line = Line {
+            axis: row.axis,
+            number: self.line,
+        };
         let mut any = changed;
         for number in 0..parts.len() {
-            any = rewrite_part(
-                board,
-                row.axis,
-                self.line,
-                parts[number].as_slice(),
-                self.way[number],
-                any,
-            );
+            let part = parts[number].as_slice();
+            any = rewrite_part(board, line, part, self.way[number], any);
         }
         any
     }
@@ -240,16 +243,14 @@ impl<W: ColumnWords> RowScratch<Columns<W>> {
     {
         recall_shape(board);
         let parts = row.parts.as_slice();
+        let line = Line {
+            axis: row.axis,
+            number: self.line,
+        };
         let mut any = changed;
         for number in 0..parts.len() {
-            any = rewrite_fitting_part(
-                board,
-                row.axis,
-                self.line,
-                parts[number].as_slice(),
-                self.way[number],
-                any,
-            );
+            let part = parts[number].as_slice();
+            any = rewrite_fitting_part(board, line, part, self.way[number], any);
         }
         any
     }

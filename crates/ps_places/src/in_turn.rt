@@ -14,7 +14,7 @@ ghost use Rattle.ps_places.specs.Lines.{part_meaning};
 ghost use Rattle.ps_places.specs.PartStarts.{AreStarts};
 
 use crate::columns::columns_down;
-use crate::rewriting::rewrite_row;
+use crate::rewriting::{PlacesOnRow, rewrite_row};
 use crate::scratch::RowScratch;
 use ps_match::{ColumnWords, Columns, Scan, recall_shape};
 use ps_program::{Axis, CompiledCell};
@@ -40,7 +40,12 @@ fn rewrite_fitting<B: Scan>(
     if fitting.is_empty() {
         return false;
     }
-    rewrite_row(board, Axis::Down, part, row, fitting, false)
+    let places = PlacesOnRow {
+        axis: Axis::Down,
+        row,
+        columns: fitting,
+    };
+    rewrite_row(board, part, &places, false)
 }
 
 /// Rewrites the places of a part that goes down, row by row of the board. Answers whether a cell changed.

@@ -7,6 +7,13 @@ ghost use Rattle.ps_places.specs.Lines.{cell_on, step_along};
 use ps_model::SIDE_LIMIT;
 use ps_program::Axis;
 
+/// A line of the board: the axis along which it lies, and its number, from 0 on, from the left or from the top.
+#[derive(Clone, Copy)]
+pub struct Line {
+    pub axis: Axis,
+    pub number: u8,
+}
+
 /// The numbers from one cell of a line to the next, on a board so high.
 pub fn step_along(axis: Axis, height: u32) -> u32
     requires { height ≤ SIDE_LIMIT }
@@ -20,13 +27,13 @@ pub fn step_along(axis: Axis, height: u32) -> u32
 }
 
 /// The number of the cell at a position of a line, on a board so high.
-pub fn cell_on(axis: Axis, height: u32, line: u8, position: u8) -> u32
+pub fn cell_on(line: Line, height: u32, position: u8) -> u32
     requires { height ≤ SIDE_LIMIT }
-    ensures value { result ≡ cell_on axis height line position }
+    ensures value { result ≡ cell_on line.axis height line.number position }
     ensures near { result ≤ 256 * SIDE_LIMIT + 256 }
 {
-    match axis {
-        Axis::Down => u32::from(line) * height + u32::from(position),
-        Axis::Right => u32::from(position) * height + u32::from(line),
+    match line.axis {
+        Axis::Down => u32::from(line.number) * height + u32::from(position),
+        Axis::Right => u32::from(position) * height + u32::from(line.number),
     }
 }

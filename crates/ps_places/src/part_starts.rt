@@ -8,15 +8,16 @@ ghost use Rattle.ps_program.specs.Axes.{direction_of};
 ghost use Rattle.ps_laws.specs.WholeRows.{HasCells};
 ghost use Rattle.ps_places.specs.Lines.{part_meaning};
 ghost use Rattle.ps_program.specs.declared.rows.Axis.TheVariants.{Down, Right};
-ghost use Rattle.ps_places.specs.Candidates.{BeginsOnlyOn};
-ghost use Rattle.ps_places.specs.PartStarts.{AreStarts, begins_at};
-ghost use Rattle.ps_places.specs.Starts.{AreWhere};
+ghost use Rattle.ps_places.specs.AxisParts.{BeginsIn, BeginsInEach, BeginsOn, BeginsOnNoOther};
+ghost use Rattle.ps_places.specs.PartStarts.{AreStarts};
 ghost use Rattle.ps_places.specs.RowsFound.{AreBothBehind, AreEmptyBetween, AreRowsBegun, AreRowsBelow, AreRowsBetween};
 ghost use Rattle.ps_places.specs.RowsFound.{BeginBetween, BeginOnRows, BeginsSomewhere, HaveBegun};
 ghost use Rattle.ps_places.specs.RowsFound.{rows_with_room};
 
+use crate::axis_parts::AxisPart;
 use crate::candidates::rows_of_part;
 use crate::columns::{columns_across, columns_down};
+use crate::row_spans::RowSpan;
 use crate::scratch::RowScratch;
 use ps_match::{ColumnWords, Columns, Scan, recall_shape};
 use ps_model::SIDE_LIMIT;
@@ -32,13 +33,6 @@ fn keep_behind<W: ColumnWords>(kept: &mut [Columns<W>], others: &[Columns<W>], s
     for place in 0..kept.len() {
         kept[place] = kept[place].both(others[place].behind(steps));
     }
-}
-
-/// Where a part begins: the rows of the board that have a place, and the columns of each.
-#[derive(Drop)]
-pub struct PartStarts<'s, S> {
-    pub rows: S,
-    pub columns: &'s [S],
 }
 
 /// Makes each set empty.
@@ -103,19 +97,13 @@ fn find_down<B: Scan>(
 
 /// The columns of a row of the board in which a part begins.
 #[inline(always)]
-fn starts_on_row<B: Scan>(
-    board: &B,
-    axis: Axis,
-    part: &[CompiledCell],
-    row: u32,
-) -> Columns<B::Words>
-    requires row { row < (B.grid board.now).height }
-    requires whole { HasCells part.now }
-    ensures { AreWhere (begins_at (B.grid board.now) (B.table board.now) axis part.now row) result }
+fn starts_on_row<B: Scan>(board: &B, part: &AxisPart<'_>, row: u32) -> Columns<B::Words>
+    requires { row < (B.grid board.now).height }
+    ensures { BeginsIn B.Board board.now part.now row result }
 {
-    match axis {
-        Axis::Down => columns_down(board, part, row),
-        Axis::Right => columns_across(board, part, row),
+    match part.axis {
+        Axis::Down => columns_down(board, part.cells, row),
+        Axis::Right => columns_across(board, part.cells, row),
     }
 }
 
@@ -155,45 +143,43 @@ fn end_of<W: ColumnWords>(rows: Columns<W>, first: u32, count: u32) -> u32
     end
 }
 
-/// Finds the columns in which a part begins, of the rows from the first one to the end, on all of which it has room.
+/// Finds the columns in which a part begins, of rows on all of which it has room. What is in `scanned` afterwards is
+/// anything.
 fn find_between<B: Scan>(
     board: &B,
-    axis: Axis,
-    part: &[CompiledCell],
-    first: u32,
-    end: u32,
+    part: &AxisPart<'_>,
+    span: RowSpan,
     starts: &mut [Columns<B::Words>],
     scanned: &mut [Columns<B::Words>],
 )
-    requires whole { HasCells part.now }
-    requires some { first < end }
-    requires rows { end ≤ rows_with_room axis (B.grid board.now).height (length part.now) }
+    requires rows { span.end ≤ rows_with_room part.now.axis (B.grid board.now).height (length part.now.cells.now) }
     requires room { SIDE_LIMIT ≤ length starts.old }
     requires scanned { SIDE_LIMIT ≤ length scanned.old }
-    ensures begun { BeginBetween (B.grid board.now) (B.table board.now) axis part.now first end starts.new }
+    ensures begun { BeginsInEach B.Board board.now part.now span starts.new }
     ensures long { length starts.new ≡ length starts.old }
 {
     recall_shape(board);
+    let first = span.first;
+    let end = span.end;
     if end == first + 1 {
-        starts[first as usize] = starts_on_row(board, axis, part, first);
+        starts[first as usize] = starts_on_row(board, part, first);
         return;
     }
     let starts = &mut starts[first as usize..end as usize];
     let scanned = &mut scanned[first as usize..end as usize];
-    match axis {
-        Axis::Down => find_down(board, part, first, starts, scanned),
-        Axis::Right => find_across(board, part, first, starts, scanned),
+    match part.axis {
+        Axis::Down => find_down(board, part.cells, first, starts, scanned),
+        Axis::Right => find_across(board, part.cells, first, starts, scanned),
     }
 }
 
-/// Whether no set of the rows from the first one to the end has a column. All are looked at in one go, without a test
-/// for each.
-fn are_empty<W: ColumnWords>(starts: &[Columns<W>], first: u32, end: u32) -> bool
-    requires { end ≤ length starts.now }
-    ensures { result ≡ true → AreEmptyBetween first end starts.now }
+/// Whether no set of a span of rows has a column. All are looked at in one go, without a test for each.
+fn are_empty<W: ColumnWords>(starts: &[Columns<W>], span: RowSpan) -> bool
+    requires { span.end ≤ length starts.now }
+    ensures { result ≡ true → AreEmptyBetween span.first span.end starts.now }
 {
     let mut joined = Columns::none();
-    for row in first as usize..end as usize {
+    for row in span.first as usize..span.end as usize {
         joined = joined.either(starts[row]);
     }
     joined.is_empty()
@@ -212,21 +198,17 @@ fn rows_begun<W: ColumnWords>(rows: Columns<W>, starts: &[Columns<W>]) -> Column
     begun
 }
 
-/// Those of some rows, from the first one to the end, whose sets have a column. Where the first row has none, as a rule
-/// no other one has.
+/// Those of some rows of a span whose sets have a column. Where the first row has none, there is mostly none at all.
 fn begun_between<W: ColumnWords>(
     rows: Columns<W>,
-    first: u32,
-    end: u32,
+    span: RowSpan,
     starts: &[Columns<W>],
 ) -> Columns<W>
-    requires some { first < end }
-    requires below { end ≤ SIDE_LIMIT }
     requires room { SIDE_LIMIT ≤ length starts.now }
-    requires between { AreRowsBetween rows first end }
+    requires between { AreRowsBetween rows span.first span.end }
     ensures { AreRowsBegun rows starts.now result }
 {
-    if starts[first as usize].is_empty() && are_empty(starts, first, end) {
+    if starts[span.first as usize].is_empty() && are_empty(starts, span) {
         return Columns::none();
     }
     rows_begun(rows, starts)
@@ -246,22 +228,19 @@ fn have_begun<W: ColumnWords>(rows: Columns<W>, starts: &[Columns<W>]) -> bool
     false
 }
 
-/// Whether one of some rows, from the first one to the end, has a set with a column. Where the first row has none, as a
-/// rule no other one has.
+/// Whether one of some rows of a span has a set with a column. Where the first row has none, there is mostly none at
+/// all.
 fn have_begun_between<W: ColumnWords>(
     rows: Columns<W>,
-    first: u32,
-    end: u32,
+    span: RowSpan,
     starts: &[Columns<W>],
 ) -> bool
-    requires some { first < end }
-    requires below { end ≤ SIDE_LIMIT }
     requires room { SIDE_LIMIT ≤ length starts.now }
-    requires between { AreRowsBetween rows first end }
+    requires between { AreRowsBetween rows span.first span.end }
     ensures { HaveBegun rows starts.now result }
 {
-    let is_first_empty = starts[first as usize].is_empty();
-    if is_first_empty && are_empty(starts, first, end) {
+    let is_first_empty = starts[span.first as usize].is_empty();
+    if is_first_empty && are_empty(starts, span) {
         return false;
     }
     have_begun(rows, starts)
@@ -271,22 +250,21 @@ fn have_begun_between<W: ColumnWords>(
 #[inline(always)]
 fn find_on_row<B: Scan>(
     board: &B,
-    axis: Axis,
-    part: &[CompiledCell],
+    part: &AxisPart<'_>,
     rows: Columns<B::Words>,
     first: u32,
     starts: &mut [Columns<B::Words>],
 ) -> Columns<B::Words>
-    requires whole { HasCells part.now }
     requires row { first < (B.grid board.now).height }
     requires only { (row : ℕ) → column_at rows row ≡ true → row ≡ first }
     requires room { SIDE_LIMIT ≤ length starts.old }
-    ensures begun { BeginBetween (B.grid board.now) (B.table board.now) axis part.now first (first + 1) starts.new }
+    ensures begun { let grid = B.grid board.now in
+        BeginBetween grid (B.table board.now) part.now.axis part.now.cells.now first (first + 1) starts.new }
     ensures rows { AreRowsBegun rows starts.new result }
     ensures long { length starts.new ≡ length starts.old }
 {
     recall_shape(board);
-    let columns = starts_on_row(board, axis, part, first);
+    let columns = starts_on_row(board, part, first);
     starts[first as usize] = columns;
     if columns.is_empty() {
         return Columns::none();
@@ -317,29 +295,28 @@ pub fn begins_nowhere<B: Scan>(board: &B, axis: Axis, part: &[CompiledCell]) -> 
 #[inline(never)]
 fn find_on_rows<B: Scan>(
     board: &B,
-    axis: Axis,
-    part: &[CompiledCell],
+    part: &AxisPart<'_>,
     having: Columns<B::Words>,
     starts: &mut [Columns<B::Words>],
     scanned: &mut [Columns<B::Words>],
 ) -> Columns<B::Words>
-    requires whole { HasCells part.now }
-    requires only { BeginsOnlyOn (B.grid board.now) (B.table board.now) axis part.now having }
+    requires only { BeginsOnNoOther B.Board board.now part.now having }
     requires room { SIDE_LIMIT ≤ length starts.old }
     requires scanned { SIDE_LIMIT ≤ length scanned.old }
-    ensures starts { AreStarts (B.grid board.now) (B.table board.now) axis part.now result starts.new }
+    ensures starts { BeginsOn B.Board board.now part.now result starts.new }
     ensures long { length starts.new ≡ length starts.old }
 {
     let (_width, height) = board.size();
-    let count = rows_with_room(axis, height, part.len());
+    let count = rows_with_room(part.axis, height, part.cells.len());
     let rows = having.both(Columns::below(count));
     let mut left = rows;
     let Some(first) = left.take_first() else {
         return rows;
     };
     let end = end_of(rows, first, count);
-    find_between(board, axis, part, first, end, starts, scanned);
-    begun_between(rows, first, end, starts)
+    let span = RowSpan { first, end };
+    find_between(board, part, span, starts, scanned);
+    begun_between(rows, span, starts)
 }
 
 /// Whether a part begins on one of several rows of the board, where it begins on no other. What is in `starts` and
@@ -347,29 +324,28 @@ fn find_on_rows<B: Scan>(
 #[inline(never)]
 fn begins_on_rows<B: Scan>(
     board: &B,
-    axis: Axis,
-    part: &[CompiledCell],
+    part: &AxisPart<'_>,
     having: Columns<B::Words>,
     starts: &mut [Columns<B::Words>],
     scanned: &mut [Columns<B::Words>],
 ) -> bool
-    requires whole { HasCells part.now }
-    requires only { BeginsOnlyOn (B.grid board.now) (B.table board.now) axis part.now having }
+    requires only { BeginsOnNoOther B.Board board.now part.now having }
     requires room { SIDE_LIMIT ≤ length starts.old }
     requires scanned { SIDE_LIMIT ≤ length scanned.old }
-    ensures begins { BeginsSomewhere (B.grid board.now) (B.table board.now) axis part.now result }
+    ensures begins { BeginsSomewhere (B.grid board.now) (B.table board.now) part.now.axis part.now.cells.now result }
     ensures long { length starts.new ≡ length starts.old }
 {
     let (_width, height) = board.size();
-    let count = rows_with_room(axis, height, part.len());
+    let count = rows_with_room(part.axis, height, part.cells.len());
     let rows = having.both(Columns::below(count));
     let mut left = rows;
     let Some(first) = left.take_first() else {
         return false;
     };
     let end = end_of(rows, first, count);
-    find_between(board, axis, part, first, end, starts, scanned);
-    have_begun_between(rows, first, end, starts)
+    let span = RowSpan { first, end };
+    find_between(board, part, span, starts, scanned);
+    have_begun_between(rows, span, starts)
 }
 
 /// Finds the columns of each of some rows of the board in which a part begins, where it begins on no other, and answers
@@ -380,17 +356,15 @@ fn begins_on_rows<B: Scan>(
 #[inline(always)]
 fn find_rows_among<B: Scan>(
     board: &B,
-    axis: Axis,
-    part: &[CompiledCell],
+    part: &AxisPart<'_>,
     having: Columns<B::Words>,
     starts: &mut [Columns<B::Words>],
     scanned: &mut [Columns<B::Words>],
 ) -> Columns<B::Words>
-    requires whole { HasCells part.now }
-    requires only { BeginsOnlyOn (B.grid board.now) (B.table board.now) axis part.now having }
+    requires only { BeginsOnNoOther B.Board board.now part.now having }
     requires room { SIDE_LIMIT ≤ length starts.old }
     requires scanned { SIDE_LIMIT ≤ length scanned.old }
-    ensures starts { AreStarts (B.grid board.now) (B.table board.now) axis part.now result starts.new }
+    ensures starts { BeginsOn B.Board board.now part.now result starts.new }
     ensures long { length starts.new ≡ length starts.old }
 {
     let (_width, height) = board.size();
@@ -401,12 +375,12 @@ fn find_rows_among<B: Scan>(
         return rows;
     };
     if !left.is_empty() {
-        return find_on_rows(board, axis, part, rows, starts, scanned);
+        return find_on_rows(board, part, rows, starts, scanned);
     }
     if height <= first {
         return Columns::none();
     }
-    find_on_row(board, axis, part, rows, first, starts)
+    find_on_row(board, part, rows, first, starts)
 }
 
 /// Finds the columns of each row of the board in which one of several parts begins, and answers the rows that have one.
@@ -414,19 +388,17 @@ fn find_rows_among<B: Scan>(
 #[inline(never)]
 pub fn find_rows<B: Scan>(
     board: &B,
-    axis: Axis,
-    part: &[CompiledCell],
+    part: &AxisPart<'_>,
     starts: &mut [Columns<B::Words>],
     scanned: &mut [Columns<B::Words>],
 ) -> Columns<B::Words>
-    requires whole { HasCells part.now }
     requires room { SIDE_LIMIT ≤ length starts.old }
     requires scanned { SIDE_LIMIT ≤ length scanned.old }
-    ensures starts { AreStarts (B.grid board.now) (B.table board.now) axis part.now result starts.new }
+    ensures starts { BeginsOn B.Board board.now part.now result starts.new }
     ensures long { length starts.new ≡ length starts.old }
 {
-    let rows = rows_of_part(board, axis, part);
-    find_rows_among(board, axis, part, rows, starts, scanned)
+    let rows = rows_of_part(board, part.axis, part.cells);
+    find_rows_among(board, part, rows, starts, scanned)
 }
 
 impl<W: ColumnWords> RowScratch<Columns<W>> {
@@ -453,15 +425,12 @@ impl<W: ColumnWords> RowScratch<Columns<W>> {
         if rows.is_empty() {
             return Columns::none();
         }
-        find_rows_among(
-            board,
-            axis,
-            part,
-            rows,
-            self.starts.as_mut_slice(),
-            self.scanned.as_mut_slice(),
-        )
+        let part = AxisPart { axis, cells: part };
+        let starts = self.starts.as_mut_slice();
+        let scanned = self.scanned.as_mut_slice();
+        find_rows_among(board, &part, rows, starts, scanned)
     }
+
     /// Whether the only part of a row begins somewhere as the board is. No memory is taken.
     #[inline(always)]
     pub fn has_part<B: Scan<Words = W>>(
@@ -481,11 +450,12 @@ impl<W: ColumnWords> RowScratch<Columns<W>> {
         if rows.is_empty() {
             return false;
         }
+        let part = AxisPart { axis, cells: part };
         let starts = self.starts.as_mut_slice();
         let scanned = self.scanned.as_mut_slice();
         if rows.has_few() {
-            return !find_rows_among(board, axis, part, rows, starts, scanned).is_empty();
+            return !find_rows_among(board, &part, rows, starts, scanned).is_empty();
         }
-        begins_on_rows(board, axis, part, rows, starts, scanned)
+        begins_on_rows(board, &part, rows, starts, scanned)
     }
 }

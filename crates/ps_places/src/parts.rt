@@ -13,7 +13,7 @@ ghost use Rattle.ps_places.specs.Lines.{cell_meaning, line_cells, line_count, pa
 ghost use Rattle.ps_places.specs.Ways.{from_first, positions_from};
 
 use crate::columns::columns_across;
-use crate::lines::{cell_on, step_along};
+use crate::lines::{Line, cell_on, step_along};
 use ps_match::{ColumnWords, Columns, Scan};
 use ps_model::SIDE_LIMIT;
 use ps_program::{Axis, CompiledCell};
@@ -22,18 +22,12 @@ use ps_program::{Axis, CompiledCell};
 const CELL_LIMIT: u32 = SIDE_LIMIT * SIDE_LIMIT;
 
 /// Whether a part fits, its first cell at a position of a line.
-pub fn part_fits<B: Scan>(
-    board: &B,
-    axis: Axis,
-    line: u8,
-    part: &[CompiledCell],
-    position: u8,
-) -> bool
-    ensures { result ≡ part_fits (B.grid board.now) (B.table board.now) axis line part.now position }
+pub fn part_fits<B: Scan>(board: &B, line: Line, part: &[CompiledCell], position: u8) -> bool
+    ensures { result ≡ part_fits (B.grid board.now) (B.table board.now) line.axis line.number part.now position }
 {
     let (_width, height) = board.size();
-    let step = step_along(axis, height);
-    let mut number = cell_on(axis, height, line, position);
+    let step = step_along(line.axis, height);
+    let mut number = cell_on(line, height, position);
     for cell in part {
         if CELL_LIMIT <= number {
             return false;
@@ -50,21 +44,20 @@ pub fn part_fits<B: Scan>(
 /// changed, or something had `changed` before.
 pub fn rewrite_part<B: Scan>(
     board: &mut B,
-    axis: Axis,
-    line: u8,
+    line: Line,
     part: &[CompiledCell],
     position: u8,
     changed: bool,
 ) -> bool
     ensures rewritten { let before : Rewritten = record { grid = B.grid board.old; changed = changed } in
-        let cells = line_cells axis (B.grid board.old).height line position (length part.now) in
+        let cells = line_cells line.axis (B.grid board.old).height line.number position (length part.now) in
         record { grid = B.grid board.new; changed = result }
         ≡ rewritten_along before (part_meaning (B.table board.old) part.now) cells }
     ensures fixed { fixed_part B.Board board.new ≡ fixed_part B.Board board.old }
 {
     let (_width, height) = board.size();
-    let step = step_along(axis, height);
-    let mut number = cell_on(axis, height, line, position);
+    let step = step_along(line.axis, height);
+    let mut number = cell_on(line, height, position);
     let mut any = changed;
     for cell in part {
         if CELL_LIMIT <= number {
@@ -98,22 +91,21 @@ fn write_fitting<B: Scan>(board: &mut B, cell: &CompiledCell, number: u32, chang
 /// one changed, or something had `changed` before. A cell that stays as it is where it fits isn't written.
 pub fn rewrite_fitting_part<B: Scan>(
     board: &mut B,
-    axis: Axis,
-    line: u8,
+    line: Line,
     part: &[CompiledCell],
     position: u8,
     changed: bool,
 ) -> bool
-    requires { part_fits (B.grid board.old) (B.table board.old) axis line part.now position ≡ true }
+    requires { part_fits (B.grid board.old) (B.table board.old) line.axis line.number part.now position ≡ true }
     ensures rewritten { let before : Rewritten = record { grid = B.grid board.old; changed = changed } in
-        let cells = line_cells axis (B.grid board.old).height line position (length part.now) in
+        let cells = line_cells line.axis (B.grid board.old).height line.number position (length part.now) in
         record { grid = B.grid board.new; changed = result }
         ≡ rewritten_along before (part_meaning (B.table board.old) part.now) cells }
     ensures fixed { fixed_part B.Board board.new ≡ fixed_part B.Board board.old }
 {
     let (_width, height) = board.size();
-    let step = step_along(axis, height);
-    let mut number = cell_on(axis, height, line, position);
+    let step = step_along(line.axis, height);
+    let mut number = cell_on(line, height, position);
     let mut any = changed;
     for cell in part {
         if CELL_LIMIT <= number {
@@ -168,9 +160,13 @@ fn least_down<B: Scan>(
     ensures none { result ≡ None →
         from_first (part_fits (B.grid board.now) (B.table board.now) Down line part.now) (set_columns set) ≡ [] }
 {
+    let column = Line {
+        axis: Axis::Down,
+        number: line,
+    };
     let mut left = set;
     while let Some(position) = left.take_first() {
-        if part_fits(board, Axis::Down, line, part, position as u8) {
+        if part_fits(board, column, part, position as u8) {
             return Some(position as u8);
         }
     }
@@ -180,27 +176,25 @@ fn least_down<B: Scan>(
 /// The least position of a line at which a part fits, among those of a set from one on.
 pub fn least_position<B: Scan>(
     board: &B,
-    axis: Axis,
-    line: u8,
+    line: Line,
     part: &[CompiledCell],
     set: Columns<B::Words>,
     from: usize,
 ) -> Option<u8>
-    requires line { line < line_count axis (B.grid board.now) }
+    requires line { line.number < line_count line.axis (B.grid board.now) }
     requires whole { HasCells part.now }
-    ensures some { IfSome result (λ position.
-        from_first (part_fits (B.grid board.now) (B.table board.now) axis line part.now) (positions_from set from)
-        ≡ position ∷ positions_from set (position + 1)) }
-    ensures none { result ≡ None →
-        from_first (part_fits (B.grid board.now) (B.table board.now) axis line part.now) (positions_from set from)
-        ≡ [] }
+    ensures some { let fits = part_fits (B.grid board.now) (B.table board.now) line.axis line.number part.now in
+        IfSome result (λ position.
+        from_first fits (positions_from set from) ≡ position ∷ positions_from set (position + 1)) }
+    ensures none { let fits = part_fits (B.grid board.now) (B.table board.now) line.axis line.number part.now in
+        result ≡ None → from_first fits (positions_from set from) ≡ [] }
 {
     let left = behind_position(set, from);
     if left.is_empty() {
         return None;
     }
-    match axis {
-        Axis::Down => least_down(board, line, part, left),
-        Axis::Right => least_across(board, line, part, left),
+    match line.axis {
+        Axis::Down => least_down(board, line.number, part, left),
+        Axis::Right => least_across(board, line.number, part, left),
     }
 }

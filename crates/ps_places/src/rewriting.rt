@@ -16,54 +16,63 @@ use crate::scratch::RowScratch;
 use ps_match::{ColumnWords, Columns, Scan, recall_shape, rewrite_ahead};
 use ps_program::{Axis, CompiledCell};
 
-/// Rewrites one cell of a part, `steps` behind the first one, of all places that begin in some columns of a row
-/// of the board, if that can change one. Answers whether one changed, or something had `changed` before.
+/// Places of a part that begin on one row of the board: the axis along which they lie, the row, and their columns.
+#[derive(Drop)]
+pub struct PlacesOnRow<S> {
+    pub axis: Axis,
+    pub row: u32,
+    pub columns: S,
+}
+
+/// Rewrites one cell of a part, `steps` behind the first one, of all places that begin on a row of the board, if that
+/// can change one. Answers whether one changed, or something had `changed` before.
 fn rewrite_cell<B: Scan>(
     board: &mut B,
-    axis: Axis,
     cell: &CompiledCell,
-    row: u32,
-    columns: Columns<B::Words>,
+    places: &PlacesOnRow<Columns<B::Words>>,
     steps: u32,
     changed: bool,
 ) -> bool
-    requires { row_at axis row steps < (B.grid board.old).height }
+    requires { row_at places.now.axis places.now.row steps < (B.grid board.old).height }
     ensures rewritten { let before : Rewritten = record { grid = B.grid board.old; changed = changed } in
+        let p = places.now in
         record { grid = B.grid board.new; changed = result }
-        ≡ cell_changed before (B.table board.old) axis row columns steps cell.now }
+        ≡ cell_changed before (B.table board.old) p.axis p.row p.columns steps cell.now }
     ensures fixed { fixed_part B.Board board.new ≡ fixed_part B.Board board.old }
 {
     recall_shape(board);
     if !cell.changes {
         return changed;
     }
-    match axis {
-        Axis::Down => changed | board.rewrite(&cell.write, row + steps, &columns),
-        Axis::Right => changed | rewrite_ahead(board, &cell.write, row, columns, steps),
+    match places.axis {
+        Axis::Down => changed | board.rewrite(&cell.write, places.row + steps, &places.columns),
+        Axis::Right => {
+            changed | rewrite_ahead(board, &cell.write, places.row, places.columns, steps)
+        }
     }
 }
 
-/// Rewrites all places of a part that begin in some columns of a row of the board, one cell of the part after the
-/// other. Answers whether a cell changed, or something had `changed` before.
+/// Rewrites all places of a part that begin on a row of the board, one cell of the part after the other. Answers
+/// whether a cell changed, or something had `changed` before.
 pub fn rewrite_row<B: Scan>(
     board: &mut B,
-    axis: Axis,
     part: &[CompiledCell],
-    row: u32,
-    columns: Columns<B::Words>,
+    places: &PlacesOnRow<Columns<B::Words>>,
     changed: bool,
 ) -> bool
     requires few { length part.now ≤ SIDE_LIMIT }
-    requires room { (k : ℕ) → k < length part.now → row_at axis row k < (B.grid board.old).height }
+    requires room { let p = places.now in
+        (k : ℕ) → k < length part.now → row_at p.axis p.row k < (B.grid board.old).height }
     ensures rewritten { let before : Rewritten = record { grid = B.grid board.old; changed = changed } in
+        let p = places.now in
         record { grid = B.grid board.new; changed = result }
-        ≡ cells_changed before (B.table board.old) axis row columns 0 part.now }
+        ≡ cells_changed before (B.table board.old) p.axis p.row p.columns 0 part.now }
     ensures fixed { fixed_part B.Board board.new ≡ fixed_part B.Board board.old }
 {
     let mut any = changed;
     let mut steps = 0;
     for cell in part {
-        any = rewrite_cell(board, axis, cell, row, columns, steps, any);
+        any = rewrite_cell(board, cell, places, steps, any);
         steps += 1;
     }
     any
@@ -92,7 +101,8 @@ fn rewrite_rows<B: Scan>(
     let mut changed = false;
     let mut left = rows;
     while let Some(row) = left.take_first() {
-        changed = rewrite_row(board, axis, part, row, starts[row as usize], changed);
+        let columns = starts[row as usize];
+        changed = rewrite_row(board, part, &PlacesOnRow { axis, row, columns }, changed);
     }
     changed
 }

@@ -8,17 +8,20 @@ ghost use Rattle.ps_board.specs.ColumnSets.{column_at, columns_below, no_columns
 ghost use Rattle.ps_program.specs.Axes.{direction_of};
 ghost use Rattle.ps_laws.specs.WholeRows.{HasCells};
 ghost use Rattle.ps_program.specs.declared.rows.Axis.TheVariants.{Down, Right};
+ghost use Rattle.ps_places.specs.AxisParts.{AreBegun, AreFoundFor, IsFoundOn};
 ghost use Rattle.ps_places.specs.FoundStarts.{AreLinesFound, AreTakenOver, IsPartFound, IsRowAdded};
 ghost use Rattle.ps_places.specs.Lines.{line_count};
-ghost use Rattle.ps_places.specs.PartStarts.{AreStarts};
 ghost use Rattle.ps_places.specs.RowsFound.{AreRowsBelow};
 ghost use Rattle.ps_places.specs.RowPlaces.{all_places, row_meaning};
 ghost use Rattle.ps_places.specs.Starts.{HasLinesOf};
 
+use crate::axis_parts::{AxisPart, AxisParts};
+use crate::begun::PartStarts;
 use crate::candidates::rows_of_part;
 use crate::columns::columns_across;
 use crate::leaving_alone::kept_on_row;
-use crate::part_starts::{PartStarts, find_rows};
+use crate::part_numbers::PartNumber;
+use crate::part_starts::find_rows;
 use crate::scratch::ScratchFor;
 use ps_match::{ColumnWords, Columns, Scan, recall_shape};
 use ps_program::{Axis, CompiledCell, CompiledRow};
@@ -36,21 +39,19 @@ fn set_before<W: ColumnWords>(starts: &[Columns<W>], at: usize, known: bool) -> 
 /// place of what stood there in the others.
 fn add_row<W: ColumnWords>(
     starts: &mut [Columns<W>],
-    count: usize,
-    number: usize,
+    part: PartNumber,
     columns: Columns<W>,
     found: Columns<W>,
     row: u32,
 )
-    requires one { number < count }
     requires row { row < W.limit }
-    requires room { SIDE_LIMIT * count ≤ length starts.old }
-    ensures added { IsRowAdded starts.old count number columns found row starts.new }
+    requires room { SIDE_LIMIT * part.count ≤ length starts.old }
+    ensures added { IsRowAdded starts.old part.count part.number columns found row starts.new }
     ensures long { length starts.new ≡ length starts.old }
 {
     let mut left = columns;
     while let Some(column) = left.take_first() {
-        let at = column as usize * count + number;
+        let at = column as usize * part.count + part.number;
         let before = set_before(starts, at, found.has(column));
         starts[at] = before.with(row, true);
     }
@@ -60,21 +61,15 @@ fn add_row<W: ColumnWords>(
 /// some columns, and answers the columns in which it has one.
 fn take_down<B: Scan>(
     board: &B,
-    part: &[CompiledCell],
-    begun: &PartStarts<'_, Columns<B::Words>>,
+    begun: &PartStarts<'_, '_, Columns<B::Words>>,
     within: Columns<B::Words>,
     starts: &mut [Columns<B::Words>],
-    count: usize,
-    number: usize,
+    part: PartNumber,
 ) -> Columns<B::Words>
-    requires whole { HasCells part.now }
-    requires begun { let b = begun.now in
-        AreStarts (B.grid board.now) (B.table board.now) Down part.now b.rows b.columns.now }
-    requires one { number < count }
-    requires room { SIDE_LIMIT * count ≤ length starts.old }
-    requires inside { (x : ℕ) → column_at within x ≡ true → x < (B.grid board.now).width }
-    ensures found { let grid = B.grid board.now in
-        IsPartFound grid (B.table board.now) Down part.now within count number starts.old starts.new result }
+    requires begun { AreBegun B.Board board.now Down begun.now }
+    requires room { SIDE_LIMIT * part.count ≤ length starts.old }
+    requires inside { AreRowsBelow within (B.grid board.now).width }
+    ensures found { IsFoundOn B.Board board.now Down begun.now part within starts.old starts.new result }
     ensures long { length starts.new ≡ length starts.old }
 {
     let (_width, height) = board.size();
@@ -82,7 +77,7 @@ fn take_down<B: Scan>(
     let mut found = Columns::none();
     while let Some(row) = left.take_first() {
         let columns = kept_on_row(begun.rows, begun.columns, row).both(within);
-        add_row(starts, count, number, columns, found, row);
+        add_row(starts, part, columns, found, row);
         found = found.either(columns);
     }
     found
@@ -90,22 +85,21 @@ fn take_down<B: Scan>(
 
 /// Makes the sets of a part on some lines those that are kept of the rows with these numbers.
 fn take_rows<W: ColumnWords>(
-    begun: &PartStarts<'_, Columns<W>>,
+    begun: &PartStarts<'_, '_, Columns<W>>,
     lines: Columns<W>,
     starts: &mut [Columns<W>],
-    count: usize,
-    number: usize,
+    part: PartNumber,
 )
-    requires one { number < count }
-    requires room { SIDE_LIMIT * count ≤ length starts.old }
+    requires room { SIDE_LIMIT * part.count ≤ length starts.old }
     requires lines { AreRowsBelow lines SIDE_LIMIT }
     ensures taken { let b = begun.now in
-        AreTakenOver b.rows b.columns.now lines count number starts.old starts.new }
+        AreTakenOver b.rows b.columns.now lines part.count part.number starts.old starts.new }
     ensures long { length starts.new ≡ length starts.old }
 {
     let mut left = lines;
     while let Some(row) = left.take_first() {
-        starts[row as usize * count + number] = kept_on_row(begun.rows, begun.columns, row);
+        let at = row as usize * part.count + part.number;
+        starts[at] = kept_on_row(begun.rows, begun.columns, row);
     }
 }
 
@@ -113,26 +107,20 @@ fn take_rows<W: ColumnWords>(
 /// some rows, and answers the rows on which it has one.
 fn take_across<B: Scan>(
     board: &B,
-    part: &[CompiledCell],
-    begun: &PartStarts<'_, Columns<B::Words>>,
+    begun: &PartStarts<'_, '_, Columns<B::Words>>,
     within: Columns<B::Words>,
     starts: &mut [Columns<B::Words>],
-    count: usize,
-    number: usize,
+    part: PartNumber,
 ) -> Columns<B::Words>
-    requires whole { HasCells part.now }
-    requires begun { let b = begun.now in
-        AreStarts (B.grid board.now) (B.table board.now) Right part.now b.rows b.columns.now }
-    requires one { number < count }
-    requires room { SIDE_LIMIT * count ≤ length starts.old }
-    requires inside { (x : ℕ) → column_at within x ≡ true → x < (B.grid board.now).height }
-    ensures found { let grid = B.grid board.now in
-        IsPartFound grid (B.table board.now) Right part.now within count number starts.old starts.new result }
+    requires begun { AreBegun B.Board board.now Right begun.now }
+    requires room { SIDE_LIMIT * part.count ≤ length starts.old }
+    requires inside { AreRowsBelow within (B.grid board.now).height }
+    ensures found { IsFoundOn B.Board board.now Right begun.now part within starts.old starts.new result }
     ensures long { length starts.new ≡ length starts.old }
 {
     recall_shape(board);
     let lines = within.both(begun.rows);
-    take_rows(begun, lines, starts, count, number);
+    take_rows(begun, lines, starts, part);
     lines
 }
 
@@ -140,27 +128,21 @@ fn take_across<B: Scan>(
 /// answers the lines on which it has one.
 fn take_part<B: Scan>(
     board: &B,
-    axis: Axis,
-    part: &[CompiledCell],
-    begun: &PartStarts<'_, Columns<B::Words>>,
+    begun: &PartStarts<'_, '_, Columns<B::Words>>,
     within: Columns<B::Words>,
     starts: &mut [Columns<B::Words>],
-    count: usize,
-    number: usize,
+    part: PartNumber,
 ) -> Columns<B::Words>
-    requires whole { HasCells part.now }
-    requires begun { let b = begun.now in
-        AreStarts (B.grid board.now) (B.table board.now) axis part.now b.rows b.columns.now }
-    requires one { number < count }
-    requires room { SIDE_LIMIT * count ≤ length starts.old }
-    requires inside { (x : ℕ) → column_at within x ≡ true → x < line_count axis (B.grid board.now) }
-    ensures found { let grid = B.grid board.now in
-        IsPartFound grid (B.table board.now) axis part.now within count number starts.old starts.new result }
+    requires begun { AreBegun B.Board board.now begun.now.part.axis begun.now }
+    requires room { SIDE_LIMIT * part.count ≤ length starts.old }
+    requires inside { AreRowsBelow within (line_count begun.now.part.axis (B.grid board.now)) }
+    ensures found { let axis = begun.now.part.axis in
+        IsFoundOn B.Board board.now axis begun.now part within starts.old starts.new result }
     ensures long { length starts.new ≡ length starts.old }
 {
-    match axis {
-        Axis::Down => take_down(board, part, begun, within, starts, count, number),
-        Axis::Right => take_across(board, part, begun, within, starts, count, number),
+    match begun.part.axis {
+        Axis::Down => take_down(board, begun, within, starts, part),
+        Axis::Right => take_across(board, begun, within, starts, part),
     }
 }
 
@@ -186,26 +168,25 @@ fn put_set<W: ColumnWords>(starts: &mut [Columns<W>], at: usize, set: Columns<W>
 /// Finds the positions of a part that goes right, row by row of some rows, and answers the rows on which it has one.
 fn find_across<B: Scan>(
     board: &B,
-    part: &[CompiledCell],
+    cells: &[CompiledCell],
     lines: Columns<B::Words>,
     starts: &mut [Columns<B::Words>],
-    count: usize,
-    number: usize,
+    part: PartNumber,
 ) -> Columns<B::Words>
-    requires whole { HasCells part.now }
-    requires one { number < count }
-    requires room { SIDE_LIMIT * count ≤ length starts.old }
-    requires inside { (x : ℕ) → column_at lines x ≡ true → x < (B.grid board.now).height }
+    requires whole { HasCells cells.now }
+    requires room { SIDE_LIMIT * part.count ≤ length starts.old }
+    requires inside { AreRowsBelow lines (B.grid board.now).height }
     ensures found { let grid = B.grid board.now in
-        IsPartFound grid (B.table board.now) Right part.now lines count number starts.old starts.new result }
+        IsPartFound grid (B.table board.now) Right cells.now lines part.count part.number starts.old starts.new
+        result }
     ensures long { length starts.new ≡ length starts.old }
 {
     recall_shape(board);
     let mut found = lines;
     let mut left = lines;
     while let Some(row) = left.take_first() {
-        let columns = columns_across(board, part, row);
-        put_set(starts, row as usize * count + number, columns);
+        let columns = columns_across(board, cells, row);
+        put_set(starts, row as usize * part.count + part.number, columns);
         found = found.with(row, !columns.is_empty());
     }
     found
@@ -237,16 +218,14 @@ fn lines_of_masks<B: Scan>(
 
 /// The lines of a board on which parts that lie along an axis may begin: of those that go right the ones on which each
 /// may by what its cells ask for. A line that goes down has a cell of every row of the board, so that all are kept.
-fn lines_to_seek<B: Scan>(board: &B, axis: Axis, parts: &[List<CompiledCell>]) -> Columns<B::Words>
-    requires whole { All HasCells parts.now }
-    ensures { (starts : List (List Bool)) →
-        AreLinesFound (B.grid board.now) (B.table board.now) axis parts.now starts result 0 }
+fn lines_to_seek<B: Scan>(board: &B, row: &AxisParts<'_>) -> Columns<B::Words>
+    ensures { (starts : List (List Bool)) → AreFoundFor B.Board board.now row.now starts result 0 }
 {
     recall_shape(board);
-    let all = all_lines(board, axis);
-    match axis {
+    let all = all_lines(board, row.axis);
+    match row.axis {
         Axis::Down => all,
-        Axis::Right => lines_of_masks(board, parts, all),
+        Axis::Right => lines_of_masks(board, row.parts, all),
     }
 }
 
@@ -260,26 +239,24 @@ fn are_few_across<W: ColumnWords>(axis: Axis, lines: Columns<W>) -> bool
     }
 }
 
-/// Those of some lines on which the last of several parts begins, where it may begin on few rows of the board, and the
-/// first one on many: so the positions of many starts needn't be taken over. Elsewhere all these lines. What is in
-/// `columns` and `scanned` afterwards is anything.
+/// The lines of a board on which parts may begin, before one is looked for on each line. Where the last of several may
+/// begin on few rows of the board, and the first one on many, these are lines on which the last one begins: so the
+/// positions of many starts needn't be taken over. What is in `columns` and `scanned` afterwards is anything.
 fn lines_of_last<B: Scan>(
     board: &B,
-    axis: Axis,
-    parts: &[List<CompiledCell>],
-    lines: Columns<B::Words>,
+    row: &AxisParts<'_>,
     starts: &mut [Columns<B::Words>],
     columns: &mut [Columns<B::Words>],
     scanned: &mut [Columns<B::Words>],
 ) -> Columns<B::Words>
-    requires whole { All HasCells parts.now }
-    requires room { SIDE_LIMIT * length parts.now ≤ length starts.old }
+    requires room { SIDE_LIMIT * length row.now.parts.now ≤ length starts.old }
     requires columns { SIDE_LIMIT ≤ length columns.old }
     requires scanned { SIDE_LIMIT ≤ length scanned.old }
-    requires lines { AreLinesFound (B.grid board.now) (B.table board.now) axis parts.now starts.old lines 0 }
-    ensures lines { AreLinesFound (B.grid board.now) (B.table board.now) axis parts.now starts.new result 0 }
+    ensures lines { AreFoundFor B.Board board.now row.now starts.new result 0 }
     ensures long { length starts.new ≡ length starts.old }
 {
+    let lines = lines_to_seek(board, row);
+    let parts = row.parts;
     let count = parts.len();
     if count < 2 {
         return lines;
@@ -287,54 +264,69 @@ fn lines_of_last<B: Scan>(
     if lines.has_few() {
         return lines;
     }
-    let front = rows_of_part(board, axis, parts[0].as_slice());
+    let front = rows_of_part(board, row.axis, parts[0].as_slice());
     if front.has_few() {
         return lines;
     }
-    let part = parts[count - 1].as_slice();
-    let back = rows_of_part(board, axis, part);
+    let cells = parts[count - 1].as_slice();
+    let back = rows_of_part(board, row.axis, cells);
     if !back.has_few() {
         return lines;
     }
-    let rows = find_rows(board, axis, part, columns, scanned);
-    let begun = PartStarts { rows, columns };
-    take_part(board, axis, part, &begun, lines, starts, count, count - 1)
+    let part = AxisPart {
+        axis: row.axis,
+        cells,
+    };
+    let rows = find_rows(board, &part, columns, scanned);
+    let begun = PartStarts {
+        part,
+        rows,
+        columns,
+    };
+    let number = count - 1;
+    take_part(board, &begun, lines, starts, PartNumber { number, count })
 }
 
 /// Finds the positions of parts that lie along an axis, and answers the lines on which each part has one. What is in
 /// `columns` and `scanned` afterwards is anything.
 fn find_lines<B: Scan>(
     board: &B,
-    axis: Axis,
-    parts: &[List<CompiledCell>],
+    row: &AxisParts<'_>,
     starts: &mut [Columns<B::Words>],
     columns: &mut [Columns<B::Words>],
     scanned: &mut [Columns<B::Words>],
 ) -> Columns<B::Words>
-    requires whole { All HasCells parts.now }
-    requires room { SIDE_LIMIT * length parts.now ≤ length starts.old }
+    requires room { SIDE_LIMIT * length row.now.parts.now ≤ length starts.old }
     requires columns { SIDE_LIMIT ≤ length columns.old }
     requires scanned { SIDE_LIMIT ≤ length scanned.old }
-    ensures lines { let count = length parts.now in
-        AreLinesFound (B.grid board.now) (B.table board.now) axis parts.now starts.new result count }
+    ensures lines { AreFoundFor B.Board board.now row.now starts.new result (length row.now.parts.now) }
     ensures long { length starts.new ≡ length starts.old }
 {
     recall_shape(board);
+    let parts = row.parts;
     let count = parts.len();
-    let all = lines_to_seek(board, axis, parts);
-    let mut lines = lines_of_last(board, axis, parts, all, starts, columns, scanned);
+    let mut lines = lines_of_last(board, row, starts, columns, scanned);
     for number in 0..count {
         if lines.is_empty() {
             return lines;
         }
-        let part = parts[number].as_slice();
-        if are_few_across(axis, lines) {
-            lines = find_across(board, part, lines, starts, count, number);
+        let cells = parts[number].as_slice();
+        let place = PartNumber { number, count };
+        if are_few_across(row.axis, lines) {
+            lines = find_across(board, cells, lines, starts, place);
             continue;
         }
-        let rows = find_rows(board, axis, part, columns, scanned);
-        let begun = PartStarts { rows, columns };
-        lines = take_part(board, axis, part, &begun, lines, starts, count, number);
+        let part = AxisPart {
+            axis: row.axis,
+            cells,
+        };
+        let rows = find_rows(board, &part, columns, scanned);
+        let begun = PartStarts {
+            part,
+            rows,
+            columns,
+        };
+        lines = take_part(board, &begun, lines, starts, place);
     }
     lines
 }
@@ -350,8 +342,10 @@ pub fn find_starts<B: Scan>(board: &B, row: &CompiledRow, scratch: &mut ScratchF
     let parts = row.parts.as_slice();
     scratch.lines = find_lines(
         board,
-        row.axis,
-        parts,
+        &AxisParts {
+            axis: row.axis,
+            parts,
+        },
         scratch.starts.as_mut_slice(),
         scratch.fronts.as_mut_slice(),
         scratch.scanned.as_mut_slice(),

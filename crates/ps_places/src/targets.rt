@@ -3,19 +3,20 @@
 
 ghost use Rattle.std.specs.Prelude.{◌≡◌, ℕ, ◌+◌, ◌<◌, ◌≤◌, List, Bool, [], false, length, slice_index_or, true};
 ghost use Rattle.ps_model.specs.declared.limits.TheConstants.{SIDE_LIMIT};
-ghost use Rattle.ps_laws.specs.WholeRows.{HasCells};
 ghost use Rattle.ps_program.specs.declared.rows.Axis.TheVariants.{Down, Right};
+ghost use Rattle.ps_places.specs.AxisParts.{AreBegun, AreTargetsOf};
 ghost use Rattle.ps_places.specs.FoundStarts.{part_of};
-ghost use Rattle.ps_places.specs.PartStarts.{AreStarts};
 ghost use Rattle.ps_places.specs.PartTargets.{AreTargets, IsReach, IsRowKept, is_paired, is_target};
 ghost use Rattle.ps_places.specs.Starts.{AreWhere, begins_down};
 
+use crate::axis_parts::AxisPart;
+use crate::begun::PartStarts;
 use crate::leaving_alone::kept_on_row;
-use crate::part_starts::{PartStarts, find_rows};
+use crate::part_starts::find_rows;
 use crate::scratch::RowScratch;
 use ps_match::{ColumnWords, Columns, Scan, recall_shape};
 use ps_model::SIDE_LIMIT;
-use ps_program::{Axis, CompiledCell, CompiledRow};
+use ps_program::{Axis, CompiledRow};
 
 /// Reaches twice as far to the left: what has one of a set less than a number of columns to its right has it less than
 /// twice as many.
@@ -90,26 +91,19 @@ fn keep_row<W: ColumnWords>(
 fn find_across<B: Scan>(
     board: &B,
     leads: bool,
-    first: &[CompiledCell],
-    second: &[CompiledCell],
-    fronts: &PartStarts<'_, Columns<B::Words>>,
-    backs: &PartStarts<'_, Columns<B::Words>>,
+    fronts: &PartStarts<'_, '_, Columns<B::Words>>,
+    backs: &PartStarts<'_, '_, Columns<B::Words>>,
     starts: &mut [Columns<B::Words>],
 ) -> Columns<B::Words>
-    requires first { HasCells first.now }
-    requires second { HasCells second.now }
-    requires short { length first.now < SIDE_LIMIT }
-    requires fronts { let f = fronts.now in
-        AreStarts (B.grid board.now) (B.table board.now) Right first.now f.rows f.columns.now }
-    requires backs { let b = backs.now in
-        AreStarts (B.grid board.now) (B.table board.now) Right second.now b.rows b.columns.now }
+    requires short { length fronts.now.part.cells.now < SIDE_LIMIT }
+    requires fronts { AreBegun B.Board board.now Right fronts.now }
+    requires backs { AreBegun B.Board board.now Right backs.now }
     requires room { SIDE_LIMIT ≤ length starts.old }
-    ensures targets { let grid = B.grid board.now in
-        AreTargets grid (B.table board.now) Right leads first.now second.now result starts.new }
+    ensures targets { AreTargetsOf B.Board board.now Right leads fronts.now backs.now result starts.new }
     ensures long { length starts.new ≡ length starts.old }
 {
     let (_width, height) = board.size();
-    let size = first.len() as u32;
+    let size = fronts.part.cells.len() as u32;
     let mut left = fronts.rows.both(backs.rows).both(Columns::below(height));
     let mut rows = Columns::none();
     while let Some(row) = left.take_first() {
@@ -124,14 +118,11 @@ fn find_across<B: Scan>(
 /// The columns of a row of the board where a part begins that goes down. Below the board it begins nowhere.
 fn columns_begun<B: Scan>(
     board: &B,
-    part: &[CompiledCell],
-    starts: &PartStarts<'_, Columns<B::Words>>,
+    starts: &PartStarts<'_, '_, Columns<B::Words>>,
     row: u32,
 ) -> Columns<B::Words>
-    requires part { HasCells part.now }
-    requires starts { let s = starts.now in
-        AreStarts (B.grid board.now) (B.table board.now) Down part.now s.rows s.columns.now }
-    ensures { AreWhere (begins_down (B.grid board.now) (B.table board.now) part.now row) result }
+    requires { AreBegun B.Board board.now Down starts.now }
+    ensures { AreWhere (begins_down (B.grid board.now) (B.table board.now) starts.now.part.cells.now row) result }
 {
     let (_width, height) = board.size();
     if height <= row {
@@ -144,31 +135,24 @@ fn columns_begun<B: Scan>(
 /// gone downwards, and all columns are held in which the first part begins high enough.
 fn find_below<B: Scan>(
     board: &B,
-    first: &[CompiledCell],
-    second: &[CompiledCell],
-    fronts: &PartStarts<'_, Columns<B::Words>>,
-    backs: &PartStarts<'_, Columns<B::Words>>,
+    fronts: &PartStarts<'_, '_, Columns<B::Words>>,
+    backs: &PartStarts<'_, '_, Columns<B::Words>>,
     starts: &mut [Columns<B::Words>],
 ) -> Columns<B::Words>
-    requires first { HasCells first.now }
-    requires second { HasCells second.now }
-    requires short { length first.now < SIDE_LIMIT }
-    requires fronts { let f = fronts.now in
-        AreStarts (B.grid board.now) (B.table board.now) Down first.now f.rows f.columns.now }
-    requires backs { let b = backs.now in
-        AreStarts (B.grid board.now) (B.table board.now) Down second.now b.rows b.columns.now }
+    requires short { length fronts.now.part.cells.now < SIDE_LIMIT }
+    requires fronts { AreBegun B.Board board.now Down fronts.now }
+    requires backs { AreBegun B.Board board.now Down backs.now }
     requires room { SIDE_LIMIT ≤ length starts.old }
-    ensures targets { let grid = B.grid board.now in
-        AreTargets grid (B.table board.now) Down false first.now second.now result starts.new }
+    ensures targets { AreTargetsOf B.Board board.now Down false fronts.now backs.now result starts.new }
     ensures long { length starts.new ≡ length starts.old }
 {
     let (_width, height) = board.size();
-    let size = first.len() as u32;
+    let size = fronts.part.cells.len() as u32;
     let mut seen = Columns::none();
     let mut rows = Columns::none();
     for row in size..height {
-        seen = seen.either(columns_begun(board, first, fronts, row - size));
-        let columns = columns_begun(board, second, backs, row).both(seen);
+        seen = seen.either(columns_begun(board, fronts, row - size));
+        let columns = columns_begun(board, backs, row).both(seen);
         rows = keep_row(starts, rows, row, columns);
     }
     rows
@@ -178,33 +162,26 @@ fn find_below<B: Scan>(
 /// gone upwards, and all columns are held in which the second part begins low enough.
 fn find_above<B: Scan>(
     board: &B,
-    first: &[CompiledCell],
-    second: &[CompiledCell],
-    fronts: &PartStarts<'_, Columns<B::Words>>,
-    backs: &PartStarts<'_, Columns<B::Words>>,
+    fronts: &PartStarts<'_, '_, Columns<B::Words>>,
+    backs: &PartStarts<'_, '_, Columns<B::Words>>,
     starts: &mut [Columns<B::Words>],
 ) -> Columns<B::Words>
-    requires first { HasCells first.now }
-    requires second { HasCells second.now }
-    requires short { length first.now < SIDE_LIMIT }
-    requires fronts { let f = fronts.now in
-        AreStarts (B.grid board.now) (B.table board.now) Down first.now f.rows f.columns.now }
-    requires backs { let b = backs.now in
-        AreStarts (B.grid board.now) (B.table board.now) Down second.now b.rows b.columns.now }
+    requires short { length fronts.now.part.cells.now < SIDE_LIMIT }
+    requires fronts { AreBegun B.Board board.now Down fronts.now }
+    requires backs { AreBegun B.Board board.now Down backs.now }
     requires room { SIDE_LIMIT ≤ length starts.old }
-    ensures targets { let grid = B.grid board.now in
-        AreTargets grid (B.table board.now) Down true first.now second.now result starts.new }
+    ensures targets { AreTargetsOf B.Board board.now Down true fronts.now backs.now result starts.new }
     ensures long { length starts.new ≡ length starts.old }
 {
     let (_width, height) = board.size();
-    let size = first.len() as u32;
+    let size = fronts.part.cells.len() as u32;
     let mut seen = Columns::none();
     let mut rows = Columns::none();
     let mut row = height;
     while 0 < row {
         row -= 1;
-        seen = seen.either(columns_begun(board, second, backs, row + size));
-        let columns = columns_begun(board, first, fronts, row).both(seen);
+        seen = seen.either(columns_begun(board, backs, row + size));
+        let columns = columns_begun(board, fronts, row).both(seen);
         rows = keep_row(starts, rows, row, columns);
     }
     rows
@@ -233,28 +210,38 @@ impl<W: ColumnWords> RowScratch<Columns<W>> {
         if SIDE_LIMIT as usize <= first.len() {
             return Columns::none();
         }
+        let front = AxisPart {
+            axis: row.axis,
+            cells: first,
+        };
+        let back = AxisPart {
+            axis: row.axis,
+            cells: second,
+        };
         let scanned = self.scanned.as_mut_slice();
-        let fronts_on = find_rows(board, row.axis, first, self.fronts.as_mut_slice(), scanned);
+        let fronts_on = find_rows(board, &front, self.fronts.as_mut_slice(), scanned);
         if fronts_on.is_empty() {
             return Columns::none();
         }
-        let backs_on = find_rows(board, row.axis, second, self.backs.as_mut_slice(), scanned);
+        let backs_on = find_rows(board, &back, self.backs.as_mut_slice(), scanned);
         if backs_on.is_empty() {
             return Columns::none();
         }
         let fronts = PartStarts {
+            part: front,
             rows: fronts_on,
             columns: self.fronts.as_slice(),
         };
         let backs = PartStarts {
+            part: back,
             rows: backs_on,
             columns: self.backs.as_slice(),
         };
         let starts = self.starts.as_mut_slice();
         match row.axis {
-            Axis::Down if leads => find_above(board, first, second, &fronts, &backs, starts),
-            Axis::Down => find_below(board, first, second, &fronts, &backs, starts),
-            Axis::Right => find_across(board, leads, first, second, &fronts, &backs, starts),
+            Axis::Down if leads => find_above(board, &fronts, &backs, starts),
+            Axis::Down => find_below(board, &fronts, &backs, starts),
+            Axis::Right => find_across(board, leads, &fronts, &backs, starts),
         }
     }
 

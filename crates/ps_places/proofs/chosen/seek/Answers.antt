@@ -20,9 +20,9 @@ loop-line-init g c =
     let fits : List ℕ → Bool = place_fits grid (g.B.Board.table c.args.board.now) c.args.row.now.parts in
     record {
       first = ap (λ (ls : List ℕ). from_first fits
-          (places_on_lines c.args.row.now.axis grid.height c.args.row.now.parts c.args.starts.now ls))
+          (places_on_lines c.args.row.now.axis grid.height c.args.row.now.parts c.args.found.now.starts.now ls))
           (sym c.behind_position-left.ensures);
-      left = left-from c.args.lines c.behind_position-left.result c.args.from c.behind_position-left.ensures;
+      left = left-from c.args.found.now.lines c.behind_position-left.result c.args.from c.behind_position-left.ensures;
       long = c.requires.way;
     }
 
@@ -45,15 +45,16 @@ returns-then-first_way-clause-some g c =
     let found = rw c.as_slice-parts.ensures at (c.first_way.ensures.found c.if-first_way.true) in
     c.loop-line.invariant.first
     ∙ ap (λ (ls : List ℕ). from_first fits (places_on_lines c.args.row.now.axis grid.height c.args.row.now.parts
-    c.args.starts.now ls)) c.in-Some.ensures.some
-    ∙ line-found grid table c.args.row.now.axis c.args.row.now.parts c.args.starts.now line
+    c.args.found.now.starts.now ls)) c.in-Some.ensures.some
+    ∙ line-found grid table c.args.row.now.axis c.args.row.now.parts c.args.found.now.starts.now line
     (set_columns c.take_first.new.self) c.first_way.new.way
-    c.in-Some.ensures.within c.args.row.now.few c.requires.starts found
+    c.in-Some.ensures.within c.args.row.now.few c.args.found.now.long found
     ∙ ap (λ (ls : List ℕ). place_on c.args.row.now.axis grid.height c.args.row.now.parts line c.first_way.new.way
     ∷ (map (way_cells c.args.row.now.axis grid.height line (part_sizes c.args.row.now.parts))
-    (ways_behind (sets_on c.args.starts.now (length c.args.row.now.parts) line) (part_sizes c.args.row.now.parts)
+    (ways_behind (sets_on c.args.found.now.starts.now (length c.args.row.now.parts) line) (part_sizes
+    c.args.row.now.parts)
     c.first_way.new.way)
-    ++ places_on_lines c.args.row.now.axis grid.height c.args.row.now.parts c.args.starts.now ls))
+    ++ places_on_lines c.args.row.now.axis grid.height c.args.row.now.parts c.args.found.now.starts.now ls))
     (c.loop-line.invariant.left.at line (set_columns c.take_first.new.self) c.in-Some.ensures.some).1
 
 pub returns-then-first_way-clause-among : goal.returns-then-first_way-clause-among
@@ -66,7 +67,7 @@ returns-then-first_way-clause-among g c =
       low = c.in-Some.ensures.within;
       on = (c.loop-line.invariant.left.at line (set_columns c.take_first.new.self) c.in-Some.ensures.some).0;
       among = first-on-line (way_fits grid table c.args.row.now.axis line c.args.row.now.parts) c.args.row.now.parts
-          c.args.starts.now line c.first_way.new.way found;
+          c.args.found.now.starts.now line c.first_way.new.way found;
     }
 
 pub loop-line-preserved : goal.loop-line-preserved
@@ -79,12 +80,13 @@ loop-line-preserved g c =
       first =
           c.loop-line.invariant.first
           ∙ ap (λ (ls : List ℕ). from_first fits
-          (places_on_lines c.args.row.now.axis grid.height c.args.row.now.parts c.args.starts.now ls))
+          (places_on_lines c.args.row.now.axis grid.height c.args.row.now.parts c.args.found.now.starts.now ls))
           c.in-Some.ensures.some
-          ∙ line-none grid table c.args.row.now.axis c.args.row.now.parts c.args.starts.now c.in-Some.line
+          ∙ line-none grid table c.args.row.now.axis c.args.row.now.parts c.args.found.now.starts.now c.in-Some.line
           (set_columns c.take_first.new.self)
-          c.in-Some.ensures.within c.args.row.now.few c.requires.starts none;
-      left = left-more c.args.lines c.loop-line.left c.take_first.new.self c.in-Some.line c.in-Some.ensures.some
+          c.in-Some.ensures.within c.args.row.now.few c.args.found.now.long none;
+      left = left-more c.args.found.now.lines c.loop-line.left c.take_first.new.self c.in-Some.line
+          c.in-Some.ensures.some
           c.loop-line.invariant.left;
       long = c.first_way.ensures.long ∙ ap length c.as_slice-parts.ensures;
     }
@@ -104,21 +106,12 @@ overflow_add-sets g c =
 pub offset_bounds-starts-at : goal.offset_bounds-starts-at
 offset_bounds-starts-at g c =
     start_within c.in-Some.line (length c.args.row.now.parts) (length c.as_slice-parts.result.now)
-    (length c.args.starts.now) (ap length c.as_slice-parts.ensures)
-    c.in-Some.ensures.within c.args.row.now.few c.requires.starts
+    (length c.args.found.now.starts.now) (ap length c.as_slice-parts.ensures)
+    c.in-Some.ensures.within c.args.row.now.few c.args.found.now.long
 
 pub slice_bounds-sets-count : goal.slice_bounds-sets-count
 slice_bounds-sets-count g c =
     further (c.in-Some.line * length c.as_slice-parts.result.now) (length c.as_slice-parts.result.now)
-
-pub first_way-requires-clause-sets : goal.first_way-requires-clause-sets
-first_way-requires-clause-sets g c =
-    sets_taken c.args.starts.now c.in-Some.line (length c.args.row.now.parts) (length c.as_slice-parts.result.now)
-    (ap length c.as_slice-parts.ensures) c.in-Some.ensures.within
-    c.args.row.now.few c.requires.starts
-
-pub first_way-requires-clause-whole : goal.first_way-requires-clause-whole
-first_way-requires-clause-whole g c = subst (All HasCells) (sym c.as_slice-parts.ensures) c.args.row.now.whole
 
 pub returns-then-first_way-clause-none : goal.returns-then-first_way-clause-none
 returns-then-first_way-clause-none g c = no_some
@@ -130,8 +123,8 @@ returns-then-first_way-clause-long g c =
 pub overflow_cast-at : goal.overflow_cast-at
 overflow_cast-at g c = fits_word c.in-Some.line c.in-Some.ensures.within
 
-pub overflow_cast-line : goal.overflow_cast-line
-overflow_cast-line g c = fits_byte c.in-Some.line c.in-Some.ensures.within
+pub overflow_cast-number : goal.overflow_cast-number
+overflow_cast-number g c = fits_byte c.in-Some.line c.in-Some.ensures.within
 
 pub overflow_cast-result : goal.overflow_cast-result
 overflow_cast-result g c = fits_byte c.in-Some.line c.in-Some.ensures.within
@@ -154,8 +147,17 @@ returns-clause-none g c = λ nowhere.
     let fits : List ℕ → Bool = place_fits grid (g.B.Board.table c.args.board.now) c.args.row.now.parts in
     c.loop-line.invariant.first
     ∙ ap (λ (ls : List ℕ). from_first fits
-    (places_on_lines c.args.row.now.axis grid.height c.args.row.now.parts c.args.starts.now ls))
+    (places_on_lines c.args.row.now.axis grid.height c.args.row.now.parts c.args.found.now.starts.now ls))
     (c.in_default.ensures.none refl)
 
 pub returns-clause-long : goal.returns-clause-long
 returns-clause-long g c = c.loop-line.auto.way
+
+pub invariant_of-on_line : goal.invariant_of-on_line
+invariant_of-on_line g c =
+    record {
+      each = sets_taken c.args.found.now.starts.now c.in-Some.line (length c.args.row.now.parts)
+          (length c.as_slice-parts.result.now) (ap length c.as_slice-parts.ensures) c.in-Some.ensures.within
+          c.args.row.now.few c.args.found.now.long;
+      whole = subst (All HasCells) (sym c.as_slice-parts.ensures) c.args.row.now.whole;
+    }

@@ -9,10 +9,10 @@ use Rattle.ps_places.proofs.chosen.seek.Given as goal
 abbrev pub invariant-loop-line : goal.invariant-loop-line
 invariant-loop-line g l =
     let fits = place_fits (g.B.Board.grid l.board) (g.B.Board.table l.board) l.row.parts in
-    let on = places_on_lines l.row.axis (g.B.Board.grid l.board).height l.row.parts l.starts in
+    let on = places_on_lines l.row.axis (g.B.Board.grid l.board).height l.row.parts l.found.starts.now in
     record {
-      first : from_first fits (on (positions_from l.fn.lines l.from)) ≡ from_first fits (on (set_columns l.left));
-      left : IsLeftOf l.fn.lines l.left;
+      first : from_first fits (on (positions_from l.found.lines l.from)) ≡ from_first fits (on (set_columns l.left));
+      left : IsLeftOf l.found.lines l.left;
       long : length l.way ≡ length l.row.parts;
     }
 

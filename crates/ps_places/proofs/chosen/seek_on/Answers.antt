@@ -20,9 +20,10 @@ returns-then-next_way-clause-some g c =
     let low : c.args.line < SIDE_LIMIT =
     low_line c.args.line (line_count c.args.row.now.axis grid) c.requires.line most in
     let found = rw c.as_slice-parts.ensures at (c.next_way.ensures.found c.if-next_way.true) in
-    next-found grid (g.B.Board.table c.args.board.now) c.args.row.now.axis c.args.row.now.parts c.args.starts.now
-    c.args.lines c.args.line c.args.way.now c.next_way.new.way
-    low c.args.row.now.few c.requires.starts found
+    next-found grid (g.B.Board.table c.args.board.now) c.args.row.now.axis c.args.row.now.parts
+    c.args.found.now.starts.now
+    c.args.found.now.lines c.args.line c.args.way.now c.next_way.new.way
+    low c.args.row.now.few c.args.found.now.long found
 
 pub returns-clause-some : goal.returns-clause-some
 returns-clause-some g c =
@@ -35,10 +36,11 @@ returns-clause-some g c =
     low_line c.args.line (line_count c.args.row.now.axis grid) c.requires.line most in
     let none = rw c.as_slice-parts.ensures at (c.next_way.ensures.none c.if-next_way.false) in
     IfSome_then c.seek.result c.seek.ensures.some (λ next found.
-    next-none grid table c.args.row.now.axis c.args.row.now.parts c.args.starts.now c.args.lines c.args.line
-    c.args.way.now low c.args.row.now.few c.requires.starts none
+    next-none grid table c.args.row.now.axis c.args.row.now.parts c.args.found.now.starts.now c.args.found.now.lines
+    c.args.line
+    c.args.way.now low c.args.row.now.few c.args.found.now.long none
     ∙ ap (λ (n : ℕ). from_first fits (places_on_lines c.args.row.now.axis grid.height c.args.row.now.parts
-    c.args.starts.now (positions_from c.args.lines (n + 1)))) (sym c.from.ensures)
+    c.args.found.now.starts.now (positions_from c.args.found.now.lines (n + 1)))) (sym c.from.ensures)
     ∙ found)
 
 pub returns-clause-none : goal.returns-clause-none
@@ -51,10 +53,11 @@ returns-clause-none g c = λ nowhere.
     let low : c.args.line < SIDE_LIMIT =
     low_line c.args.line (line_count c.args.row.now.axis grid) c.requires.line most in
     let none = rw c.as_slice-parts.ensures at (c.next_way.ensures.none c.if-next_way.false) in
-    next-none grid table c.args.row.now.axis c.args.row.now.parts c.args.starts.now c.args.lines c.args.line
-    c.args.way.now low c.args.row.now.few c.requires.starts none
+    next-none grid table c.args.row.now.axis c.args.row.now.parts c.args.found.now.starts.now c.args.found.now.lines
+    c.args.line
+    c.args.way.now low c.args.row.now.few c.args.found.now.long none
     ∙ ap (λ (n : ℕ). from_first fits (places_on_lines c.args.row.now.axis grid.height c.args.row.now.parts
-    c.args.starts.now (positions_from c.args.lines (n + 1)))) (sym c.from.ensures)
+    c.args.found.now.starts.now (positions_from c.args.found.now.lines (n + 1)))) (sym c.from.ensures)
     ∙ c.seek.ensures.none nowhere
 
 pub overflow_mul-at : goal.overflow_mul-at
@@ -76,25 +79,14 @@ overflow_add-sets g c =
 pub offset_bounds-starts-at : goal.offset_bounds-starts-at
 offset_bounds-starts-at g c =
     start_within c.args.line (length c.args.row.now.parts) (length c.as_slice-parts.result.now)
-    (length c.args.starts.now) (ap length c.as_slice-parts.ensures)
+    (length c.args.found.now.starts.now) (ap length c.as_slice-parts.ensures)
     (low_line c.args.line (line_count c.args.row.now.axis (g.B.Board.grid c.args.board.now)) c.requires.line
     (lines-few c.args.row.now.axis (g.B.Board.grid c.args.board.now) c.recall_shape.ensures.shape))
-    c.args.row.now.few c.requires.starts
+    c.args.row.now.few c.args.found.now.long
 
 pub slice_bounds-sets-count : goal.slice_bounds-sets-count
 slice_bounds-sets-count g c =
     further (c.args.line * length c.as_slice-parts.result.now) (length c.as_slice-parts.result.now)
-
-pub next_way-requires-clause-sets : goal.next_way-requires-clause-sets
-next_way-requires-clause-sets g c =
-    sets_taken c.args.starts.now c.args.line (length c.args.row.now.parts) (length c.as_slice-parts.result.now)
-    (ap length c.as_slice-parts.ensures)
-    (low_line c.args.line (line_count c.args.row.now.axis (g.B.Board.grid c.args.board.now)) c.requires.line
-    (lines-few c.args.row.now.axis (g.B.Board.grid c.args.board.now) c.recall_shape.ensures.shape))
-    c.args.row.now.few c.requires.starts
-
-pub next_way-requires-clause-whole : goal.next_way-requires-clause-whole
-next_way-requires-clause-whole g c = subst (All HasCells) (sym c.as_slice-parts.ensures) c.args.row.now.whole
 
 pub returns-then-next_way-clause-none : goal.returns-then-next_way-clause-none
 returns-then-next_way-clause-none g c = no_some
@@ -119,9 +111,6 @@ returns-then-next_way-clause-spaced g c =
 pub seek-requires-clause-lines : goal.seek-requires-clause-lines
 seek-requires-clause-lines g c = c.requires.lines
 
-pub seek-requires-clause-starts : goal.seek-requires-clause-starts
-seek-requires-clause-starts g c = c.requires.starts
-
 pub seek-requires-clause-way : goal.seek-requires-clause-way
 seek-requires-clause-way g c = c.next_way.ensures.long ∙ ap length c.as_slice-parts.ensures
 
@@ -134,3 +123,14 @@ returns-clause-long g c =
 
 pub returns-clause-spaced : goal.returns-clause-spaced
 returns-clause-spaced g c = λ was. c.seek.ensures.spaced
+
+pub invariant_of-on_line : goal.invariant_of-on_line
+invariant_of-on_line g c =
+    record {
+      each = sets_taken c.args.found.now.starts.now c.args.line (length c.args.row.now.parts)
+          (length c.as_slice-parts.result.now) (ap length c.as_slice-parts.ensures)
+          (low_line c.args.line (line_count c.args.row.now.axis (g.B.Board.grid c.args.board.now)) c.requires.line
+          (lines-few c.args.row.now.axis (g.B.Board.grid c.args.board.now) c.recall_shape.ensures.shape))
+          c.args.row.now.few c.args.found.now.long;
+      whole = subst (All HasCells) (sym c.as_slice-parts.ensures) c.args.row.now.whole;
+    }

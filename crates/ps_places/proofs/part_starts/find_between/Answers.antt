@@ -9,119 +9,144 @@ use Rattle.ps_places.proofs.part_starts.find_between.Goals as goal
 
 -- one row -------------------------------------------------------------------------------------------------------------
 
-pub starts_on_row-requires-clause-row : goal.starts_on_row-requires-clause-row
-starts_on_row-requires-clause-row g c =
+pub starts_on_row-requires : goal.starts_on_row-requires
+starts_on_row-requires g c =
     let height : ℕ = (g.B.Board.grid c.args.board.now).height in
-    less_up c.args.first c.args.end height c.requires.some
-    (room_within c.args.axis height (length c.args.part.now) c.args.end c.requires.whole c.requires.rows)
-
-pub starts_on_row-requires-clause-whole : goal.starts_on_row-requires-clause-whole
-starts_on_row-requires-clause-whole g c = c.requires.whole
+    less_up c.args.span.first c.args.span.end height c.args.span.some
+    (room_within c.args.part.now.axis height (length c.args.part.now.cells.now) c.args.span.end c.args.part.now.whole
+    c.requires.rows)
 
 pub bounds-starts-first : goal.bounds-starts-first
 bounds-starts-first g c =
-    less_up c.args.first c.args.end (length c.args.starts.now) c.requires.some
-    (room_kept c.args.axis (g.B.Board.grid c.args.board.now).height (length c.args.part.now) c.args.end
-    (length c.args.starts.now) c.requires.whole c.requires.rows c.recall_shape.ensures.shape.rows c.requires.room)
+    less_up c.args.span.first c.args.span.end (length c.args.starts.now) c.args.span.some
+    (room_kept c.args.part.now.axis (g.B.Board.grid c.args.board.now).height (length c.args.part.now.cells.now)
+    c.args.span.end
+    (length c.args.starts.now) c.args.part.now.whole c.requires.rows c.recall_shape.ensures.shape.rows c.requires.room)
 
 pub returns-then-end-first-clause-begun : goal.returns-then-end-first-clause-begun
 returns-then-end-first-clause-begun g c =
-    begun_one (g.B.Board.grid c.args.board.now) (g.B.Board.table c.args.board.now) c.args.axis c.args.part.now
-    c.args.first c.args.end c.args.starts.now c.starts_on_row.result
-    (less_up c.args.first c.args.end (length c.args.starts.now) c.requires.some
-    (room_kept c.args.axis (g.B.Board.grid c.args.board.now).height (length c.args.part.now) c.args.end
-    (length c.args.starts.now) c.requires.whole c.requires.rows c.recall_shape.ensures.shape.rows c.requires.room))
+    begun_one (g.B.Board.grid c.args.board.now) (g.B.Board.table c.args.board.now) c.args.part.now.axis
+    c.args.part.now.cells.now
+    c.args.span.first c.args.span.end c.args.starts.now c.starts_on_row.result
+    (less_up c.args.span.first c.args.span.end (length c.args.starts.now) c.args.span.some
+    (room_kept c.args.part.now.axis (g.B.Board.grid c.args.board.now).height (length c.args.part.now.cells.now)
+    c.args.span.end
+    (length c.args.starts.now) c.args.part.now.whole c.requires.rows c.recall_shape.ensures.shape.rows c.requires.room))
     c.if-end-first.true c.starts_on_row.ensures
 
 pub returns-then-end-first-clause-long : goal.returns-then-end-first-clause-long
-returns-then-end-first-clause-long g c = length-set c.args.starts.now c.args.first c.starts_on_row.result
+returns-then-end-first-clause-long g c = length-set c.args.starts.now c.args.span.first c.starts_on_row.result
 
 -- several rows --------------------------------------------------------------------------------------------------------
 
 pub slice_bounds-starts-count : goal.slice_bounds-starts-count
-slice_bounds-starts-count g c = not_behind c.args.first c.args.end c.requires.some
+slice_bounds-starts-count g c = not_behind c.args.span.first c.args.span.end c.args.span.some
 
 pub slice_bounds-scanned-count : goal.slice_bounds-scanned-count
-slice_bounds-scanned-count g c = not_behind c.args.first c.args.end c.requires.some
+slice_bounds-scanned-count g c = not_behind c.args.span.first c.args.span.end c.args.span.some
 
 pub find_down-requires-clause-whole : goal.find_down-requires-clause-whole
-find_down-requires-clause-whole g c = c.requires.whole
+find_down-requires-clause-whole g c = c.args.part.now.whole
 
 pub find_down-requires-clause-rows : goal.find_down-requires-clause-rows
 find_down-requires-clause-rows g c =
-    let far : c.args.end ≤ length c.args.starts.now =
-    room_kept c.args.axis (g.B.Board.grid c.args.board.now).height (length c.args.part.now) c.args.end
-    (length c.args.starts.now) c.requires.whole c.requires.rows c.recall_shape.ensures.shape.rows c.requires.room in
-    room_down c.args.axis (g.B.Board.grid c.args.board.now).height (length c.args.part.now) c.args.first c.args.end _
-    c.in-Down.is c.requires.some c.requires.rows
-    (part_long c.args.starts.now c.args.first c.args.end c.requires.some far)
+    let far : c.args.span.end ≤ length c.args.starts.now =
+    room_kept c.args.part.now.axis (g.B.Board.grid c.args.board.now).height (length c.args.part.now.cells.now)
+    c.args.span.end
+    (length c.args.starts.now) c.args.part.now.whole c.requires.rows c.recall_shape.ensures.shape.rows
+    c.requires.room in
+    room_down c.args.part.now.axis (g.B.Board.grid c.args.board.now).height (length c.args.part.now.cells.now)
+    c.args.span.first c.args.span.end _
+    c.in-Down.is c.args.span.some c.requires.rows
+    (part_long c.args.starts.now c.args.span.first c.args.span.end c.args.span.some far)
 
 pub find_down-requires-clause-room : goal.find_down-requires-clause-room
 find_down-requires-clause-room g c =
-    let far : c.args.end ≤ length c.args.starts.now =
-    room_kept c.args.axis (g.B.Board.grid c.args.board.now).height (length c.args.part.now) c.args.end
-    (length c.args.starts.now) c.requires.whole c.requires.rows c.recall_shape.ensures.shape.rows c.requires.room in
-    let reach : c.args.end ≤ length c.args.scanned.now =
-    room_kept c.args.axis (g.B.Board.grid c.args.board.now).height (length c.args.part.now) c.args.end
-    (length c.args.scanned.now) c.requires.whole c.requires.rows c.recall_shape.ensures.shape.rows c.requires.scanned in
-    part_long c.args.scanned.now c.args.first c.args.end c.requires.some reach
-    ∙ sym (part_long c.args.starts.now c.args.first c.args.end c.requires.some far)
+    let far : c.args.span.end ≤ length c.args.starts.now =
+    room_kept c.args.part.now.axis (g.B.Board.grid c.args.board.now).height (length c.args.part.now.cells.now)
+    c.args.span.end
+    (length c.args.starts.now) c.args.part.now.whole c.requires.rows c.recall_shape.ensures.shape.rows
+    c.requires.room in
+    let reach : c.args.span.end ≤ length c.args.scanned.now =
+    room_kept c.args.part.now.axis (g.B.Board.grid c.args.board.now).height (length c.args.part.now.cells.now)
+    c.args.span.end
+    (length c.args.scanned.now) c.args.part.now.whole c.requires.rows c.recall_shape.ensures.shape.rows
+    c.requires.scanned in
+    part_long c.args.scanned.now c.args.span.first c.args.span.end c.args.span.some reach
+    ∙ sym (part_long c.args.starts.now c.args.span.first c.args.span.end c.args.span.some far)
 
 pub returns-in-Down-clause-begun : goal.returns-in-Down-clause-begun
 returns-in-Down-clause-begun g c =
-    let far : c.args.end ≤ length c.args.starts.now =
-    room_kept c.args.axis (g.B.Board.grid c.args.board.now).height (length c.args.part.now) c.args.end
-    (length c.args.starts.now) c.requires.whole c.requires.rows c.recall_shape.ensures.shape.rows c.requires.room in
-    begun_between (g.B.Board.grid c.args.board.now) (g.B.Board.table c.args.board.now) c.args.axis Down
-    c.args.part.now c.args.first c.args.end c.args.starts.now c.find_down.new.starts _ c.in-Down.is c.requires.some far
+    let far : c.args.span.end ≤ length c.args.starts.now =
+    room_kept c.args.part.now.axis (g.B.Board.grid c.args.board.now).height (length c.args.part.now.cells.now)
+    c.args.span.end
+    (length c.args.starts.now) c.args.part.now.whole c.requires.rows c.recall_shape.ensures.shape.rows
+    c.requires.room in
+    begun_between (g.B.Board.grid c.args.board.now) (g.B.Board.table c.args.board.now) c.args.part.now.axis Down
+    c.args.part.now.cells.now c.args.span.first c.args.span.end c.args.starts.now c.find_down.new.starts _
+    c.in-Down.is c.args.span.some far
     c.find_down.ensures.long c.find_down.ensures.begun
 
 pub returns-in-Down-clause-long : goal.returns-in-Down-clause-long
 returns-in-Down-clause-long g c =
-    let far : c.args.end ≤ length c.args.starts.now =
-    room_kept c.args.axis (g.B.Board.grid c.args.board.now).height (length c.args.part.now) c.args.end
-    (length c.args.starts.now) c.requires.whole c.requires.rows c.recall_shape.ensures.shape.rows c.requires.room in
-    put_long c.args.starts.now c.find_down.new.starts c.args.first c.args.end c.requires.some far
+    let far : c.args.span.end ≤ length c.args.starts.now =
+    room_kept c.args.part.now.axis (g.B.Board.grid c.args.board.now).height (length c.args.part.now.cells.now)
+    c.args.span.end
+    (length c.args.starts.now) c.args.part.now.whole c.requires.rows c.recall_shape.ensures.shape.rows
+    c.requires.room in
+    put_long c.args.starts.now c.find_down.new.starts c.args.span.first c.args.span.end c.args.span.some far
     c.find_down.ensures.long
 
 pub find_across-requires-clause-whole : goal.find_across-requires-clause-whole
-find_across-requires-clause-whole g c = c.requires.whole
+find_across-requires-clause-whole g c = c.args.part.now.whole
 
 pub find_across-requires-clause-rows : goal.find_across-requires-clause-rows
 find_across-requires-clause-rows g c =
-    let far : c.args.end ≤ length c.args.starts.now =
-    room_kept c.args.axis (g.B.Board.grid c.args.board.now).height (length c.args.part.now) c.args.end
-    (length c.args.starts.now) c.requires.whole c.requires.rows c.recall_shape.ensures.shape.rows c.requires.room in
-    room_across (g.B.Board.grid c.args.board.now).height c.args.first c.args.end _ c.requires.some
-    (room_within c.args.axis (g.B.Board.grid c.args.board.now).height (length c.args.part.now) c.args.end
-    c.requires.whole c.requires.rows)
-    (part_long c.args.starts.now c.args.first c.args.end c.requires.some far)
+    let far : c.args.span.end ≤ length c.args.starts.now =
+    room_kept c.args.part.now.axis (g.B.Board.grid c.args.board.now).height (length c.args.part.now.cells.now)
+    c.args.span.end
+    (length c.args.starts.now) c.args.part.now.whole c.requires.rows c.recall_shape.ensures.shape.rows
+    c.requires.room in
+    room_across (g.B.Board.grid c.args.board.now).height c.args.span.first c.args.span.end _ c.args.span.some
+    (room_within c.args.part.now.axis (g.B.Board.grid c.args.board.now).height (length c.args.part.now.cells.now)
+    c.args.span.end
+    c.args.part.now.whole c.requires.rows)
+    (part_long c.args.starts.now c.args.span.first c.args.span.end c.args.span.some far)
 
 pub find_across-requires-clause-room : goal.find_across-requires-clause-room
 find_across-requires-clause-room g c =
-    let far : c.args.end ≤ length c.args.starts.now =
-    room_kept c.args.axis (g.B.Board.grid c.args.board.now).height (length c.args.part.now) c.args.end
-    (length c.args.starts.now) c.requires.whole c.requires.rows c.recall_shape.ensures.shape.rows c.requires.room in
-    let reach : c.args.end ≤ length c.args.scanned.now =
-    room_kept c.args.axis (g.B.Board.grid c.args.board.now).height (length c.args.part.now) c.args.end
-    (length c.args.scanned.now) c.requires.whole c.requires.rows c.recall_shape.ensures.shape.rows c.requires.scanned in
-    part_long c.args.scanned.now c.args.first c.args.end c.requires.some reach
-    ∙ sym (part_long c.args.starts.now c.args.first c.args.end c.requires.some far)
+    let far : c.args.span.end ≤ length c.args.starts.now =
+    room_kept c.args.part.now.axis (g.B.Board.grid c.args.board.now).height (length c.args.part.now.cells.now)
+    c.args.span.end
+    (length c.args.starts.now) c.args.part.now.whole c.requires.rows c.recall_shape.ensures.shape.rows
+    c.requires.room in
+    let reach : c.args.span.end ≤ length c.args.scanned.now =
+    room_kept c.args.part.now.axis (g.B.Board.grid c.args.board.now).height (length c.args.part.now.cells.now)
+    c.args.span.end
+    (length c.args.scanned.now) c.args.part.now.whole c.requires.rows c.recall_shape.ensures.shape.rows
+    c.requires.scanned in
+    part_long c.args.scanned.now c.args.span.first c.args.span.end c.args.span.some reach
+    ∙ sym (part_long c.args.starts.now c.args.span.first c.args.span.end c.args.span.some far)
 
 pub returns-in-Right-clause-begun : goal.returns-in-Right-clause-begun
 returns-in-Right-clause-begun g c =
-    let far : c.args.end ≤ length c.args.starts.now =
-    room_kept c.args.axis (g.B.Board.grid c.args.board.now).height (length c.args.part.now) c.args.end
-    (length c.args.starts.now) c.requires.whole c.requires.rows c.recall_shape.ensures.shape.rows c.requires.room in
-    begun_between (g.B.Board.grid c.args.board.now) (g.B.Board.table c.args.board.now) c.args.axis Right
-    c.args.part.now c.args.first c.args.end c.args.starts.now c.find_across.new.starts _ c.in-Right.is
-    c.requires.some far
+    let far : c.args.span.end ≤ length c.args.starts.now =
+    room_kept c.args.part.now.axis (g.B.Board.grid c.args.board.now).height (length c.args.part.now.cells.now)
+    c.args.span.end
+    (length c.args.starts.now) c.args.part.now.whole c.requires.rows c.recall_shape.ensures.shape.rows
+    c.requires.room in
+    begun_between (g.B.Board.grid c.args.board.now) (g.B.Board.table c.args.board.now) c.args.part.now.axis Right
+    c.args.part.now.cells.now c.args.span.first c.args.span.end c.args.starts.now c.find_across.new.starts _
+    c.in-Right.is
+    c.args.span.some far
     c.find_across.ensures.long c.find_across.ensures.begun
 
 pub returns-in-Right-clause-long : goal.returns-in-Right-clause-long
 returns-in-Right-clause-long g c =
-    let far : c.args.end ≤ length c.args.starts.now =
-    room_kept c.args.axis (g.B.Board.grid c.args.board.now).height (length c.args.part.now) c.args.end
-    (length c.args.starts.now) c.requires.whole c.requires.rows c.recall_shape.ensures.shape.rows c.requires.room in
-    put_long c.args.starts.now c.find_across.new.starts c.args.first c.args.end c.requires.some far
+    let far : c.args.span.end ≤ length c.args.starts.now =
+    room_kept c.args.part.now.axis (g.B.Board.grid c.args.board.now).height (length c.args.part.now.cells.now)
+    c.args.span.end
+    (length c.args.starts.now) c.args.part.now.whole c.requires.rows c.recall_shape.ensures.shape.rows
+    c.requires.room in
+    put_long c.args.starts.now c.find_across.new.starts c.args.span.first c.args.span.end c.args.span.some far
     c.find_across.ensures.long

@@ -34,11 +34,8 @@ returns-then-is_empty-clause-rows g c =
           ∙ ap set_columns here ∙ c.is_empty.ensures.none c.if-is_empty.true;
     }
 
-pub starts_on_row-columns-requires-clause-row : goal.starts_on_row-columns-requires-clause-row
-starts_on_row-columns-requires-clause-row g c = c.requires.row
-
-pub starts_on_row-columns-requires-clause-whole : goal.starts_on_row-columns-requires-clause-whole
-starts_on_row-columns-requires-clause-whole g c = c.requires.whole
+pub starts_on_row-columns-requires : goal.starts_on_row-columns-requires
+starts_on_row-columns-requires g c = c.requires.row
 
 pub bounds-starts-first : goal.bounds-starts-first
 bounds-starts-first g c =
@@ -47,7 +44,8 @@ bounds-starts-first g c =
 
 pub returns-then-is_empty-clause-begun : goal.returns-then-is_empty-clause-begun
 returns-then-is_empty-clause-begun g c =
-    begun_one (g.B.Board.grid c.args.board.now) (g.B.Board.table c.args.board.now) c.args.axis c.args.part.now
+    begun_one (g.B.Board.grid c.args.board.now) (g.B.Board.table c.args.board.now) c.args.part.now.axis
+    c.args.part.now.cells.now
     c.args.first (c.args.first + 1) c.args.starts.now c.starts_on_row-columns.result
     (within_sets c.args.first (g.B.Board.grid c.args.board.now).height (length c.args.starts.now) c.requires.row
     c.recall_shape.ensures.shape.rows c.requires.room)
@@ -58,7 +56,8 @@ returns-then-is_empty-clause-long g c = length-set c.args.starts.now c.args.firs
 
 pub returns-clause-begun : goal.returns-clause-begun
 returns-clause-begun g c =
-    begun_one (g.B.Board.grid c.args.board.now) (g.B.Board.table c.args.board.now) c.args.axis c.args.part.now
+    begun_one (g.B.Board.grid c.args.board.now) (g.B.Board.table c.args.board.now) c.args.part.now.axis
+    c.args.part.now.cells.now
     c.args.first (c.args.first + 1) c.args.starts.now c.starts_on_row-columns.result
     (within_sets c.args.first (g.B.Board.grid c.args.board.now).height (length c.args.starts.now) c.requires.row
     c.recall_shape.ensures.shape.rows c.requires.room)

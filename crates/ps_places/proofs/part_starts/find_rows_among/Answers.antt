@@ -23,19 +23,21 @@ returns-in_default-clause-starts g c =
     let out : (row : ℕ) → column_at rows row ≡ false =
     λ row. none_left rows (c.in_default.ensures.none refl)
     (λ r on. both_within c.args.having c.all.result rows r c.both-rows.ensures on) row (column_at rows row) refl in
-    none_begun grid (g.B.Board.table c.args.board.now) c.args.axis c.args.part.now rows c.size-width.ensures.shape.rows
-    (begin-within grid (g.B.Board.table c.args.board.now) c.args.axis c.args.part.now c.args.having c.all.result
+    none_begun grid (g.B.Board.table c.args.board.now) c.args.part.now.axis c.args.part.now.cells.now rows
+    c.size-width.ensures.shape.rows
+    (begin-within grid (g.B.Board.table c.args.board.now) c.args.part.now.axis c.args.part.now.cells.now
+    c.args.having c.all.result
     rows c.size-width.ensures.shape (low_board c.size-width.result.1 (g.B.Board.grid c.args.board.now).height
-    g.B.Words.ColumnWords.limit c.size-width.ensures.height c.size-width.ensures.low) c.all.ensures c.both-rows.ensures c.requires.only)
+    g.B.Words.ColumnWords.limit c.size-width.ensures.height c.size-width.ensures.low) c.all.ensures
+    c.both-rows.ensures c.requires.only)
     c.args.starts.now rows out (λ row low. out row)
-
-pub find_on_rows-requires-clause-whole : goal.find_on_rows-requires-clause-whole
-find_on_rows-requires-clause-whole g c = c.requires.whole
 
 pub find_on_rows-requires-clause-only : goal.find_on_rows-requires-clause-only
 find_on_rows-requires-clause-only g c =
-    begin-within (g.B.Board.grid c.args.board.now) (g.B.Board.table c.args.board.now) c.args.axis c.args.part.now
-    c.args.having c.all.result c.both-rows.result c.size-width.ensures.shape (low_board c.size-width.result.1 (g.B.Board.grid c.args.board.now).height
+    begin-within (g.B.Board.grid c.args.board.now) (g.B.Board.table c.args.board.now) c.args.part.now.axis
+    c.args.part.now.cells.now
+    c.args.having c.all.result c.both-rows.result c.size-width.ensures.shape (low_board c.size-width.result.1
+    (g.B.Board.grid c.args.board.now).height
     g.B.Words.ColumnWords.limit c.size-width.ensures.height c.size-width.ensures.low)
     c.all.ensures c.both-rows.ensures c.requires.only
 
@@ -52,8 +54,10 @@ returns-then-height-first-clause-starts g c =
     let one : (row : ℕ) → column_at rows row ≡ true → row ≡ c.in-Some.first =
     λ row on. only_on c.args.having c.all.result rows c.take_first.new.self c.in-Some.first row
     c.both-rows.ensures c.in-Some.ensures.some (c.is_empty.ensures.none c.if-not-is_empty.false) on in
-    none_begun grid (g.B.Board.table c.args.board.now) c.args.axis c.args.part.now rows c.size-width.ensures.shape.rows
-    (begin-within grid (g.B.Board.table c.args.board.now) c.args.axis c.args.part.now c.args.having c.all.result
+    none_begun grid (g.B.Board.table c.args.board.now) c.args.part.now.axis c.args.part.now.cells.now rows
+    c.size-width.ensures.shape.rows
+    (begin-within grid (g.B.Board.table c.args.board.now) c.args.part.now.axis c.args.part.now.cells.now
+    c.args.having c.all.result
     rows c.size-width.ensures.shape (low_board c.size-width.result.1 grid.height
     g.B.Words.ColumnWords.limit c.size-width.ensures.height c.size-width.ensures.low) c.all.ensures c.both-rows.ensures
     c.requires.only)
@@ -61,9 +65,6 @@ returns-then-height-first-clause-starts g c =
     (λ row near. none_before rows c.in-Some.first grid.height
     (past c.in-Some.first c.size-width.result.1 grid.height c.size-width.ensures.height c.if-height-first.true) one row
     near (column_at rows row) refl)
-
-pub find_on_row-requires-clause-whole : goal.find_on_row-requires-clause-whole
-find_on_row-requires-clause-whole g c = c.requires.whole
 
 pub find_on_row-requires-clause-row : goal.find_on_row-requires-clause-row
 find_on_row-requires-clause-row g c =
@@ -82,8 +83,10 @@ returns-clause-starts g c =
     let one : (row : ℕ) → column_at rows row ≡ true → row ≡ c.in-Some.first =
     λ row on. only_on c.args.having c.all.result rows c.take_first.new.self c.in-Some.first row
     c.both-rows.ensures c.in-Some.ensures.some (c.is_empty.ensures.none c.if-not-is_empty.false) on in
-    one_begun grid (g.B.Board.table c.args.board.now) c.args.axis c.args.part.now rows c.size-width.ensures.shape.rows
-    (begin-within grid (g.B.Board.table c.args.board.now) c.args.axis c.args.part.now c.args.having c.all.result
+    one_begun grid (g.B.Board.table c.args.board.now) c.args.part.now.axis c.args.part.now.cells.now rows
+    c.size-width.ensures.shape.rows
+    (begin-within grid (g.B.Board.table c.args.board.now) c.args.part.now.axis c.args.part.now.cells.now
+    c.args.having c.all.result
     rows c.size-width.ensures.shape (low_board c.size-width.result.1 grid.height
     g.B.Words.ColumnWords.limit c.size-width.ensures.height c.size-width.ensures.low) c.all.ensures c.both-rows.ensures
     c.requires.only)

@@ -9,7 +9,7 @@ pub returns-in-Down-clause-some : goal.returns-in-Down-clause-some
 returns-in-Down-clause-some g c =
     let is = c.in-Down.is in
     let fits : ℕ → Bool = part_fits (g.B.Board.grid c.args.board.now) (g.B.Board.table c.args.board.now) Down
-    c.args.line c.args.part.now in
+    c.args.line.number c.args.part.now in
     rw is (IfSome_then c.least_down.result c.least_down.ensures.some
     (λ p found. least-again fits c.args.set c.behind_position-left.result c.args.from p c.behind_position-left.ensures
     found))
@@ -18,7 +18,7 @@ pub returns-in-Right-clause-some : goal.returns-in-Right-clause-some
 returns-in-Right-clause-some g c =
     let is = c.in-Right.is in
     let fits : ℕ → Bool = part_fits (g.B.Board.grid c.args.board.now) (g.B.Board.table c.args.board.now) Right
-    c.args.line c.args.part.now in
+    c.args.line.number c.args.part.now in
     rw is (IfSome_then c.least_across.result c.least_across.ensures.some
     (λ p found. least-again fits c.args.set c.behind_position-left.result c.args.from p c.behind_position-left.ensures
     found))

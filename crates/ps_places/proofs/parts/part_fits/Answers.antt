@@ -9,7 +9,7 @@ returns-then-number-ge-CELL_LIMIT g c =
     let grid : Grid = g.B.Board.grid c.args.board.now in
     let few = few_cells grid c.size-width.ensures.shape in
     sym (c.loop-cell.invariant
-    ∙ fits_from-beyond grid (g.B.Board.table c.args.board.now) c.args.part.now (step_along c.args.axis grid.height)
+    ∙ fits_from-beyond grid (g.B.Board.table c.args.board.now) c.args.part.now (step_along c.args.line.axis grid.height)
     c.loop-cell.cell-index c.loop-cell.number c.cell-item.result
     c.loop-cell-test.true c.cell-item.is (omega (arith, few, c.if-number-ge-CELL_LIMIT.true)))
 
@@ -17,18 +17,18 @@ pub returns-then-not-fits : goal.returns-then-not-fits
 returns-then-not-fits g c =
     let grid : Grid = g.B.Board.grid c.args.board.now in
     sym (c.loop-cell.invariant
-    ∙ fits_from-off grid (g.B.Board.table c.args.board.now) c.args.part.now (step_along c.args.axis grid.height)
+    ∙ fits_from-off grid (g.B.Board.table c.args.board.now) c.args.part.now (step_along c.args.line.axis grid.height)
     c.loop-cell.cell-index c.loop-cell.number c.cell-item.result
     c.loop-cell-test.true c.cell-item.is (sym c.fits.ensures ∙ c.if-not-fits.true))
 
 pub loop-cell-preserved : goal.loop-cell-preserved
 loop-cell-preserved g c =
     let grid : Grid = g.B.Board.grid c.args.board.now in
-    let step : step_along c.args.axis grid.height ≡ c.step_along-step.result =
-    sym (c.step_along-step.ensures.value ∙ ap (step_along c.args.axis) c.size-width.ensures.height) in
+    let step : step_along c.args.line.axis grid.height ≡ c.step_along-step.result =
+    sym (c.step_along-step.ensures.value ∙ ap (step_along c.args.line.axis) c.size-width.ensures.height) in
     c.loop-cell.invariant
-    ∙ fits_from-on grid (g.B.Board.table c.args.board.now) c.args.part.now (step_along c.args.axis grid.height)
+    ∙ fits_from-on grid (g.B.Board.table c.args.board.now) c.args.part.now (step_along c.args.line.axis grid.height)
     c.loop-cell.cell-index c.loop-cell.number c.cell-item.result
     c.loop-cell-test.true c.cell-item.is (sym c.fits.ensures ∙ c.if-not-fits.false)
     ∙ ap (λ (n : ℕ). fits_from grid (g.B.Board.table c.args.board.now) c.args.part.now
-    (step_along c.args.axis grid.height) (c.loop-cell.cell-index + 1) (c.loop-cell.number + n)) step
+    (step_along c.args.line.axis grid.height) (c.loop-cell.cell-index + 1) (c.loop-cell.number + n)) step

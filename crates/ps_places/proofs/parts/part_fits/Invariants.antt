@@ -8,5 +8,5 @@ abbrev pub invariant-loop-cell : goal.invariant-loop-cell
 invariant-loop-cell g l =
     let grid = g.B.Board.grid l.board in
     let table = g.B.Board.table l.board in
-    part_fits grid table l.fn.axis l.line l.part l.position ≡ fits_from grid table l.part
-    (step_along l.fn.axis grid.height) l.cell-index l.number
+    part_fits grid table l.fn.line.axis l.fn.line.number l.part l.position ≡ fits_from grid table l.part
+    (step_along l.fn.line.axis grid.height) l.cell-index l.number

@@ -19,13 +19,13 @@ returns-then-number-ge-CELL_LIMIT-clause-rewritten g c =
     let few = few_cells grid c.size-width.ensures.shape in
     sym (c.loop-cell.invariant.rewritten
     ∙ rewritten_past now (part_meaning table (drop c.loop-cell.cell-index c.args.part.now))
-    (step_along c.args.axis grid.height) c.loop-cell.number (length c.args.part.now - c.loop-cell.cell-index)
+    (step_along c.args.line.axis grid.height) c.loop-cell.number (length c.args.part.now - c.loop-cell.cell-index)
     (omega (arith, few, c.loop-cell.invariant.cells, c.if-number-ge-CELL_LIMIT.true)))
 
 pub write_fitting-any-requires : goal.write_fitting-any-requires
 write_fitting-any-requires g c =
     let now : Grid = g.B.Board.grid c.loop-cell.board in
-    let step : ℕ = step_along c.args.axis (g.B.Board.grid c.args.board.now).height in
+    let step : ℕ = step_along c.args.line.axis (g.B.Board.grid c.args.board.now).height in
     let table : Option (List ℕ) = g.B.Board.table c.args.board.now in
     let both = fits_from-parts now table c.args.part.now step c.loop-cell.cell-index c.loop-cell.number
     c.cell-item.result c.loop-cell-test.true c.cell-item.is c.loop-cell.invariant.fit in
@@ -38,7 +38,7 @@ loop-cell-preserved g c =
     let grid : Grid = g.B.Board.grid c.args.board.now in
     let index : ℕ = c.loop-cell.cell-index in
     let number : ℕ = c.loop-cell.number in
-    let along : ℕ = step_along c.args.axis grid.height in
+    let along : ℕ = step_along c.args.line.axis grid.height in
     let before : Rewritten = record { grid = g.B.Board.grid c.loop-cell.board; changed = c.loop-cell.any } in
     let after : Rewritten = record {
       grid = g.B.Board.grid c.write_fitting-any.new.board;
@@ -51,8 +51,8 @@ loop-cell-preserved g c =
     c.write_fitting-any.ensures.rewritten ∙ ap (λ (t : Option (List ℕ)).
     rewritten_cell before (cell_meaning t c.cell-item.result) number found) (same_layers c.loop-cell.invariant.fixed) in
     let step : c.step_along-step.result ≡ along = c.step_along-step.ensures.value
-    ∙ ap (step_along c.args.axis) c.size-width.ensures.height in
-    let some : 0 < along = step-some c.args.axis grid.height c.size-width.ensures.shape.some_row in
+    ∙ ap (step_along c.args.line.axis) c.size-width.ensures.height in
+    let some : 0 < along = step-some c.args.line.axis grid.height c.size-width.ensures.shape.some_row in
     let both = fits_from-parts before.grid table c.args.part.now along index number c.cell-item.result
     c.loop-cell-test.true c.cell-item.is c.loop-cell.invariant.fit in
     record {

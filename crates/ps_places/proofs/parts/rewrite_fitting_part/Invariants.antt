@@ -15,9 +15,10 @@ invariant-loop-cell g l =
     record {
       rewritten :
           rewritten_along before (part_meaning table l.part)
-          (line_cells l.fn.axis height l.line l.position (length l.part))
-          ≡ rewritten_from now table l.part (step_along l.fn.axis height) l.cell-index l.number;
-      fit : fits_from (g.B.Board.grid l.board) table l.part (step_along l.fn.axis height) l.cell-index l.number ≡ true;
+          (line_cells l.fn.line.axis height l.fn.line.number l.position (length l.part))
+          ≡ rewritten_from now table l.part (step_along l.fn.line.axis height) l.cell-index l.number;
+      fit : fits_from (g.B.Board.grid l.board) table l.part (step_along l.fn.line.axis height) l.cell-index l.number
+          ≡ true;
       fixed : fixed_part g.B.Board l.board ≡ fixed_part g.B.Board l.fn.board;
       cells : length (g.B.Board.grid l.board).cells ≡ length (g.B.Board.grid l.fn.board).cells;
     }

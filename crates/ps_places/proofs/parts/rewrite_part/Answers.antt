@@ -19,7 +19,7 @@ returns-then-number-ge-CELL_LIMIT g c =
     record {
       rewritten = sym (c.loop-cell.invariant.rewritten
           ∙ rewritten_past now (part_meaning table (drop c.loop-cell.cell-index c.args.part.now))
-          (step_along c.args.axis grid.height) c.loop-cell.number (length c.args.part.now - c.loop-cell.cell-index)
+          (step_along c.args.line.axis grid.height) c.loop-cell.number (length c.args.part.now - c.loop-cell.cell-index)
           (omega (arith, few, c.loop-cell.invariant.cells, c.if-number-ge-CELL_LIMIT.true)));
       fixed = c.loop-cell.invariant.fixed;
     }
@@ -37,14 +37,16 @@ loop-cell-preserved g c =
     ∙ ap (λ (t : Option (List ℕ)). rewritten_cell before
     (meaning_of_write (write_in_room t (write_shown c.cell-item.result.write))) c.loop-cell.number
     (slice_get (before.grid).cells c.loop-cell.number)) (same_layers c.loop-cell.invariant.fixed) in
-    let step : c.step_along-step.result ≡ step_along c.args.axis grid.height = c.step_along-step.ensures.value
-    ∙ ap (step_along c.args.axis) c.size-width.ensures.height in
+    let step : c.step_along-step.result ≡ step_along c.args.line.axis grid.height = c.step_along-step.ensures.value
+    ∙ ap (step_along c.args.line.axis) c.size-width.ensures.height in
     record {
       rewritten =
           c.loop-cell.invariant.rewritten
-          ∙ rewritten_from-on before table c.args.part.now (step_along c.args.axis grid.height) c.loop-cell.cell-index
+          ∙ rewritten_from-on before table c.args.part.now (step_along c.args.line.axis grid.height)
+          c.loop-cell.cell-index
           c.loop-cell.number c.cell-item.result c.loop-cell-test.true c.cell-item.is
-          ∙ ap₂ (λ (r : Rewritten) (n : ℕ). rewritten_from r table c.args.part.now (step_along c.args.axis grid.height)
+          ∙ ap₂ (λ (r : Rewritten) (n : ℕ). rewritten_from r table c.args.part.now (step_along c.args.line.axis
+          grid.height)
           (c.loop-cell.cell-index + 1) (c.loop-cell.number + n)) (sym wrote) (sym step);
       fixed = c.write-any.ensures.fixed ∙ c.loop-cell.invariant.fixed;
       cells =

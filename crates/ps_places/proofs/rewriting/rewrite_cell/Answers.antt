@@ -15,11 +15,12 @@ returns-in-Down-clause-rewritten g c =
     let cell = c.args.cell.now in
     let before : Rewritten = record { grid = grid; changed = c.args.changed } in
     let does : cell.changes ≡ true = search rules in
-    let chosen : ℕ → Bool = is_on_row grid.height (c.args.row + c.args.steps) c.args.columns in
+    let chosen : ℕ → Bool = is_on_row grid.height (c.args.places.now.row + c.args.steps) c.args.places.now.columns in
     ap (λ (r : Rewritten). let after : Rewritten = record { grid = r.grid; changed = c.args.changed || r.changed } in
     after) c.rewrite.ensures.rewritten
     ∙ sym (ap (λ (b : Bool). if_changes b (then_where before (cell_meaning table cell).rewritten chosen) before) does)
-    ∙ ap (λ (axis : Axis). cell_changed before table axis c.args.row c.args.columns c.args.steps cell)
+    ∙ ap (λ (axis : Axis). cell_changed before table axis c.args.places.now.row c.args.places.now.columns
+    c.args.steps cell)
     (sym c.in-Down.is)
 
 pub returns-in-Right-clause-rewritten : goal.returns-in-Right-clause-rewritten
@@ -29,11 +30,12 @@ returns-in-Right-clause-rewritten g c =
     let cell = c.args.cell.now in
     let before : Rewritten = record { grid = grid; changed = c.args.changed } in
     let does : cell.changes ≡ true = search rules in
-    let chosen : List Bool → ℕ → Bool = is_on_row grid.height c.args.row in
-    let moved : List Bool = columns_ahead c.args.columns c.args.steps in
+    let chosen : List Bool → ℕ → Bool = is_on_row grid.height c.args.places.now.row in
+    let moved : List Bool = columns_ahead c.args.places.now.columns c.args.steps in
     ap (λ (r : Rewritten). let after : Rewritten = record { grid = r.grid; changed = c.args.changed || r.changed } in
     after) c.rewrite_ahead.ensures.rewritten
     ∙ sym (ap (λ (b : Bool). if_changes b (then_where before (cell_meaning table cell).rewritten (chosen moved)) before)
     does)
-    ∙ ap (λ (axis : Axis). cell_changed before table axis c.args.row c.args.columns c.args.steps cell)
+    ∙ ap (λ (axis : Axis). cell_changed before table axis c.args.places.now.row c.args.places.now.columns
+    c.args.steps cell)
     (sym c.in-Right.is)

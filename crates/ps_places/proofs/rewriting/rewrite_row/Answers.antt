@@ -30,8 +30,10 @@ loop-cell-preserved g c =
     } in
     record {
       rewritten = c.loop-cell.invariant.rewritten
-          ∙ cell_more now after (g.B.Board.table c.args.board.now) (g.B.Board.table c.loop-cell.board) c.args.axis
-          c.args.row c.args.columns c.args.part.now c.loop-cell.cell-index c.loop-cell.steps c.cell-item.result
+          ∙ cell_more now after (g.B.Board.table c.args.board.now) (g.B.Board.table c.loop-cell.board)
+          c.args.places.now.axis
+          c.args.places.now.row c.args.places.now.columns c.args.part.now c.loop-cell.cell-index c.loop-cell.steps
+          c.cell-item.result
           c.loop-cell-test.true c.cell-item.is c.loop-cell.invariant.steps (same_layers c.loop-cell.invariant.fixed)
           c.rewrite_cell-any.ensures.rewritten;
       steps = ap (λ (n : ℕ). n + 1) c.loop-cell.invariant.steps;

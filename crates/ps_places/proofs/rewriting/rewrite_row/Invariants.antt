@@ -11,8 +11,8 @@ invariant-loop-cell g l =
     let now : Rewritten = record { grid = g.B.Board.grid l.board; changed = l.any } in
     let table = g.B.Board.table l.fn.board in
     record {
-      rewritten : cells_changed before table l.fn.axis l.fn.row l.fn.columns 0 l.part
-          ≡ cells_changed now table l.fn.axis l.fn.row l.fn.columns l.cell-index (drop l.cell-index l.part);
+      rewritten : cells_changed before table l.places.axis l.places.row l.places.columns 0 l.part
+          ≡ cells_changed now table l.places.axis l.places.row l.places.columns l.cell-index (drop l.cell-index l.part);
       steps : l.steps ≡ l.cell-index;
       fixed : fixed_part g.B.Board l.board ≡ fixed_part g.B.Board l.fn.board;
     }

@@ -7,7 +7,7 @@ use Rattle.ps_places.proofs.starts.add_row.Given as goal
 abbrev pub invariant-loop-column : goal.invariant-loop-column
 invariant-loop-column g l =
     record {
-      adding : IsAdding l.fn.starts l.count l.number l.fn.columns l.found l.row l.starts l.left;
+      adding : IsAdding l.fn.starts l.part.count l.part.number l.fn.columns l.found l.row l.starts l.left;
       long : length l.starts ≡ length l.fn.starts;
     }
 

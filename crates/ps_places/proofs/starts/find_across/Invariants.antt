@@ -8,7 +8,8 @@ abbrev pub invariant-loop-row : goal.invariant-loop-row
 invariant-loop-row g l =
     record {
       found :
-          AreFoundBut (g.B.Board.grid l.board) (g.B.Board.table l.board) l.part l.fn.lines l.count l.number l.fn.starts
+          AreFoundBut (g.B.Board.grid l.board) (g.B.Board.table l.board) l.cells l.fn.lines l.part.count
+          l.part.number l.fn.starts
           l.starts l.found l.left;
       long : length l.starts ≡ length l.fn.starts;
     }

@@ -7,6 +7,7 @@ abbrev pub invariant-loop-number : goal.invariant-loop-number
 invariant-loop-number g l =
     record {
       lines :
-          AreLinesFound (g.B.Board.grid l.board) (g.B.Board.table l.board) l.axis l.parts l.starts l.lines l.number;
+          AreLinesFound (g.B.Board.grid l.board) (g.B.Board.table l.board) l.row.axis l.row.parts.now l.starts
+          l.lines l.number;
       long : length l.starts ≡ length l.fn.starts;
     }

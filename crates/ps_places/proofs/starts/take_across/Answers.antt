@@ -10,7 +10,8 @@ take_rows-requires-clause-lines g c =
 pub returns-clause-found : goal.returns-clause-found
 returns-clause-found g c =
     let grid : Grid = g.B.Board.grid c.args.board.now in
-    found-across grid (g.B.Board.table c.args.board.now) c.args.part.now c.args.within c.args.begun.now.rows
-    c.both-lines.result c.args.begun.now.columns.now c.args.count c.args.number c.args.starts.now
-    c.take_rows.new.starts c.recall_shape.ensures.shape c.requires.whole c.requires.inside c.requires.begun
+    found-across grid (g.B.Board.table c.args.board.now) c.args.begun.now.part.cells.now c.args.within
+    c.args.begun.now.rows
+    c.both-lines.result c.args.begun.now.columns.now c.args.part.count c.args.part.number c.args.starts.now
+    c.take_rows.new.starts c.recall_shape.ensures.shape c.args.begun.now.part.whole c.requires.inside c.requires.begun
     c.both-lines.ensures c.take_rows.ensures.taken

@@ -16,8 +16,9 @@ loop-row-init g c =
       low = below-init b.rows c.below.result c.both-left.result grid.height below c.both-left.ensures;
       gathering =
           gathering-init grid (g.B.Board.table c.args.board.now)
-          c.args.part.now c.args.within c.args.count c.args.number c.args.starts.now b.columns.now c.none-found.result
-          b.rows c.below.result c.both-left.result c.size-width.ensures.shape c.requires.whole
+          c.args.begun.now.part.cells.now c.args.within c.args.part.count c.args.part.number c.args.starts.now
+          b.columns.now c.none-found.result
+          b.rows c.below.result c.both-left.result c.size-width.ensures.shape c.args.begun.now.part.whole
           c.none-found.ensures below c.both-left.ensures c.requires.begun;
       long = refl;
     }
@@ -33,11 +34,13 @@ loop-row-preserved g c =
           c.loop-row.invariant.low;
       gathering =
           gathering-more grid (g.B.Board.table c.args.board.now)
-          c.args.part.now c.args.within c.args.count c.args.number c.in-Some.row c.args.starts.now c.loop-row.starts
+          c.args.begun.now.part.cells.now c.args.within c.args.part.count c.args.part.number c.in-Some.row
+          c.args.starts.now c.loop-row.starts
           c.add_row.new.starts c.loop-row.found c.loop-row.left c.take_first.new.self c.kept_on_row.result
-          c.both-columns.result c.either-found.result c.requires.one
+          c.both-columns.result c.either-found.result c.args.part.within
           c.in-Some.ensures.some
-          (kept_where grid (g.B.Board.table c.args.board.now) Down c.args.part.now b.rows c.kept_on_row.result
+          (kept_where grid (g.B.Board.table c.args.board.now) Down c.args.begun.now.part.cells.now b.rows
+          c.kept_on_row.result
           b.columns.now
           c.in-Some.row c.requires.begun low c.kept_on_row.ensures) c.both-columns.ensures c.either-found.ensures
           c.add_row.ensures.added c.loop-row.invariant.gathering;
@@ -47,6 +50,7 @@ loop-row-preserved g c =
 pub returns-clause-found : goal.returns-clause-found
 returns-clause-found g c =
     gathered-down (g.B.Board.grid c.args.board.now)
-    (g.B.Board.table c.args.board.now) c.args.part.now c.args.within c.args.count c.args.number c.args.starts.now
+    (g.B.Board.table c.args.board.now) c.args.begun.now.part.cells.now c.args.within c.args.part.count
+    c.args.part.number c.args.starts.now
     c.loop-row.starts c.loop-row.found c.loop-row.left c.size-width.ensures.shape c.requires.inside
     (c.in_default.ensures.none refl) c.loop-row.invariant.gathering

@@ -11,7 +11,7 @@ invariant-loop-row g l =
       low : AreBelow (g.B.Board.grid l.board).height l.left;
       gathering :
           IsGathering (g.B.Board.grid l.board) (g.B.Board.table l.board)
-          l.part l.within l.count l.number l.fn.starts l.starts l.found l.left;
+          l.begun.part.cells.now l.within l.part.count l.part.number l.fn.starts l.starts l.found l.left;
       long : length l.starts ≡ length l.fn.starts;
     }
 

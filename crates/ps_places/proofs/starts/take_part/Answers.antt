@@ -6,16 +6,10 @@ use Rattle.ps_places.specs.Lines.{line_count}
 use Rattle.ps_places.specs.PartStarts.{AreStarts}
 use Rattle.ps_places.proofs.starts.take_part.Goals as goal
 
-pub take_down-requires-clause-whole : goal.take_down-requires-clause-whole
-take_down-requires-clause-whole g c = c.requires.whole
-
 pub take_down-requires-clause-begun : goal.take_down-requires-clause-begun
 take_down-requires-clause-begun g c =
     subst (λ (axis : Axis). AreStarts (g.B.Board.grid c.args.board.now) (g.B.Board.table c.args.board.now) axis
-    c.args.part.now c.args.begun.now.rows c.args.begun.now.columns.now) c.in-Down.is c.requires.begun
-
-pub take_down-requires-clause-one : goal.take_down-requires-clause-one
-take_down-requires-clause-one g c = c.requires.one
+    c.args.begun.now.part.cells.now c.args.begun.now.rows c.args.begun.now.columns.now) c.in-Down.is c.requires.begun
 
 pub take_down-requires-clause-room : goal.take_down-requires-clause-room
 take_down-requires-clause-room g c = c.requires.room
@@ -28,23 +22,18 @@ take_down-requires-clause-inside g c =
 pub returns-in-Down-clause-found : goal.returns-in-Down-clause-found
 returns-in-Down-clause-found g c =
     subst (λ (axis : Axis). IsPartFound (g.B.Board.grid c.args.board.now) (g.B.Board.table c.args.board.now) axis
-    c.args.part.now c.args.within c.args.count c.args.number c.args.starts.now c.take_down.new.starts
+    c.args.begun.now.part.cells.now c.args.within c.args.part.count c.args.part.number c.args.starts.now
+    c.take_down.new.starts
     c.take_down.result)
     (sym c.in-Down.is) c.take_down.ensures.found
 
 pub returns-in-Down-clause-long : goal.returns-in-Down-clause-long
 returns-in-Down-clause-long g c = c.take_down.ensures.long
 
-pub take_across-requires-clause-whole : goal.take_across-requires-clause-whole
-take_across-requires-clause-whole g c = c.requires.whole
-
 pub take_across-requires-clause-begun : goal.take_across-requires-clause-begun
 take_across-requires-clause-begun g c =
     subst (λ (axis : Axis). AreStarts (g.B.Board.grid c.args.board.now) (g.B.Board.table c.args.board.now) axis
-    c.args.part.now c.args.begun.now.rows c.args.begun.now.columns.now) c.in-Right.is c.requires.begun
-
-pub take_across-requires-clause-one : goal.take_across-requires-clause-one
-take_across-requires-clause-one g c = c.requires.one
+    c.args.begun.now.part.cells.now c.args.begun.now.rows c.args.begun.now.columns.now) c.in-Right.is c.requires.begun
 
 pub take_across-requires-clause-room : goal.take_across-requires-clause-room
 take_across-requires-clause-room g c = c.requires.room
@@ -57,7 +46,8 @@ take_across-requires-clause-inside g c =
 pub returns-in-Right-clause-found : goal.returns-in-Right-clause-found
 returns-in-Right-clause-found g c =
     subst (λ (axis : Axis). IsPartFound (g.B.Board.grid c.args.board.now) (g.B.Board.table c.args.board.now) axis
-    c.args.part.now c.args.within c.args.count c.args.number c.args.starts.now c.take_across.new.starts
+    c.args.begun.now.part.cells.now c.args.within c.args.part.count c.args.part.number c.args.starts.now
+    c.take_across.new.starts
     c.take_across.result)
     (sym c.in-Right.is) c.take_across.ensures.found
 

@@ -11,7 +11,8 @@ pub loop-row-init : goal.loop-row-init
 loop-row-init g c =
     record {
       taken =
-          taken-init c.args.begun.now.rows c.args.begun.now.columns.now c.args.lines c.args.count c.args.number
+          taken-init c.args.begun.now.rows c.args.begun.now.columns.now c.args.lines c.args.part.count
+          c.args.part.number
           c.args.starts.now;
       long = refl;
     }
@@ -19,55 +20,55 @@ loop-row-init g c =
 pub loop-row-preserved : goal.loop-row-preserved
 loop-row-preserved g c =
     let row : ℕ = c.in-Some.row in
-    let count : ℕ = c.args.count in
-    let room : row * count + c.args.number < length c.loop-row.starts =
-    part_room c.args.count c.in-Some.row c.args.number (length c.args.starts.now) (length c.loop-row.starts)
-    c.in-Some.ensures.within c.requires.one c.requires.room c.loop-row.invariant.long in
+    let count : ℕ = c.args.part.count in
+    let room : row * count + c.args.part.number < length c.loop-row.starts =
+    part_room c.args.part.count c.in-Some.row c.args.part.number (length c.args.starts.now) (length c.loop-row.starts)
+    c.in-Some.ensures.within c.args.part.within c.requires.room c.loop-row.invariant.long in
     record {
       taken =
-          taken-more c.args.begun.now.rows c.args.begun.now.columns.now c.args.lines count c.args.number
+          taken-more c.args.begun.now.rows c.args.begun.now.columns.now c.args.lines count c.args.part.number
           c.args.starts.now c.loop-row.starts c.loop-row.left c.take_first.new.self c.kept_on_row.result row
-          c.requires.one room c.in-Some.ensures.some c.kept_on_row.ensures c.loop-row.invariant.taken;
-      long = length-set c.loop-row.starts (row * count + c.args.number) c.kept_on_row.result
+          c.args.part.within room c.in-Some.ensures.some c.kept_on_row.ensures c.loop-row.invariant.taken;
+      long = length-set c.loop-row.starts (row * count + c.args.part.number) c.kept_on_row.result
           ∙ c.loop-row.invariant.long;
     }
 
 pub returns-clause-taken : goal.returns-clause-taken
 returns-clause-taken g c =
-    taken-all c.args.begun.now.rows c.args.begun.now.columns.now c.args.lines c.args.count c.args.number
+    taken-all c.args.begun.now.rows c.args.begun.now.columns.now c.args.lines c.args.part.count c.args.part.number
     c.args.starts.now c.loop-row.starts c.loop-row.left c.requires.lines (c.in_default.ensures.none refl)
     c.loop-row.invariant.taken
 
-pub offset_bounds-starts-row : goal.offset_bounds-starts-row
-offset_bounds-starts-row g c =
+pub offset_bounds-starts-at : goal.offset_bounds-starts-at
+offset_bounds-starts-at g c =
     let row : ℕ = c.in-Some.row in
-    let count : ℕ = c.args.count in
-    let room : row * count + c.args.number < length c.loop-row.starts =
-    part_room c.args.count c.in-Some.row c.args.number (length c.args.starts.now) (length c.loop-row.starts)
-    c.in-Some.ensures.within c.requires.one c.requires.room c.loop-row.invariant.long in
+    let count : ℕ = c.args.part.count in
+    let room : row * count + c.args.part.number < length c.loop-row.starts =
+    part_room c.args.part.count c.in-Some.row c.args.part.number (length c.args.starts.now) (length c.loop-row.starts)
+    c.in-Some.ensures.within c.args.part.within c.requires.room c.loop-row.invariant.long in
     search rules
 
-pub overflow_mul-row : goal.overflow_mul-row
-overflow_mul-row g c =
-    let room : c.in-Some.row * c.args.count + c.args.number < length c.loop-row.starts =
-    part_room c.args.count c.in-Some.row c.args.number (length c.args.starts.now) (length c.loop-row.starts)
-    c.in-Some.ensures.within c.requires.one c.requires.room c.loop-row.invariant.long in
+pub overflow_mul-at : goal.overflow_mul-at
+overflow_mul-at g c =
+    let room : c.in-Some.row * c.args.part.count + c.args.part.number < length c.loop-row.starts =
+    part_room c.args.part.count c.in-Some.row c.args.part.number (length c.args.starts.now) (length c.loop-row.starts)
+    c.in-Some.ensures.within c.args.part.within c.requires.room c.loop-row.invariant.long in
     omega arith
 
-pub overflow_add-row : goal.overflow_add-row
-overflow_add-row g c =
-    let room : c.in-Some.row * c.args.count + c.args.number < length c.loop-row.starts =
-    part_room c.args.count c.in-Some.row c.args.number (length c.args.starts.now) (length c.loop-row.starts)
-    c.in-Some.ensures.within c.requires.one c.requires.room c.loop-row.invariant.long in
+pub overflow_add-at : goal.overflow_add-at
+overflow_add-at g c =
+    let room : c.in-Some.row * c.args.part.count + c.args.part.number < length c.loop-row.starts =
+    part_room c.args.part.count c.in-Some.row c.args.part.number (length c.args.starts.now) (length c.loop-row.starts)
+    c.in-Some.ensures.within c.args.part.within c.requires.room c.loop-row.invariant.long in
     omega arith
 
-pub overflow_cast-row : goal.overflow_cast-row
-overflow_cast-row g c = fits_word c.in-Some.row c.in-Some.ensures.within
+pub overflow_cast-at : goal.overflow_cast-at
+overflow_cast-at g c = fits_word c.in-Some.row c.in-Some.ensures.within
 
-pub bounds-starts-row : goal.bounds-starts-row
-bounds-starts-row g c =
-    part_room c.args.count c.in-Some.row c.args.number (length c.args.starts.now) (length c.loop-row.starts)
-    c.in-Some.ensures.within c.requires.one c.requires.room c.loop-row.invariant.long
+pub bounds-starts-at : goal.bounds-starts-at
+bounds-starts-at g c =
+    part_room c.args.part.count c.in-Some.row c.args.part.number (length c.args.starts.now) (length c.loop-row.starts)
+    c.in-Some.ensures.within c.args.part.within c.requires.room c.loop-row.invariant.long
 
 pub loop-row-smaller : goal.loop-row-smaller
 loop-row-smaller g c =

@@ -7,7 +7,8 @@ use Rattle.ps_places.proofs.starts.take_rows.Given as goal
 abbrev pub invariant-loop-row : goal.invariant-loop-row
 invariant-loop-row g l =
     record {
-      taken : AreTakenBut l.begun.rows l.begun.columns.now l.fn.lines l.count l.number l.fn.starts l.starts l.left;
+      taken : AreTakenBut l.begun.rows l.begun.columns.now l.fn.lines l.part.count l.part.number l.fn.starts l.starts
+          l.left;
       long : length l.starts ≡ length l.fn.starts;
     }
 

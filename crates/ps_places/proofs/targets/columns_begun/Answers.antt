@@ -9,7 +9,8 @@ pub returns-then-height-row : goal.returns-then-height-row
 returns-then-height-row g c =
     let grid : Grid = g.B.Board.grid c.args.board.now in
     let far : grid.height ≤ c.args.row = search rules in
-    begun-below grid (g.B.Board.table c.args.board.now) c.args.part.now c.args.row c.none.result c.requires.part far
+    begun-below grid (g.B.Board.table c.args.board.now) c.args.starts.now.part.cells.now c.args.row c.none.result
+    c.args.starts.now.part.whole far
     c.none.ensures
 
 pub returns : goal.returns
@@ -17,5 +18,6 @@ returns g c =
     let grid : Grid = g.B.Board.grid c.args.board.now in
     let low : c.args.row < grid.height = search rules in
     let starts = c.args.starts.now in
-    kept_where grid (g.B.Board.table c.args.board.now) Down c.args.part.now starts.rows c.kept_on_row.result
-    starts.columns.now c.args.row c.requires.starts low c.kept_on_row.ensures
+    kept_where grid (g.B.Board.table c.args.board.now) Down c.args.starts.now.part.cells.now starts.rows
+    c.kept_on_row.result
+    starts.columns.now c.args.row c.requires low c.kept_on_row.ensures

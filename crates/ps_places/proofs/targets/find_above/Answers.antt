@@ -33,14 +33,18 @@ loop-row-init g c =
       within = omega (arith, high);
       seen =
           subst
-          (λ (row : ℕ). AreSeenBelow grid table c.args.second.now (length c.args.first.now) c.none-seen.result row)
+          (λ (row : ℕ). AreSeenBelow grid table c.args.backs.now.part.cells.now (length
+          c.args.fronts.now.part.cells.now) c.none-seen.result row)
           (sym high)
-          (seen-init grid table c.args.second.now (length c.args.first.now) c.none-seen.result c.requires.second
+          (seen-init grid table c.args.backs.now.part.cells.now (length c.args.fronts.now.part.cells.now)
+          c.none-seen.result c.args.backs.now.part.whole
           c.none-seen.ensures);
       done =
-          subst (λ (row : ℕ). AreRowsFound grid table true c.args.first.now c.args.second.now c.none-rows.result
+          subst (λ (row : ℕ). AreRowsFound grid table true c.args.fronts.now.part.cells.now
+          c.args.backs.now.part.cells.now c.none-rows.result
           c.args.starts.now row grid.height) (sym high)
-          (above-none grid table c.args.first.now c.args.second.now c.none-rows.result c.args.starts.now);
+          (above-none grid table c.args.fronts.now.part.cells.now c.args.backs.now.part.cells.now c.none-rows.result
+          c.args.starts.now);
       kept = kept-none grid.height c.none-rows.result c.args.starts.now c.none-rows.ensures;
       long = refl;
     }
@@ -55,43 +59,45 @@ loop-row-preserved g c =
     let step : c.loop-row.row ≡ row + 1 = omega (arith, some) in
     let low : row < grid.height = omega (arith, some, within) in
     let seen =
-    seen-more grid table c.args.second.now (length c.args.first.now) row c.loop-row.row _ c.loop-row.seen
+    seen-more grid table c.args.backs.now.part.cells.now (length c.args.fronts.now.part.cells.now) row c.loop-row.row
+    _ c.loop-row.seen
     c.columns_begun.result
     c.either-seen.result
-    c.size-width.ensures.shape c.requires.second step refl c.columns_begun.ensures c.either-seen.ensures
+    c.size-width.ensures.shape c.args.backs.now.part.whole step refl c.columns_begun.ensures c.either-seen.ensures
     c.loop-row.invariant.seen in
     record {
       within = omega (arith, low);
       seen = seen;
       done =
-          above-found grid table c.args.first.now c.args.second.now c.loop-row.rows c.loop-row.starts row
+          above-found grid table c.args.fronts.now.part.cells.now c.args.backs.now.part.cells.now c.loop-row.rows
+          c.loop-row.starts row
           c.both-columns.result
           c.keep_row-rows.result c.keep_row-rows.new.starts c.size-width.ensures.shape c.keep_row-rows.ensures.kept
-          (above-targets grid table c.args.first.now c.args.second.now (length c.args.first.now) row
+          (above-targets grid table c.args.fronts.now.part.cells.now c.args.backs.now.part.cells.now (length
+          c.args.fronts.now.part.cells.now) row
           c.columns_begun-in-loop-row.result c.either-seen.result
           c.both-columns.result refl c.columns_begun-in-loop-row.ensures seen c.both-columns.ensures)
-          (subst (λ (n : ℕ). AreRowsFound grid table true c.args.first.now c.args.second.now c.loop-row.rows
+          (subst (λ (n : ℕ). AreRowsFound grid table true c.args.fronts.now.part.cells.now
+          c.args.backs.now.part.cells.now c.loop-row.rows
           c.loop-row.starts n grid.height) step c.loop-row.invariant.done);
       kept = (c.keep_row-rows.ensures.kept).kept grid.height low c.loop-row.invariant.kept;
       long = c.keep_row-rows.ensures.long ∙ c.loop-row.invariant.long;
     }
 
 pub overflow_cast-size : goal.overflow_cast-size
-overflow_cast-size g c = fits_half (length c.args.first.now) c.requires.short
+overflow_cast-size g c = fits_half (length c.args.fronts.now.part.cells.now) c.requires.short
 
 pub overflow_sub-row : goal.overflow_sub-row
 overflow_sub-row g c = one_of c.loop-row.row c.loop-row-test.true
 
 pub overflow_add-row : goal.overflow_add-row
 overflow_add-row g c =
-    sum_fits c.loop-row.row (g.B.Board.grid c.args.board.now).height (length c.args.first.now) c.loop-row-test.true
+    sum_fits c.loop-row.row (g.B.Board.grid c.args.board.now).height (length c.args.fronts.now.part.cells.now)
+    c.loop-row-test.true
     c.loop-row.invariant.within c.size-width.ensures.shape.rows c.requires.short
 
-pub columns_begun-requires-clause-part : goal.columns_begun-requires-clause-part
-columns_begun-requires-clause-part g c = c.requires.second
-
-pub columns_begun-requires-clause-starts : goal.columns_begun-requires-clause-starts
-columns_begun-requires-clause-starts g c = c.requires.backs
+pub columns_begun-requires : goal.columns_begun-requires
+columns_begun-requires g c = c.requires.backs
 
 pub keep_row-rows-requires-clause-within : goal.keep_row-rows-requires-clause-within
 keep_row-rows-requires-clause-within g c =

@@ -11,8 +11,9 @@ invariant-loop-row g l =
     let table = g.B.Board.table l.board in
     record {
       within : l.row ≤ grid.height;
-      seen : AreSeenBelow grid table l.second (length l.first) l.seen l.row;
-      done : AreRowsFound grid table true l.first l.second l.rows l.starts l.row grid.height;
+      seen : AreSeenBelow grid table l.backs.part.cells.now (length l.fronts.part.cells.now) l.seen l.row;
+      done : AreRowsFound grid table true l.fronts.part.cells.now l.backs.part.cells.now l.rows l.starts l.row
+          grid.height;
       kept : AreKept grid.height l.rows l.starts;
       long : length l.starts ≡ length l.fn.starts;
     }

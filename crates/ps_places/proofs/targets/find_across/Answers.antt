@@ -23,11 +23,13 @@ loop-row-init g c =
     record {
       low = below-init c.both.result c.below.result c.both-left.result grid.height below c.both-left.ensures;
       done =
-          passed-init (IsRowOfTargets grid table Right c.args.leads c.args.first.now c.args.second.now
+          passed-init (IsRowOfTargets grid table Right c.args.leads c.args.fronts.now.part.cells.now
+          c.args.backs.now.part.cells.now
           c.none-rows.result c.args.starts.now)
           c.both.result c.below.result c.both-left.result grid.height c.size-width.ensures.shape.rows below
           c.both-left.ensures
-          (across-init grid table c.args.leads c.args.first.now c.args.second.now c.none-rows.result
+          (across-init grid table c.args.leads c.args.fronts.now.part.cells.now c.args.backs.now.part.cells.now
+          c.none-rows.result
           fronts.rows backs.rows c.both.result c.args.starts.now fronts.columns.now backs.columns.now
           c.size-width.ensures.shape c.requires.fronts c.requires.backs c.both.ensures c.none-rows.ensures);
       kept = kept-none grid.height c.none-rows.result c.args.starts.now c.none-rows.ensures;
@@ -48,23 +50,29 @@ loop-row-preserved g c =
       low = below-more c.loop-row.left c.take_first.new.self grid.height row c.in-Some.ensures.some
           c.loop-row.invariant.low;
       done =
-          passed-changed (IsRowOfTargets grid table Right c.args.leads c.args.first.now c.args.second.now
+          passed-changed (IsRowOfTargets grid table Right c.args.leads c.args.fronts.now.part.cells.now
+          c.args.backs.now.part.cells.now
           c.loop-row.rows c.loop-row.starts)
           _ c.loop-row.left c.take_first.new.self grid.height row few c.in-Some.ensures.some
-          (row-here grid table Right c.args.leads c.args.first.now c.args.second.now c.loop-row.rows
+          (row-here grid table Right c.args.leads c.args.fronts.now.part.cells.now c.args.backs.now.part.cells.now
+          c.loop-row.rows
           c.loop-row.starts row
           c.paired-columns.result c.keep_row-rows.result c.keep_row-rows.new.starts c.keep_row-rows.ensures.kept
-          (across-targets grid table c.args.leads c.args.first.now c.args.second.now (length c.args.first.now) row
+          (across-targets grid table c.args.leads c.args.fronts.now.part.cells.now c.args.backs.now.part.cells.now
+          (length c.args.fronts.now.part.cells.now) row
           c.kept_on_row-front.result
-          c.kept_on_row-back.result c.paired-columns.result c.size-width.ensures.shape low c.requires.first
-          c.requires.second refl
-          (kept_where grid table Right c.args.first.now fronts.rows c.kept_on_row-front.result fronts.columns.now row
+          c.kept_on_row-back.result c.paired-columns.result c.size-width.ensures.shape low c.args.fronts.now.part.whole
+          c.args.backs.now.part.whole refl
+          (kept_where grid table Right c.args.fronts.now.part.cells.now fronts.rows c.kept_on_row-front.result
+          fronts.columns.now row
           c.requires.fronts low c.kept_on_row-front.ensures)
-          (kept_where grid table Right c.args.second.now backs.rows c.kept_on_row-back.result backs.columns.now row
+          (kept_where grid table Right c.args.backs.now.part.cells.now backs.rows c.kept_on_row-back.result
+          backs.columns.now row
           c.requires.backs low c.kept_on_row-back.ensures)
           c.paired-columns.ensures))
           (λ other near apart found.
-          row-other grid table Right c.args.leads c.args.first.now c.args.second.now c.loop-row.rows
+          row-other grid table Right c.args.leads c.args.fronts.now.part.cells.now c.args.backs.now.part.cells.now
+          c.loop-row.rows
           c.loop-row.starts row
           c.paired-columns.result c.keep_row-rows.result c.keep_row-rows.new.starts other
           c.keep_row-rows.ensures.kept (omega (arith, near, few)) apart found)
@@ -79,7 +87,8 @@ returns-clause-targets g c =
     let table : Option (List ℕ) = g.B.Board.table c.args.board.now in
     record {
       each = λ row low.
-          passed-all (IsRowOfTargets grid table Right c.args.leads c.args.first.now c.args.second.now c.loop-row.rows
+          passed-all (IsRowOfTargets grid table Right c.args.leads c.args.fronts.now.part.cells.now
+          c.args.backs.now.part.cells.now c.loop-row.rows
           c.loop-row.starts)
           c.loop-row.left grid.height row c.size-width.ensures.shape.rows
           (c.in_default.ensures.none refl) c.loop-row.invariant.done low;
@@ -94,7 +103,7 @@ pub returns-clause-long : goal.returns-clause-long
 returns-clause-long g c = c.loop-row.invariant.long
 
 pub overflow_cast-size : goal.overflow_cast-size
-overflow_cast-size g c = fits_half (length c.args.first.now) c.requires.short
+overflow_cast-size g c = fits_half (length c.args.fronts.now.part.cells.now) c.requires.short
 
 pub below-requires : goal.below-requires
 below-requires g c = c.size-width.ensures.low

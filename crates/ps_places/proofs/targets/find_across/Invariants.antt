@@ -11,7 +11,8 @@ invariant-loop-row g l =
     let grid = g.B.Board.grid l.board in
     record {
       low : AreBelow grid.height l.left;
-      done : ArePassed (IsRowOfTargets grid (g.B.Board.table l.board) Right l.leads l.first l.second l.rows l.starts)
+      done : ArePassed (IsRowOfTargets grid (g.B.Board.table l.board) Right l.leads l.fronts.part.cells.now
+          l.backs.part.cells.now l.rows l.starts)
           grid.height l.left;
       kept : AreKept grid.height l.rows l.starts;
       long : length l.starts ≡ length l.fn.starts;

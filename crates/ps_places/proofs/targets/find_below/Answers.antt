@@ -12,8 +12,10 @@ loop-row-init g c =
     let table : Option (List ℕ) = g.B.Board.table c.args.board.now in
     record {
       far = omega arith;
-      seen = above-init grid table c.args.first.now (length c.args.first.now) c.none-seen.result c.none-seen.ensures;
-      done = below-init grid table c.args.first.now c.args.second.now (length c.args.first.now) c.none-rows.result
+      seen = above-init grid table c.args.fronts.now.part.cells.now (length c.args.fronts.now.part.cells.now)
+          c.none-seen.result c.none-seen.ensures;
+      done = below-init grid table c.args.fronts.now.part.cells.now c.args.backs.now.part.cells.now (length
+          c.args.fronts.now.part.cells.now) c.none-rows.result
           c.args.starts.now refl c.none-rows.ensures;
       kept = kept-none grid.height c.none-rows.result c.args.starts.now c.none-rows.ensures;
       long = refl;
@@ -27,18 +29,21 @@ loop-row-preserved g c =
     let low : row < grid.height = rw (← c.size-width.ensures.height) c.loop-row-test.true in
     let few : grid.height ≤ SIDE_LIMIT = c.size-width.ensures.shape.rows in
     let seen =
-    above-more grid table c.args.first.now (length c.args.first.now) row _ c.loop-row.seen c.columns_begun.result
+    above-more grid table c.args.fronts.now.part.cells.now (length c.args.fronts.now.part.cells.now) row _
+    c.loop-row.seen c.columns_begun.result
     c.either-seen.result
     c.loop-row.invariant.far (omega (arith, low, few)) refl c.columns_begun.ensures c.either-seen.ensures
     c.loop-row.invariant.seen in
     record {
-      far = let far : (length c.args.first.now) ≤ row = c.loop-row.invariant.far in omega (arith, far);
+      far = let far : (length c.args.fronts.now.part.cells.now) ≤ row = c.loop-row.invariant.far in omega (arith, far);
       seen = seen;
       done =
-          below-more grid table c.args.first.now c.args.second.now c.loop-row.rows c.loop-row.starts row
+          below-more grid table c.args.fronts.now.part.cells.now c.args.backs.now.part.cells.now c.loop-row.rows
+          c.loop-row.starts row
           c.both-columns.result
           c.keep_row-rows.result c.keep_row-rows.new.starts c.size-width.ensures.shape c.keep_row-rows.ensures.kept
-          (below-targets grid table c.args.first.now c.args.second.now (length c.args.first.now) row
+          (below-targets grid table c.args.fronts.now.part.cells.now c.args.backs.now.part.cells.now (length
+          c.args.fronts.now.part.cells.now) row
           c.columns_begun-in-loop-row.result c.either-seen.result
           c.both-columns.result refl c.columns_begun-in-loop-row.ensures seen c.both-columns.ensures)
           c.loop-row.invariant.done;
@@ -63,13 +68,10 @@ pub returns-clause-long : goal.returns-clause-long
 returns-clause-long g c = c.loop-row.invariant.long
 
 pub overflow_cast-size : goal.overflow_cast-size
-overflow_cast-size g c = fits_half (length c.args.first.now) c.requires.short
+overflow_cast-size g c = fits_half (length c.args.fronts.now.part.cells.now) c.requires.short
 
-pub columns_begun-requires-clause-part : goal.columns_begun-requires-clause-part
-columns_begun-requires-clause-part g c = c.requires.first
-
-pub columns_begun-requires-clause-starts : goal.columns_begun-requires-clause-starts
-columns_begun-requires-clause-starts g c = c.requires.fronts
+pub columns_begun-requires : goal.columns_begun-requires
+columns_begun-requires g c = c.requires.fronts
 
 pub keep_row-rows-requires-clause-within : goal.keep_row-rows-requires-clause-within
 keep_row-rows-requires-clause-within g c =

@@ -9,9 +9,9 @@ invariant-loop-row g l =
     let grid = g.B.Board.grid l.board in
     let table = g.B.Board.table l.board in
     record {
-      far : (length l.first) ≤ l.row;
-      seen : AreSeenAbove grid table l.first (length l.first) l.seen l.row;
-      done : AreRowsFound grid table false l.first l.second l.rows l.starts 0 l.row;
+      far : (length l.fronts.part.cells.now) ≤ l.row;
+      seen : AreSeenAbove grid table l.fronts.part.cells.now (length l.fronts.part.cells.now) l.seen l.row;
+      done : AreRowsFound grid table false l.fronts.part.cells.now l.backs.part.cells.now l.rows l.starts 0 l.row;
       kept : AreKept grid.height l.rows l.starts;
       long : length l.starts ≡ length l.fn.starts;
     }

@@ -39,8 +39,8 @@ slice_bounds-seek-end g c =
 pub seek-requires-clause-lines : goal.seek-requires-clause-lines
 seek-requires-clause-lines g c = record { at = c.requires.at }
 
-pub seek-requires-clause-starts : goal.seek-requires-clause-starts
-seek-requires-clause-starts g c = c.as_slice-starts.ensures.len ∙ c.args.self.now.long
+pub invariant_of-found : goal.invariant_of-found
+invariant_of-found g c = record { long = c.as_slice-starts.ensures.len ∙ c.args.self.now.long }
 
 pub seek-requires-clause-way : goal.seek-requires-clause-way
 seek-requires-clause-way g c =

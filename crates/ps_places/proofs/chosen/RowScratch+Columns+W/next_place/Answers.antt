@@ -28,8 +28,8 @@ slice_bounds-seek_on-end g c =
 pub seek_on-requires-clause-lines : goal.seek_on-requires-clause-lines
 seek_on-requires-clause-lines g c = record { at = c.requires.lines.at }
 
-pub seek_on-requires-clause-starts : goal.seek_on-requires-clause-starts
-seek_on-requires-clause-starts g c = c.as_slice-starts.ensures.len ∙ c.args.self.now.long
+pub invariant_of-found : goal.invariant_of-found
+invariant_of-found g c = record { long = c.as_slice-starts.ensures.len ∙ c.args.self.now.long }
 
 pub seek_on-requires-clause-way : goal.seek_on-requires-clause-way
 seek_on-requires-clause-way g c =

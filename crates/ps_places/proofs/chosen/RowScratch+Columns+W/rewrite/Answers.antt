@@ -41,7 +41,7 @@ loop-number-preserved g c =
     ∙ ap (λ (cells : List CompiledCell). rewritten_along before
     (part_meaning (g.B.Board.table c.loop-number.board) cells)
     (line_cells axis (g.B.Board.grid c.loop-number.board).height line (get_or c.args.self.now.way number 0)
-    (length cells))) c.as_slice.ensures
+    (length cells))) c.as_slice-part.ensures
     ∙ ap (λ (t : Option (List ℕ)). rewritten_along before (part_meaning t part)
     (line_cells axis (g.B.Board.grid c.loop-number.board).height line (get_or c.args.self.now.way number 0)
     (length part))) (same_layers c.loop-number.invariant.fixed)

@@ -51,7 +51,7 @@ rewrite_fitting_part-any-requires g c =
     let both = part-here now table axis line parts way number part 0 low
     (omega (arith, low, long)) is c.loop-number.invariant.fit in
     ap (λ (cells : List CompiledCell). part_fits now (g.B.Board.table c.loop-number.board) axis line cells
-    (get_or c.args.self.now.way number 0)) c.as_slice.ensures
+    (get_or c.args.self.now.way number 0)) c.as_slice-part.ensures
     ∙ ap (λ (t : Option (List ℕ)). part_fits now t axis line part (get_or c.args.self.now.way number 0))
     (same_layers c.loop-number.invariant.fixed)
     ∙ ap (part_fits now table axis line part) (sym (get_or-take (length parts) c.args.self.now.way number 0 low))
@@ -93,7 +93,8 @@ loop-number-preserved g c =
     c.rewrite_fitting_part-any.ensures.rewritten
     ∙ ap (λ (cells : List CompiledCell).
     rewritten_along before (part_meaning (g.B.Board.table c.loop-number.board) cells)
-    (line_cells axis (before.grid).height line (get_or c.args.self.now.way number 0) (length cells))) c.as_slice.ensures
+    (line_cells axis (before.grid).height line (get_or c.args.self.now.way number 0) (length cells)))
+    c.as_slice-part.ensures
     ∙ ap (λ (t : Option (List ℕ)). rewritten_along before (part_meaning t part)
     (line_cells axis (before.grid).height line (get_or c.args.self.now.way number 0) (length part)))
     (same_layers c.loop-number.invariant.fixed)

@@ -25,9 +25,6 @@ returns-clause-some g c =
     c.find_rows_among.result c.find_rows_among.new.starts
     c.recall_shape.ensures.shape c.requires c.find_rows_among.ensures.starts
 
-pub find_rows_among-requires-clause-whole : goal.find_rows_among-requires-clause-whole
-find_rows_among-requires-clause-whole g c = c.requires
-
 pub find_rows_among-requires-clause-only : goal.find_rows_among-requires-clause-only
 find_rows_among-requires-clause-only g c = c.rows_of_part-rows.ensures
 
@@ -36,11 +33,12 @@ rows_of_part-rows-requires g c = c.requires
 
 pub find_rows_among-requires-clause-room : goal.find_rows_among-requires-clause-room
 find_rows_among-requires-clause-room g c =
-    has_scratch (length c.as_mut_slice.result.now) (c.as_mut_slice.ensures.len ∙ c.args.self.now.long)
+    has_scratch (length c.as_mut_slice-starts.result.now) (c.as_mut_slice-starts.ensures.len ∙ c.args.self.now.long)
 
 pub find_rows_among-requires-clause-scanned : goal.find_rows_among-requires-clause-scanned
 find_rows_among-requires-clause-scanned g c =
-    has_room (length c.as_mut_slice-2.result.now) (c.as_mut_slice-2.ensures.len ∙ c.args.self.now.scanned_long)
+    has_room (length c.as_mut_slice-scanned.result.now) (c.as_mut_slice-scanned.ensures.len ∙
+    c.args.self.now.scanned_long)
 
 pub invariant_of-self : goal.invariant_of-self
 invariant_of-self g c =
@@ -57,7 +55,7 @@ returns-clause-starts g c =
     subst (λ (sets : List (List Bool)). AreStarts (g.B.Board.grid c.args.board.now)
     (g.B.Board.table c.args.board.now) c.args.axis c.args.part.now c.find_rows_among.result sets)
     (sym (with_items_is c.args.self.now.starts c.find_rows_among.new.starts
-    (c.find_rows_among.ensures.long ∙ c.as_mut_slice.ensures.len)))
+    (c.find_rows_among.ensures.long ∙ c.as_mut_slice-starts.ensures.len)))
     c.find_rows_among.ensures.starts
 
 pub returns-then-is_empty-clause-starts : goal.returns-then-is_empty-clause-starts

@@ -35,9 +35,6 @@ invariant_of-self g c =
       scanned_long = self.scanned_long;
     }
 
-pub begins_on_rows-requires-clause-whole : goal.begins_on_rows-requires-clause-whole
-begins_on_rows-requires-clause-whole g c = c.requires
-
 pub begins_on_rows-requires-clause-only : goal.begins_on_rows-requires-clause-only
 begins_on_rows-requires-clause-only g c = c.rows_of_part-rows.ensures
 
@@ -63,9 +60,6 @@ returns-then-has_few-clause-some g c = λ yes.
     c.find_rows_among.result c.find_rows_among.new.starts c.recall_shape.ensures.shape c.requires
     c.find_rows_among.ensures.starts
     (c.is_empty-then-has_few.ensures.some (not-true c.is_empty-then-has_few.result yes))
-
-pub find_rows_among-requires-clause-whole : goal.find_rows_among-requires-clause-whole
-find_rows_among-requires-clause-whole g c = c.requires
 
 pub find_rows_among-requires-clause-only : goal.find_rows_among-requires-clause-only
 find_rows_among-requires-clause-only g c = c.rows_of_part-rows.ensures

@@ -50,12 +50,14 @@ pub bounds-parts-1 : goal.bounds-parts-1
 bounds-parts-1 g c = has_shown c.as_slice-parts.result.now c.args.row.now.parts 1 c.as_slice-parts.ensures
     (has_second c.args.row.now.parts c.requires)
 
-pub find_rows-fronts_on-requires-clause-whole : goal.find_rows-fronts_on-requires-clause-whole
-find_rows-fronts_on-requires-clause-whole g c =
+pub invariant_of-front : goal.invariant_of-front
+invariant_of-front g c =
     let parts = c.args.row.now.parts in
-    read_whole parts c.as_slice-parts.result.now c.index-parts-0.result c.as_slice-first.result.now 0
-    c.as_slice-parts.ensures c.index-parts-0.is c.as_slice-first.ensures (has_first parts c.requires)
-    c.args.row.now.whole
+    record {
+      whole = read_whole parts c.as_slice-parts.result.now c.index-parts-0.result c.as_slice-first.result.now 0
+          c.as_slice-parts.ensures c.index-parts-0.is c.as_slice-first.ensures (has_first parts c.requires)
+          c.args.row.now.whole;
+    }
 
 pub find_rows-fronts_on-requires-clause-room : goal.find_rows-fronts_on-requires-clause-room
 find_rows-fronts_on-requires-clause-room g c =
@@ -75,12 +77,14 @@ invariant_of-self g c =
       scanned_long = self.scanned_long;
     }
 
-pub find_rows-backs_on-requires-clause-whole : goal.find_rows-backs_on-requires-clause-whole
-find_rows-backs_on-requires-clause-whole g c =
+pub invariant_of-back : goal.invariant_of-back
+invariant_of-back g c =
     let parts = c.args.row.now.parts in
-    read_whole parts c.as_slice-parts.result.now c.index-parts-1.result c.as_slice-second.result.now 1
-    c.as_slice-parts.ensures c.index-parts-1.is c.as_slice-second.ensures (has_second parts c.requires)
-    c.args.row.now.whole
+    record {
+      whole = read_whole parts c.as_slice-parts.result.now c.index-parts-1.result c.as_slice-second.result.now 1
+          c.as_slice-parts.ensures c.index-parts-1.is c.as_slice-second.ensures (has_second parts c.requires)
+          c.args.row.now.whole;
+    }
 
 pub find_rows-backs_on-requires-clause-room : goal.find_rows-backs_on-requires-clause-room
 find_rows-backs_on-requires-clause-room g c =
@@ -102,20 +106,6 @@ invariant_of-self-then-is_empty-2 g c =
     }
 
 -- what is asked of the parts and of where they begin ------------------------------------------------------------------
-
-pub find_above-requires-clause-first : goal.find_above-requires-clause-first
-find_above-requires-clause-first g c =
-    let parts = c.args.row.now.parts in
-    read_whole parts c.as_slice-parts.result.now c.index-parts-0.result c.as_slice-first.result.now 0
-    c.as_slice-parts.ensures c.index-parts-0.is c.as_slice-first.ensures (has_first parts c.requires)
-    c.args.row.now.whole
-
-pub find_above-requires-clause-second : goal.find_above-requires-clause-second
-find_above-requires-clause-second g c =
-    let parts = c.args.row.now.parts in
-    read_whole parts c.as_slice-parts.result.now c.index-parts-1.result c.as_slice-second.result.now 1
-    c.as_slice-parts.ensures c.index-parts-1.is c.as_slice-second.ensures (has_second parts c.requires)
-    c.args.row.now.whole
 
 pub find_above-requires-clause-short : goal.find_above-requires-clause-short
 find_above-requires-clause-short g c = c.if-first.false
@@ -141,20 +131,6 @@ find_above-requires-clause-backs g c =
 pub find_above-requires-clause-room : goal.find_above-requires-clause-room
 find_above-requires-clause-room g c = has_scratch _ (c.as_mut_slice-starts.ensures.len ∙ c.args.self.now.long)
 
-pub find_below-requires-clause-first : goal.find_below-requires-clause-first
-find_below-requires-clause-first g c =
-    let parts = c.args.row.now.parts in
-    read_whole parts c.as_slice-parts.result.now c.index-parts-0.result c.as_slice-first.result.now 0
-    c.as_slice-parts.ensures c.index-parts-0.is c.as_slice-first.ensures (has_first parts c.requires)
-    c.args.row.now.whole
-
-pub find_below-requires-clause-second : goal.find_below-requires-clause-second
-find_below-requires-clause-second g c =
-    let parts = c.args.row.now.parts in
-    read_whole parts c.as_slice-parts.result.now c.index-parts-1.result c.as_slice-second.result.now 1
-    c.as_slice-parts.ensures c.index-parts-1.is c.as_slice-second.ensures (has_second parts c.requires)
-    c.args.row.now.whole
-
 pub find_below-requires-clause-short : goal.find_below-requires-clause-short
 find_below-requires-clause-short g c = c.if-first.false
 
@@ -178,20 +154,6 @@ find_below-requires-clause-backs g c =
 
 pub find_below-requires-clause-room : goal.find_below-requires-clause-room
 find_below-requires-clause-room g c = has_scratch _ (c.as_mut_slice-starts.ensures.len ∙ c.args.self.now.long)
-
-pub find_across-requires-clause-first : goal.find_across-requires-clause-first
-find_across-requires-clause-first g c =
-    let parts = c.args.row.now.parts in
-    read_whole parts c.as_slice-parts.result.now c.index-parts-0.result c.as_slice-first.result.now 0
-    c.as_slice-parts.ensures c.index-parts-0.is c.as_slice-first.ensures (has_first parts c.requires)
-    c.args.row.now.whole
-
-pub find_across-requires-clause-second : goal.find_across-requires-clause-second
-find_across-requires-clause-second g c =
-    let parts = c.args.row.now.parts in
-    read_whole parts c.as_slice-parts.result.now c.index-parts-1.result c.as_slice-second.result.now 1
-    c.as_slice-parts.ensures c.index-parts-1.is c.as_slice-second.ensures (has_second parts c.requires)
-    c.args.row.now.whole
 
 pub find_across-requires-clause-short : goal.find_across-requires-clause-short
 find_across-requires-clause-short g c = c.if-first.false
