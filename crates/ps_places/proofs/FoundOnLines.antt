@@ -1,6 +1,6 @@
 -- Positions of parts that go right: lines on which a part can't begin are left out, and on few others each part is
 -- found line by line.
-use Rattle.std.proofs.Common.{◌≡◌, ◌≢◌, ◌∙◌, ℕ, ◌+◌, ◌*◌, ◌<◌, ◌≤◌, ◌&&◌, ◌||◌, inl, inr, not, Bool, true, false}
+use Rattle.std.proofs.Common.{◌≡◌, ◌≢◌, ◌∙◌, ℕ, ◌+◌, ◌*◌, ◌<◌, ◌&&◌, ◌||◌, inl, inr, not, Bool, true, false}
 use Rattle.std.proofs.Common.{Option, List, [], ◌∷◌, length, refl, sym, ap, ap₂, subst, arith}
 use Rattle.std.specs.Prelude.{nat_eq, nat_le, slice_set}
 use Rattle.std.proofs.Math.Bool.{and-false}

@@ -1,5 +1,5 @@
 -- Where a part of a row of a rule begins that lies along an axis, and where its row may lie, as a board is.
-use Rattle.std.specs.Prelude.{ℕ, ◌≤◌, ◌<◌, Bool, List, length}
+use Rattle.std.specs.Prelude.{ℕ, Bool, List}
 use Rattle.ps_board.specs.declared.board.Board.{Ghosts as Board}
 use Rattle.ps_program.specs.declared.rows.Axis.{Axis}
 use Rattle.ps_places.specs.declared.axis_parts.AxisPart.{AxisPart}

@@ -1,7 +1,7 @@
-use Rattle.std.proofs.Common.{◌≡◌, ◌∙◌, ◌<◌, ◌+◌, ◌*◌, true, Bool, List, Option, ℕ, length, refl, ap, subst, sym, arith}
+use Rattle.std.proofs.Common.{◌∙◌, ◌<◌, ◌+◌, ◌*◌, Bool, List, Option, ℕ, length, refl, ap, subst, sym, arith}
 use Rattle.std.proofs.lemmas.List.{length-set}
 use Rattle.ps_model.specs.board.Grid.{Grid}
-use Rattle.ps_board.specs.ColumnSets.{column_at, set_columns}
+use Rattle.ps_board.specs.ColumnSets.{set_columns}
 use Rattle.ps_board.proofs.ColumnLaws.{first_in}
 use Rattle.ps_places.proofs.FoundOnLines.{AreFoundBut, found-all, found-init, found-more}
 use Rattle.ps_places.proofs.LineSets.{part_room}

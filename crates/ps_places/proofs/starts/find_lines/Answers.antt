@@ -1,9 +1,8 @@
-use Rattle.std.proofs.Common.{◌≡◌, ◌∙◌, ◌*◌, [], ℕ, length, refl, subst, sym}
+use Rattle.std.proofs.Common.{◌≡◌, ◌∙◌, ◌*◌, [], ℕ, length, subst, sym}
 use Rattle.std.proofs.lemmas.List.{get_or_default}
 use Rattle.ps_program.specs.declared.rows.Axis.{Axis}
 use Rattle.ps_places.specs.FoundStarts.{AreLinesFound, IsPartFound}
 use Rattle.ps_model.specs.declared.limits.TheConstants.{SIDE_LIMIT}
-use Rattle.ps_places.proofs.PartsRead.{read_whole}
 use Rattle.ps_places.proofs.SmallSteps.{at_least, less_left, reached}
 use Rattle.ps_places.proofs.FoundLines.{lines-more, lines-none}
 use Rattle.ps_places.proofs.starts.find_lines.Goals as goal

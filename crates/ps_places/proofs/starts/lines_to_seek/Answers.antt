@@ -1,4 +1,4 @@
-use Rattle.std.proofs.Common.{Bool, List, subst}
+use Rattle.std.proofs.Common.{subst}
 use Rattle.ps_program.specs.declared.rows.Axis.{Axis}
 use Rattle.ps_places.specs.FoundStarts.{AreLinesFound}
 use Rattle.ps_places.proofs.FoundLines.{lines-init}

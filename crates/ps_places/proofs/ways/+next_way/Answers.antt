@@ -1,5 +1,4 @@
 use Rattle.std.proofs.Common.{◌≡◌, ◌∙◌, ◌<◌, ◌≤◌, ◌∷◌, ℕ, ◌+◌, Bool, Option, List, length, sym, ap, arith}
-use Rattle.std.specs.Prelude.{All}
 use Rattle.std.proofs.lemmas.Bool.{eqb-true}
 use Rattle.std.proofs.lemmas.List.Elements.{All-rest}
 use Rattle.ps_model.specs.board.Grid.{Grid}
