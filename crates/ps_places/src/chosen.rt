@@ -15,7 +15,6 @@ ghost use Rattle.ps_places.specs.Ways.{from_first};
 use crate::found_lines::FoundLines;
 use crate::lines::Line;
 use crate::parts::{behind_position, part_fits, rewrite_fitting_part, rewrite_part};
-use crate::parts_on_lines::PartsOnLine;
 use crate::scratch::RowScratch;
 use crate::ways::{first_way, next_way};
 use ps_match::{ColumnWords, Columns, Scan, recall_shape};
@@ -51,12 +50,7 @@ fn seek<B: Scan>(
         let sets = &starts[at..at + count];
         let number = line as u8;
         let axis = row.axis;
-        let on_line = PartsOnLine {
-            line: Line { axis, number },
-            parts,
-            sets,
-        };
-        if first_way(board, on_line, 0, way) {
+        if first_way(board, Line { axis, number }, parts, sets, 0, way) {
             return Some(line as u8);
         }
     }
@@ -91,12 +85,8 @@ fn seek_on<B: Scan>(
     let at = line as usize * count;
     let sets = &starts[at..at + count];
     let axis = row.axis;
-    let on_line = PartsOnLine {
-        line: Line { axis, number: line },
-        parts,
-        sets,
-    };
-    if next_way(board, on_line, way) {
+    let number = line;
+    if next_way(board, Line { axis, number }, parts, sets, way) {
         return Some(line);
     }
     seek(board, row, found, usize::from(line) + 1, way)

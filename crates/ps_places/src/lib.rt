@@ -13,7 +13,6 @@ mod lines;
 mod part_numbers;
 mod part_starts;
 mod parts;
-mod parts_on_lines;
 mod rewriting;
 mod row_spans;
 mod scratch;

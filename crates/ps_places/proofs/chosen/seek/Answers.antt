@@ -113,6 +113,16 @@ pub slice_bounds-sets-count : goal.slice_bounds-sets-count
 slice_bounds-sets-count g c =
     further (c.in-Some.line * length c.as_slice-parts.result.now) (length c.as_slice-parts.result.now)
 
+pub first_way-requires-clause-sets : goal.first_way-requires-clause-sets
+first_way-requires-clause-sets g c =
+    sets_taken c.args.found.now.starts.now c.in-Some.line (length c.args.row.now.parts) (length
+    c.as_slice-parts.result.now)
+    (ap length c.as_slice-parts.ensures) c.in-Some.ensures.within
+    c.args.row.now.few c.args.found.now.long
+
+pub first_way-requires-clause-whole : goal.first_way-requires-clause-whole
+first_way-requires-clause-whole g c = subst (All HasCells) (sym c.as_slice-parts.ensures) c.args.row.now.whole
+
 pub returns-then-first_way-clause-none : goal.returns-then-first_way-clause-none
 returns-then-first_way-clause-none g c = no_some
 
@@ -152,12 +162,3 @@ returns-clause-none g c = λ nowhere.
 
 pub returns-clause-long : goal.returns-clause-long
 returns-clause-long g c = c.loop-line.auto.way
-
-pub invariant_of-on_line : goal.invariant_of-on_line
-invariant_of-on_line g c =
-    record {
-      each = sets_taken c.args.found.now.starts.now c.in-Some.line (length c.args.row.now.parts)
-          (length c.as_slice-parts.result.now) (ap length c.as_slice-parts.ensures) c.in-Some.ensures.within
-          c.args.row.now.few c.args.found.now.long;
-      whole = subst (All HasCells) (sym c.as_slice-parts.ensures) c.args.row.now.whole;
-    }

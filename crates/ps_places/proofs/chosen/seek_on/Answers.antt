@@ -88,6 +88,18 @@ pub slice_bounds-sets-count : goal.slice_bounds-sets-count
 slice_bounds-sets-count g c =
     further (c.args.line * length c.as_slice-parts.result.now) (length c.as_slice-parts.result.now)
 
+pub next_way-requires-clause-sets : goal.next_way-requires-clause-sets
+next_way-requires-clause-sets g c =
+    sets_taken c.args.found.now.starts.now c.args.line (length c.args.row.now.parts) (length
+    c.as_slice-parts.result.now)
+    (ap length c.as_slice-parts.ensures)
+    (low_line c.args.line (line_count c.args.row.now.axis (g.B.Board.grid c.args.board.now)) c.requires.line
+    (lines-few c.args.row.now.axis (g.B.Board.grid c.args.board.now) c.recall_shape.ensures.shape))
+    c.args.row.now.few c.args.found.now.long
+
+pub next_way-requires-clause-whole : goal.next_way-requires-clause-whole
+next_way-requires-clause-whole g c = subst (All HasCells) (sym c.as_slice-parts.ensures) c.args.row.now.whole
+
 pub returns-then-next_way-clause-none : goal.returns-then-next_way-clause-none
 returns-then-next_way-clause-none g c = no_some
 
@@ -123,14 +135,3 @@ returns-clause-long g c =
 
 pub returns-clause-spaced : goal.returns-clause-spaced
 returns-clause-spaced g c = λ was. c.seek.ensures.spaced
-
-pub invariant_of-on_line : goal.invariant_of-on_line
-invariant_of-on_line g c =
-    record {
-      each = sets_taken c.args.found.now.starts.now c.args.line (length c.args.row.now.parts)
-          (length c.as_slice-parts.result.now) (ap length c.as_slice-parts.ensures)
-          (low_line c.args.line (line_count c.args.row.now.axis (g.B.Board.grid c.args.board.now)) c.requires.line
-          (lines-few c.args.row.now.axis (g.B.Board.grid c.args.board.now) c.recall_shape.ensures.shape))
-          c.args.row.now.few c.args.found.now.long;
-      whole = subst (All HasCells) (sym c.as_slice-parts.ensures) c.args.row.now.whole;
-    }
