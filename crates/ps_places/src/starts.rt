@@ -289,6 +289,7 @@ fn lines_of_last<B: Scan>(
 
 /// Finds the positions of parts that lie along an axis, and answers the lines on which each part has one. What is in
 /// `columns` and `scanned` afterwards is anything.
+#[inline(always)]
 fn find_lines<B: Scan>(
     board: &B,
     row: &AxisParts<'_>,
