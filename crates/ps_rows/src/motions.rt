@@ -87,8 +87,8 @@ pub fn choose_motion<W: ColumnWords>(planes: &mut Planes<W>, cell: u32, first: u
     planes.choose_plane(cell, &motions, motion_plane(first, motion));
 }
 
-/// Brings a cell to rest. Unlike `choose_motion` it doesn't ask first whether the row rests: an object that has moved had
-/// a motion there.
+/// Brings a cell to rest. Unlike `choose_motion` it doesn't ask first whether the row rests: an object that has moved
+/// had a motion there.
 pub fn clear_motion<W: ColumnWords>(planes: &mut Planes<W>, cell: u32, first: u32)
     requires column { cell / planes.old.height < W.limit }
     requires few { first + 4 < 2 ^ 32 }

@@ -4,7 +4,7 @@ use Rattle.std.proofs.Common.{List, [], ◌∷◌, ◌++◌, Option, Some, None,
 use Rattle.std.specs.Prelude.{IfSome, nat_eq, find, filter, option_to_list, unwrap_or}
 use Rattle.std.specs.List.{list_all, list_any}
 use Rattle.std.proofs.Math.Bool.{and-true, and_comm}
-use Rattle.std.proofs.lemmas.Bool.{and_from, and_parts, cases_Bool, cases_eq, eq-eqb, false≢true, ne_eqb, or_left}
+use Rattle.std.proofs.lemmas.Bool.{and_from, and_parts, cases_Bool, eq-eqb, false≢true, or_left}
 use Rattle.std.proofs.lemmas.Bool.{or_right}
 use Rattle.std.proofs.lemmas.List.Folds.{list_all-append}
 use Rattle.ps_model.specs.declared.pieces.ObjectId.{ObjectId}
@@ -133,12 +133,6 @@ it_covers_apart names single mixed object looked low above = λ below apart.
     (known kept (last_kept upper below object (ap not above)) (all_of_kept stands upper objects all)) alone
 
 -- two objects stand apart either way
-eqb_turned : (a b : ℕ) → nat_eq a b ≡ nat_eq b a
-eqb_turned a b = elim (cases_eq a b) [
-  | inl e ↦ eq-eqb a b e ∙ sym (eq-eqb b a (sym e))
-  | inr apart ↦ ne_eqb a b apart ∙ sym (ne_eqb b a (λ e. apart (sym e)))
-]
-
 any_turned : (object other : ObjectId) (glyphs : List Glyph) →
     list_any (shows_both object other) glyphs ≡ list_any (shows_both other object) glyphs
 any_turned object other [] = refl
@@ -150,7 +144,7 @@ any_turned object other (glyph ∷ glyphs) =
 pub apart_turned : (glyphs : List Glyph) (object other : ObjectId) →
     stands_apart glyphs object other ≡ stands_apart glyphs other object
 apart_turned glyphs object other =
-    ap₂ (λ (a b : Bool). a || not b) (eqb_turned object.0 other.0) (any_turned object other glyphs)
+    ap₂ (λ (a b : Bool). a || not b) (grind (arith, nat_tests)) (any_turned object other glyphs)
 
 -- one layer more
 pub apart_more : (glyphs : List Glyph) (below : List ObjectId) (found : Option ObjectId) →

@@ -85,8 +85,9 @@ pub fn by_greatest<'g>(
     glyphs: &[&'g Glyph],
     count: u32,
 ) -> Result<Vec<Vec<&'g Glyph>>, Memory>
-    ensures { IfOk result (λ lists. AreByGreatest (map (λ glyph. glyph_shown glyph.now) glyphs.now)
+    ensures lists { IfOk result (λ lists. AreByGreatest (map (λ glyph. glyph_shown glyph.now) glyphs.now)
         (map (λ list. map (λ glyph. glyph_shown glyph.now) list.items) lists.items)) }
+    ensures long { IfOk result (λ lists. vec_len lists ≡ count) }
 {
     let mosts = greatest_of_each(alloc, glyphs)?;
     let mut lists = Vec::new(alloc);

@@ -57,8 +57,8 @@ impl<'g> Model for SessionGame<'g> {
 }
 
 impl<'g> SessionGame<'g> {
-    /// The game of these parts, from its start, on boards for all levels. The sides of its levels are those of a board, and so are those of its
-    /// rooms, if it has rooms.
+    /// The game of these parts, from its start, on boards for all levels. The sides of its levels are those of a board, and
+    /// so are those of its rooms, if it has rooms.
     pub fn new(
         title: &'g str,
         options: Options,

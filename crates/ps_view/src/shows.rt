@@ -1,6 +1,6 @@
 //! Outputs that are shown in a view.
 
-ghost use Rattle.std.specs.Prelude.{◌≡◌, ◌||◌, [], false, true, OnOk};
+ghost use Rattle.std.specs.Prelude.{◌≡◌, ◌+◌, ◌||◌, [], false, true, OnOk};
 ghost use Rattle.ps_devices.specs.Devices.{Grows, IsSpent, Loses};
 ghost use Rattle.ps_view.specs.Pieces.{output_of};
 ghost use Rattle.ps_view.specs.Shown.{IsShown, IsShownInPart};
@@ -21,7 +21,7 @@ pub enum ShowFault {
 }
 
 /// Shows the output that a reader gives, to its end: a view that has taken nothing takes all of it, in the pieces in
-/// which it comes.
+/// which it comes. Behind the end nothing more is asked for.
 ///
 /// # Errors
 ///
@@ -39,6 +39,7 @@ pub fn show_all<I: ByteReader, W: ByteWriter, S: SizeTeller>(
     ensures given { OnOk result
         (Loses (I.state input.old).remaining (I.state input.new).remaining (output_of view.new.past.pieces)) }
     ensures ended { OnOk result (IsSpent (I.state input.new).remaining) }
+    ensures asked_once { OnOk result ((I.state input.new).empty_calls ≡ (I.state input.old).empty_calls + 1) }
     ensures well { OnOk result
         (((W.state view.new.writer.now).has_failed || (view.new.wants_memory || view.new.is_worn)) ≡ false) }
     ensures shown { (W.state view.new.writer.now).has_failed ≡ false

@@ -3,7 +3,6 @@
 ghost use Rattle.std.specs.Prelude.{◌≡◌, ◌++◌, IfOk, OnOk};
 ghost use Rattle.std.specs.List.{list_any};
 ghost use Rattle.ps_model.specs.board.Levels.{background_layer, is_ground};
-ghost use Rattle.ps_model.specs.names.Names.{is_among};
 ghost use Rattle.ps_model.specs.text.LineNumbers.{HasLines, lines_between};
 ghost use Rattle.ps_names.specs.Shown.{meaning_shown};
 ghost use Rattle.ps_rules.specs.RulesShown.{cell_list_shown};
@@ -13,6 +12,7 @@ ghost use Rattle.ps_warnings.specs.MeaningsSeen.{meanings_seen};
 
 use crate::kinds::{Warning, WarningKind};
 use crate::layers::{layer_numbers, number_at};
+use crate::levels::is_among;
 use crate::marks::is_marked;
 use crate::moved::{moved_by, put_by};
 use crate::rule_cells::cells_in;
@@ -31,13 +31,6 @@ fn ground_layer(names: &Names) -> u32
 {
     let first = names.backgrounds().first().copied();
     names.layer_of(first.unwrap_or(ObjectId(0))).0
-}
-
-/// Whether an object is one of these.
-fn is_among(objects: &[ObjectId], object: ObjectId) -> bool
-    ensures { result ≡ is_among objects.now object }
-{
-    objects.iter().any(|other| object.0 == other.0)
 }
 
 /// Whether an object shares the layer of Background, and has no mark.

@@ -12,7 +12,7 @@ use ps_model::{Memory, ObjectId};
 use ps_names::Names;
 
 /// Whether an object is among others.
-fn is_among(objects: &[ObjectId], object: ObjectId) -> bool
+pub fn is_among(objects: &[ObjectId], object: ObjectId) -> bool
     ensures { result ≡ is_among objects.now object }
 {
     objects.iter().any(|other| object.0 == other.0)

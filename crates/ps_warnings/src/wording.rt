@@ -67,7 +67,8 @@ pub fn sentence_of(alloc: Global, kind: WarningKind) -> Result<String, Memory>
         WarningKind::LayerTwice(line) => layer_sentence(alloc, line),
         WarningKind::NoRoom => copied(
             alloc,
-            "an object that moves is on the layer of Background, where it has no room: put Background on a line of its own",
+            "an object that moves is on the layer of Background, where it has no room: put Background on a line of \
+                its own",
         ),
         WarningKind::IdleRule => copied(alloc, "this rule has no effect"),
         WarningKind::LackingRule => copied(

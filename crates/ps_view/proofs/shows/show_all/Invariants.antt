@@ -11,6 +11,7 @@ invariant-loop-call g l =
       heard : (g.I.ByteReader.state l.input).has_failed ≡ false;
       well : ((g.W.ByteWriter.state l.view.writer.now).has_failed || (l.view.wants_memory || l.view.is_worn)) ≡ false;
       begun : l.view.past.begun ≡ l.initial.view.past.begun;
+      none_empty : (g.I.ByteReader.state l.input).empty_calls ≡ (g.I.ByteReader.state l.initial.input).empty_calls;
       given : Loses (g.I.ByteReader.state l.initial.input).remaining (g.I.ByteReader.state l.input).remaining
           (output_of l.view.past.pieces);
     }
