@@ -14,16 +14,16 @@ use Rattle.ps_board.specs.Histories.{BoardShown, latest_board}
 use Rattle.ps_board.specs.Rows.{DifferOnlyOn}
 use Rattle.ps_board.proofs.EmptySets.{in_neither}
 use Rattle.ps_stage.specs.Standings.{Standing}
+use Rattle.ps_stage.specs.Locations.{history_behind, history_behind_location, history_behind_no_board}
 use Rattle.ps_stage.specs.Touched.{AreTouched, IsTouchedAt}
+use Rattle.ps_session.specs.Behind.{behind_next, latest_of, IsBehind}
+use Rattle.ps_session.specs.KeyAnswers.{GoesFromThere}
 use Rattle.ps_stage.specs.declared.locations.HistoryChange.{HistoryChange}
 use Rattle.ps_stage.specs.declared.locations.HistoryChange.TheVariants.{Keeps, Adds, Clears}
 use Rattle.ps_stage.specs.declared.locations.Location.{Location}
 use Rattle.ps_stage.specs.declared.locations.Location.TheVariants.{Playing, Waiting, AtMessage, Ended}
-use Rattle.ps_session.specs.Behind.{ComesFromThere, IsBehind, behind_next, latest_of}
 use Rattle.ps_session.specs.Histories.{grids_of}
-use Rattle.ps_stage.specs.Locations.{history_behind}
-use Rattle.ps_session.specs.Nexts.{history_behind_location, history_behind_no_board}
-use Rattle.ps_session.specs.declared.nexts.Next.TheVariants.{Goes}
+use Rattle.ps_stage.specs.declared.locations.Change.TheVariants.{Goes}
 use Rattle.ps_session.proofs.UndoneSteps.{latest_grid}
 
 -- a location that has the board of another one is as far behind
@@ -110,7 +110,7 @@ behind_anew after next Clears behind rows told = tt
 -- behind the step to what comes next
 pub behind_gone : (grids : List Grid) (location next : Location Standing) (change : HistoryChange)
     (behind rows : Option (List Bool)) → IsBehind grids location behind →
-    ComesFromThere location (Goes next change rows) →
+    GoesFromThere location (Goes next change rows) →
     IsBehind (history_behind_location change grids location) next (behind_next behind change rows)
 behind_gone grids (Playing level) next change behind rows holds comes =
     behind_board grids level.board next change behind rows holds comes

@@ -1,5 +1,5 @@
 -- A message that is dismissed.
-use Rattle.std.proofs.Common.{◌≡◌, ◌≢◌, ℕ, suc, false, refl}
+use Rattle.std.proofs.Common.{◌≡◌, ◌≢◌, ℕ, suc, false, Bool, List, refl}
 use Rattle.std.proofs.lemmas.Bool.{true≢false}
 use Rattle.ps_model.specs.declared.play.Input.TheVariants.{Up, Down, Left, Right, Action}
 use Rattle.ps_model.specs.declared.play.Key.{Key}
@@ -9,6 +9,13 @@ use Rattle.ps_model.specs.session.Sessions.{Play, Pending}
 use Rattle.ps_model.specs.session.StartSteps.{enter}
 use Rattle.ps_model.specs.session.KeySteps.{gone_on, key_at_entry, key_at_level_message}
 use Rattle.ps_model.specs.session.IgnoredKeys.{is_ignored_at_message}
+use Rattle.ps_model.specs.board.Grid.{Grid}
+use Rattle.ps_stage.specs.Locations.{change_shown}
+use Rattle.ps_stage.specs.Standings.{Standing}
+use Rattle.ps_stage.specs.declared.locations.Change.{Change}
+use Rattle.ps_stage.specs.declared.locations.Change.TheVariants.{Stays, Undoes, Goes}
+use Rattle.ps_stage.specs.declared.locations.Location.TheVariants.{Playing, Waiting}
+use Rattle.ps_stage.specs.declared.locations.Pending.{Pending as Waits}
 
 -- a key that is neither ignored nor `q` dismisses it
 pub dismissed : (script : Script) (play : Play) (pending : Pending) (key : Key) → is_ignored_at_message key ≡ false →
@@ -34,3 +41,11 @@ entry_dismissed script entry (Move Action) e n = refl
 entry_dismissed script entry Undo e n = absurd (true≢false e)
 entry_dismissed script entry Restart e n = absurd (true≢false e)
 entry_dismissed script entry Quit e n = absurd (n refl)
+
+-- a change from a level at its message is the change from that level
+pub changed_at_message : (history : List Grid) (level : Standing) (pending : Waits)
+    (change : Change Standing (List Bool)) →
+    change_shown history (Waiting level pending) change ≡ change_shown history (Playing level) change
+changed_at_message history level pending (Stays waits) = refl
+changed_at_message history level pending (Undoes back) = refl
+changed_at_message history level pending (Goes next history_change rows) = refl

@@ -2,21 +2,19 @@
 
 ghost use Rattle.std.specs.Prelude.{◌≡◌, ◌++◌, [], ◌∷◌, Bool, IfSome, List, Some};
 ghost use Rattle.ps_model.specs.board.Grid.{Grid};
-ghost use Rattle.ps_stage.specs.Locations.{location_shown, IsOnBasis};
+ghost use Rattle.ps_stage.specs.Locations.{change_shown, history_behind_location, location_shown, stood, GoesOnBasis, IsOnBasis};
+ghost use Rattle.ps_stage.specs.Touched.{AreTouched, IsTouchedAt};
+ghost use Rattle.ps_session.specs.Behind.{behind_next, IsBehind};
+ghost use Rattle.ps_session.specs.KeyAnswers.{GoesFromThere, IsReadyFor, IsReadyTo};
 ghost use Rattle.ps_stage.specs.Standings.{Basis, basis_of, play_of};
 ghost use Rattle.ps_stage.specs.StepsShown.{stands};
 ghost use Rattle.ps_model.specs.session.Sessions.{kept};
-ghost use Rattle.ps_stage.specs.Touched.{AreTouched, IsTouchedAt};
-ghost use Rattle.ps_session.specs.Behind.{ComesFromThere, IsBehind, behind_next};
 ghost use Rattle.ps_session.specs.Histories.{AreOnTable, grids_of};
-ghost use Rattle.ps_session.specs.Nexts.{IsReadyFor, IsReadyTo, next_shown, history_behind_location, stood};
-ghost use Rattle.ps_session.specs.Bases.{ComesOnBasis};
-ghost use Rattle.ps_session.specs.declared.nexts.Next.TheVariants.{Goes};
+ghost use Rattle.ps_stage.specs.declared.locations.Change.TheVariants.{Goes};
 
-use crate::nexts::{Next, NextLevel};
 use ps_board::{Board, ColumnWords, Columns, History};
 use ps_model::Ending;
-use ps_stage::{HistoryChange, Location, Pending, PlayedLevel, Stage};
+use ps_stage::{Change, HistoryChange, LevelChange, Location, Pending, PlayedLevel, Stage};
 use std::mem;
 
 /// A level in which a message waits, or none.
@@ -90,14 +88,14 @@ fn hand_on<B: Board>(
 
 /// The boards of what was to come next and doesn't, for lack of memory, are there to be used again; but for those of
 /// another level, in the place of which boards of this one may be kept.
-pub fn give_up<B: Board>(stage: &mut Stage<'_, B>, next: NextLevel<B>)
+pub fn give_up<B: Board>(stage: &mut Stage<'_, B>, next: LevelChange<B>)
     ensures { stage.new ≡ stage.old }
 {
     match next {
-        Next::Stands(_) => {}
-        Next::Undoes(level) => stage.keep_level(level),
-        Next::Goes(_, HistoryChange::Clears, _) => {}
-        Next::Goes(location, _, _) => give_back(stage, location),
+        Change::Stays(_) => {}
+        Change::Undoes(level) => stage.keep_level(level),
+        Change::Goes(_, HistoryChange::Clears, _) => {}
+        Change::Goes(location, _, _) => give_back(stage, location),
     }
 }
 
@@ -136,7 +134,7 @@ fn leave<B: Board, H: History<B>>(
     rows: &Option<Columns<B::Words>>,
 )
     requires ready { IsReadyTo (H.ready history.old) location history_change }
-    requires touched { ComesFromThere location (Goes next.old history_change rows.now) }
+    requires touched { GoesFromThere location (Goes next.old history_change rows.now) }
     requires basis { IsOnBasis (basis_of B.table_for stage.old.game.names) location }
     requires comes { IsOnBasis (basis_of B.table_for stage.old.game.names) next.old }
     ensures stage { stage.new ≡ stage.old }
@@ -194,34 +192,34 @@ pub fn commit<B: Board, H: History<B>>(
     location: &mut Location<PlayedLevel<B>>,
     history: &mut H,
     behind: &mut Option<Columns<B::Words>>,
-    next: NextLevel<B>,
+    next: LevelChange<B>,
 )
     requires behind { IsBehind (grids_of (H.boards history.old)) location.old behind.old }
-    requires touched { ComesFromThere location.old next }
+    requires touched { GoesFromThere location.old next }
     requires ready { IsReadyFor (H.ready history.old) location.old next }
     requires basis { IsOnBasis (basis_of B.table_for stage.old.game.names) location.old }
-    requires comes { ComesOnBasis (basis_of B.table_for stage.old.game.names) next }
+    requires comes { GoesOnBasis (basis_of B.table_for stage.old.game.names) next }
     ensures stage { stage.new ≡ stage.old }
     ensures shown { location_shown (grids_of (H.boards history.new)) location.new
-        ≡ next_shown (grids_of (H.boards history.old)) location.old next }
+        ≡ change_shown (grids_of (H.boards history.old)) location.old next }
     ensures behind { IsBehind (grids_of (H.boards history.new)) location.new behind.new }
-    ensures location { (basis : Basis) → IsOnBasis basis location.old → ComesOnBasis basis next
+    ensures location { (basis : Basis) → IsOnBasis basis location.old → GoesOnBasis basis next
         → IsOnBasis basis location.new }
     ensures boards { (basis : Basis) → AreOnTable basis.table (H.boards history.old) → IsOnBasis basis location.old
         → AreOnTable basis.table (H.boards history.new) }
 {
     match next {
-        Next::Stands(pending) => {
+        Change::Stays(pending) => {
             let before = mem::replace(location, Location::Ended(Ending::Quit));
             *location = stood(before, pending);
         }
-        Next::Undoes(level) => {
+        Change::Undoes(level) => {
             history.go_back();
             *behind = None;
             let before = mem::replace(location, Location::Playing(level));
             give_back(stage, before);
         }
-        Next::Goes(next, history_change, rows) => {
+        Change::Goes(next, history_change, rows) => {
             *behind = behind_next(*behind, history_change, rows);
             let before = mem::replace(location, next);
             leave(stage, history, before, history_change, location, &rows);

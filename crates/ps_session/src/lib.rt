@@ -14,7 +14,6 @@ mod ignored;
 mod levels;
 mod locations;
 mod messages;
-mod nexts;
 mod phase;
 mod ready;
 mod rested;

@@ -5,21 +5,17 @@ ghost use Rattle.ps_model.specs.session.KeySteps.{key_step};
 ghost use Rattle.ps_stage.specs.Meanings.{meaning_of, script_by};
 ghost use Rattle.ps_stage.specs.Locations.{location_shown, IsOnBasis};
 ghost use Rattle.ps_stage.specs.OwnBoards.{IsForOthers};
+ghost use Rattle.ps_session.specs.KeyAnswers.{answer_step, AnswerFitsFrom, AnswersFrom, AnswersOnBasis};
 ghost use Rattle.ps_stage.specs.Standings.{basis_of};
 ghost use Rattle.ps_stage.specs.StepsShown.{IsStopped};
 ghost use Rattle.ps_session.specs.Histories.{AreOnTable, grids_of};
 ghost use Rattle.ps_model.specs.session.IgnoredKeys.{is_ignored};
-ghost use Rattle.ps_session.specs.Nexts.{next_step};
-ghost use Rattle.ps_session.specs.Behind.{AnswersFrom};
-ghost use Rattle.ps_session.specs.Bases.{AnswersOnBasis};
-ghost use Rattle.ps_session.specs.OwnBoards.{AnswerFitsFrom};
 
 use crate::levels::key_in_level;
 use crate::messages::{key_at_entry, key_at_level_message};
-use crate::nexts::NextLevel;
 use ps_board::{Board, History};
 use ps_model::Key;
-use ps_stage::{Location, PlayedLevel, Stage, Stop};
+use ps_stage::{LevelChange, Location, PlayedLevel, Stage, Stop};
 use ps_turn::{Rules, TurnRules};
 
 /// What a key does; nothing, where it is ignored. The location stays as it is.
@@ -33,7 +29,7 @@ pub fn next_at<B: Board, H: History<B>, R: Rules<B>>(
     location: &mut Location<PlayedLevel<B>>,
     history: &H,
     key: Key,
-) -> Result<Option<NextLevel<B>>, Stop>
+) -> Result<Option<LevelChange<B>>, Stop>
     requires empty { stage.old.text ≡ [] }
     requires basis { IsOnBasis (basis_of B.table_for stage.old.game.names) location.old }
     requires boards { AreOnTable (B.table_for stage.old.game.names.layers) (H.boards history.now) }
@@ -43,7 +39,7 @@ pub fn next_at<B: Board, H: History<B>, R: Rules<B>>(
     ensures came { IfOk result (λ next.
         key_step (script_by B.Board R.Rules stage.old.game rules.old)
         (location_shown (grids_of (H.boards history.now)) location.old) key
-        ≡ next_step (grids_of (H.boards history.now)) location.old next stage.new.text) }
+        ≡ answer_step (grids_of (H.boards history.now)) location.old next stage.new.text) }
     ensures stopped { IfErr result (λ stop.
         IsStopped (script_by B.Board R.Rules stage.old.game rules.old) stop
         (key_step (script_by B.Board R.Rules stage.old.game rules.old)

@@ -5,21 +5,17 @@ ghost use Rattle.ps_model.specs.board.Grid.{Grid};
 ghost use Rattle.ps_model.specs.session.KeySteps.{key_at_entry, key_at_level_message};
 ghost use Rattle.ps_stage.specs.Meanings.{meaning_of, script_by};
 ghost use Rattle.ps_stage.specs.OwnBoards.{IsForOthers};
+ghost use Rattle.ps_session.specs.KeyAnswers.{answer_step, AnswerFits, AnswersFrom, AnswersOnBasis};
 ghost use Rattle.ps_stage.specs.Standings.{basis_of, play_of};
 ghost use Rattle.ps_stage.specs.StepsShown.{IsStopped, pending_shown};
 ghost use Rattle.ps_stage.specs.declared.locations.Location.TheVariants.{AtMessage, Waiting};
 ghost use Rattle.ps_model.specs.session.IgnoredKeys.{is_ignored_at_message};
-ghost use Rattle.ps_session.specs.Nexts.{next_step};
-ghost use Rattle.ps_session.specs.Behind.{AnswersFrom};
-ghost use Rattle.ps_session.specs.Bases.{AnswersOnBasis};
-ghost use Rattle.ps_session.specs.OwnBoards.{AnswerFits};
 
 use crate::ignored::is_ignored_at_message;
 use crate::levels::quits;
-use crate::nexts::{Next, NextLevel, next_of};
 use ps_board::Board;
 use ps_model::Key;
-use ps_stage::{EntryNumber, HistoryChange, Pending, PlayedLevel, Stage, Stop};
+use ps_stage::{Change, EntryNumber, HistoryChange, LevelChange, Pending, PlayedLevel, Stage, Stop};
 use ps_turn::{Rules, TurnRules};
 
 /// What a key does in a level whose message waits; nothing, where it is ignored.
@@ -33,7 +29,7 @@ pub fn key_at_level_message<B: Board, R: Rules<B>>(
     level: &mut PlayedLevel<B>,
     pending: Pending,
     key: Key,
-) -> Result<Option<NextLevel<B>>, Stop>
+) -> Result<Option<LevelChange<B>>, Stop>
     requires empty { stage.old.text ≡ [] }
     requires basis { level.old.basis ≡ basis_of B.table_for stage.old.game.names }
     ensures game { stage.new.game ≡ stage.old.game }
@@ -43,7 +39,7 @@ pub fn key_at_level_message<B: Board, R: Rules<B>>(
         → key_at_level_message
         (script_by B.Board R.Rules stage.old.game rules.old)
         (play_of history level.old) (pending_shown pending) key
-        ≡ next_step history (Waiting level.old pending) next stage.new.text) }
+        ≡ answer_step history (Waiting level.old pending) next stage.new.text) }
     ensures stopped { IfErr result (λ stop. (history : List Grid)
         → IsStopped (script_by B.Board R.Rules stage.old.game rules.old) stop
         (key_at_level_message (script_by B.Board R.Rules stage.old.game rules.old)
@@ -62,7 +58,7 @@ pub fn key_at_level_message<B: Board, R: Rules<B>>(
         return Ok(Some(next));
     }
     let change = stage.go_on(rules, level, pending)?;
-    Ok(Some(next_of(change)))
+    Ok(Some(change))
 }
 
 /// What a key does at a message entry; nothing, where it is ignored.
@@ -75,14 +71,14 @@ pub fn key_at_entry<B: Board, R: Rules<B>>(
     rules: &mut TurnRules<R>,
     entry: &EntryNumber,
     key: Key,
-) -> Result<Option<NextLevel<B>>, Stop>
+) -> Result<Option<LevelChange<B>>, Stop>
     requires empty { stage.old.text ≡ [] }
     ensures game { stage.new.game ≡ stage.old.game }
     ensures meaning { meaning_of R.Rules rules.new ≡ meaning_of R.Rules rules.old }
     ensures came { IfOk result (λ next. (history : List Grid)
         → key_at_entry (script_by B.Board R.Rules stage.old.game rules.old)
         entry.now key
-        ≡ next_step history (AtMessage entry.now) next stage.new.text) }
+        ≡ answer_step history (AtMessage entry.now) next stage.new.text) }
     ensures stopped { IfErr result (λ stop.
         IsStopped (script_by B.Board R.Rules stage.old.game rules.old) stop
         (key_at_entry (script_by B.Board R.Rules stage.old.game rules.old)
@@ -101,5 +97,5 @@ pub fn key_at_entry<B: Board, R: Rules<B>>(
         return Ok(Some(next));
     }
     let location = stage.enter(rules, entry.next())?;
-    Ok(Some(Next::Goes(location, HistoryChange::Clears, None)))
+    Ok(Some(Change::Goes(location, HistoryChange::Clears, None)))
 }

@@ -6,20 +6,19 @@ ghost use Rattle.ps_model.specs.session.Sessions.{Step};
 ghost use Rattle.ps_model.specs.session.StartSteps.{enter};
 ghost use Rattle.ps_stage.specs.Meanings.{meaning_of, script_by};
 ghost use Rattle.ps_stage.specs.Locations.{location_shown, IsOnBasis};
-ghost use Rattle.ps_stage.specs.Sides.{side_at};
 ghost use Rattle.ps_stage.specs.OwnBoards.{IsForOthers};
+ghost use Rattle.ps_session.specs.Behind.{IsBehind};
+ghost use Rattle.ps_session.specs.KeyAnswers.{IsReadyFor};
+ghost use Rattle.ps_stage.specs.Sides.{side_at};
 ghost use Rattle.ps_stage.specs.Standings.{SessionParts, basis_of};
 ghost use Rattle.ps_stage.specs.StepsShown.{IsStopped};
-ghost use Rattle.ps_session.specs.Behind.{IsBehind};
 ghost use Rattle.ps_session.specs.Histories.{grids_of};
 ghost use Rattle.ps_session.specs.Left.{IsLeft};
-ghost use Rattle.ps_session.specs.Nexts.{IsReadyFor};
 
-use crate::nexts::{Next, NextLevel};
 use ps_board::{Board, Columns, History};
 use ps_model::Memory;
 use ps_screen::OutputText;
-use ps_stage::{HistoryChange, Location, PlayedLevel, Stage, Stop};
+use ps_stage::{Change, HistoryChange, LevelChange, Location, PlayedLevel, Stage, Stop};
 use ps_turn::{Rules, TurnRules};
 
 /// Makes the board of a location ready to enter the history, where it enters it before what comes next. Outside of the
@@ -32,13 +31,13 @@ fn make_ready<B: Board, H: History<B>>(
     history: &mut H,
     location: &Location<PlayedLevel<B>>,
     behind: &Option<Columns<B::Words>>,
-    next: &NextLevel<B>,
+    next: &LevelChange<B>,
 ) -> Result<(), Memory>
     requires { IsBehind (grids_of (H.boards history.old)) location.now behind.now }
     ensures boards { H.boards history.new ≡ H.boards history.old }
     ensures ready { OnOk result (IsReadyFor (H.ready history.new) location.now next.now) }
 {
-    let Next::Goes(_, HistoryChange::Adds, _) = next else {
+    let Change::Goes(_, HistoryChange::Adds, _) = next else {
         return Ok(());
     };
     match location {
@@ -61,7 +60,7 @@ pub fn prepare<B: Board, H: History<B>>(
     location: &Location<PlayedLevel<B>>,
     history: &mut H,
     behind: &Option<Columns<B::Words>>,
-    next: &NextLevel<B>,
+    next: &LevelChange<B>,
     output: &mut OutputText,
 ) -> Result<(), Memory>
     requires { IsBehind (grids_of (H.boards history.old)) location.now behind.now }

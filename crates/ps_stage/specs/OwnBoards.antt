@@ -5,7 +5,7 @@ use Rattle.ps_stage.specs.Standings.{SessionParts, Standing}
 use Rattle.ps_stage.specs.declared.stops.Stop.{Stop}
 use Rattle.ps_stage.specs.declared.stops.Stop.TheVariants.{Memory, Elsewhere}
 use Rattle.ps_stage.specs.declared.locations.Change.{Change}
-use Rattle.ps_stage.specs.declared.locations.Change.TheVariants.{Stays, Goes}
+use Rattle.ps_stage.specs.declared.locations.Change.TheVariants.{Stays, Undoes, Goes}
 use Rattle.ps_stage.specs.declared.locations.Location.{Location}
 use Rattle.ps_stage.specs.declared.locations.Location.TheVariants.{Playing, Waiting, AtMessage, Ended}
 
@@ -32,6 +32,7 @@ LocationFits parts before (Ended ending) = ⊤
 -- and that of where a change goes
 abbrev pub ChangeFits : SessionParts → ℕ → Change Standing (List Bool) → Type 0
 ChangeFits parts before (Stays pending) = ⊤
+ChangeFits parts before (Undoes level) = StaysOrFits parts before level.entry
 ChangeFits parts before (Goes location history_change rows) = LocationFits parts before location
 
 -- the level of a location, if there is one, has this entry

@@ -1,5 +1,5 @@
 -- Rows outside of which a level's board shows the same objects as the one before.
-use Rattle.std.specs.Prelude.{◌≤◌, ⊤, Bool, IfSome, List}
+use Rattle.std.specs.Prelude.{◌≡◌, ◌≤◌, ⊤, Bool, IfSome, List, None}
 use Rattle.ps_model.specs.declared.limits.TheConstants.{SIDE_LIMIT}
 use Rattle.ps_model.specs.board.Grid.{Grid}
 use Rattle.ps_board.specs.Rows.{DifferOnlyOn}
@@ -8,7 +8,7 @@ use Rattle.ps_stage.specs.Standings.{Standing}
 use Rattle.ps_stage.specs.declared.levels.Tried.{Tried}
 use Rattle.ps_stage.specs.declared.levels.Tried.TheVariants.{Blocked, Restarted, Done}
 use Rattle.ps_stage.specs.declared.locations.Change.{Change}
-use Rattle.ps_stage.specs.declared.locations.Change.TheVariants.{Stays, Goes}
+use Rattle.ps_stage.specs.declared.locations.Change.TheVariants.{Stays, Undoes, Goes}
 use Rattle.ps_stage.specs.declared.locations.Location.{Location}
 use Rattle.ps_stage.specs.declared.locations.Location.TheVariants.{Playing, Waiting, AtMessage, Ended}
 
@@ -34,4 +34,11 @@ IsTouchedBy before (Done next done rows) = AreTouched rows before next.board
 -- those that come with a change are such, if some do
 abbrev pub GoesFrom : Grid → Change Standing (List Bool) → Type 0
 GoesFrom before (Stays pending) = ⊤
+GoesFrom before (Undoes level) = ⊤
 GoesFrom before (Goes location history_change rows) = IfSome rows (λ rows. IsTouchedAt rows before location)
+
+-- none come with it
+abbrev pub GoesAnew : Change Standing (List Bool) → Type 0
+GoesAnew (Stays pending) = ⊤
+GoesAnew (Undoes level) = ⊤
+GoesAnew (Goes location history_change rows) = rows ≡ None

@@ -16,6 +16,7 @@ ghost use Rattle.ps_stage.specs.OwnBoards.{ChangeFits, IsForOthers};
 ghost use Rattle.ps_stage.specs.Standings.{Standing, basis_of, play_of};
 ghost use Rattle.ps_stage.specs.StepsShown.{IsStopped, came, stands, pending_shown};
 ghost use Rattle.ps_stage.specs.Touched.{AreTouched, GoesFrom, IsTouchedBy};
+ghost use Rattle.ps_stage.specs.declared.locations.Location.TheVariants.{Playing};
 
 use crate::entering::located;
 use crate::levels::{LevelChange, PlayedLevel, Tried, TriedTurn};
@@ -78,7 +79,7 @@ impl<'g, B: Board> Stage<'g, B> {
         ensures came { IfOk result (λ change. (history before : List Grid) (first : Standing) → after self.old.text
             (level_done (script_by B.Board R.Rules self.old.game rules.old)
             (play_of history level.now))
-            ≡ came (change_shown before first change) self.new.text) }
+            ≡ came (change_shown before (Playing first) change) self.new.text) }
         ensures stopped { IfErr result (λ stop. (history : List Grid)
             → IsStopped (script_by B.Board R.Rules self.old.game rules.old) stop
             (after self.old.text
@@ -111,7 +112,7 @@ impl<'g, B: Board> Stage<'g, B> {
         ensures came { IfOk result (λ change. (history : List Grid) (first : Standing)
             → key_end_step (script_by B.Board R.Rules self.old.game rules.old)
             end (play_of (history_behind history_change history first.board) level) self.old.text
-            ≡ came (change_shown history first change) self.new.text) }
+            ≡ came (change_shown history (Playing first) change) self.new.text) }
         ensures stopped { IfErr result (λ stop. (history : List Grid) (first : Standing)
             → IsStopped (script_by B.Board R.Rules self.old.game rules.old) stop
             (key_end_step (script_by B.Board R.Rules self.old.game rules.old) end
@@ -188,7 +189,7 @@ impl<'g, B: Board> Stage<'g, B> {
             (play_of (history_behind (history_change_if done.now.changed) history first.board) level)
             (done_shown done.now level.board) AGAIN_LIMIT
             (all_key_turns (script_by B.Board R.Rules self.old.game rules.old)))
-            ≡ came (change_shown history first change) self.new.text) }
+            ≡ came (change_shown history (Playing first) change) self.new.text) }
         ensures stopped { IfErr result (λ stop. (history : List Grid) (first : Standing)
             → IsStopped (script_by B.Board R.Rules self.old.game rules.old) stop
             (after self.old.text
@@ -256,7 +257,7 @@ impl<'g, B: Board> Stage<'g, B> {
         ensures came { IfOk result (λ change. (history : List Grid) → after self.old.text
             (turn_taken (script_by B.Board R.Rules self.old.game rules.old)
             (play_of history level.old) (tried_outcome tried))
-            ≡ came (change_shown history level.old change) self.new.text) }
+            ≡ came (change_shown history (Playing level.old) change) self.new.text) }
         ensures stopped { IfErr result (λ stop. (history : List Grid)
             → IsStopped (script_by B.Board R.Rules self.old.game rules.old) stop
             (after self.old.text
@@ -306,7 +307,7 @@ impl<'g, B: Board> Stage<'g, B> {
         ensures came { IfOk result (λ change. (history : List Grid) → after self.old.text
             (input_taken (script_by B.Board R.Rules self.old.game rules.old)
             (play_of history level.old) input)
-            ≡ came (change_shown history level.old change) self.new.text) }
+            ≡ came (change_shown history (Playing level.old) change) self.new.text) }
         ensures stopped { IfErr result (λ stop. (history : List Grid)
             → IsStopped (script_by B.Board R.Rules self.old.game rules.old) stop
             (after self.old.text
@@ -346,7 +347,7 @@ impl<'g, B: Board> Stage<'g, B> {
         ensures came { IfOk result (λ change. (history : List Grid) (first : Standing) → after self.old.text
             (key_turns (script_by B.Board R.Rules self.old.game rules.old) left
             (play_of history level.old))
-            ≡ came (change_shown history first change) self.new.text) }
+            ≡ came (change_shown history (Playing first) change) self.new.text) }
         ensures stopped { IfErr result (λ stop. (history : List Grid)
             → IsStopped (script_by B.Board R.Rules self.old.game rules.old) stop
             (after self.old.text
@@ -377,7 +378,7 @@ impl<'g, B: Board> Stage<'g, B> {
         ensures came { IfOk result (λ change. (history : List Grid) (first : Standing) → after self.old.text
             (start_turns (script_by B.Board R.Rules self.old.game rules.old) left
             (play_of history level.old))
-            ≡ came (change_shown history first change) self.new.text) }
+            ≡ came (change_shown history (Playing first) change) self.new.text) }
         ensures stopped { IfErr result (λ stop. (history : List Grid)
             → IsStopped (script_by B.Board R.Rules self.old.game rules.old) stop
             (after self.old.text
@@ -414,7 +415,7 @@ impl<'g, B: Board> Stage<'g, B> {
         ensures came { IfOk result (λ change. (history : List Grid) → after self.old.text
             (gone_on (script_by B.Board R.Rules self.old.game rules.old)
             (play_of history level.old) (pending_shown pending))
-            ≡ came (change_shown history level.old change) self.new.text) }
+            ≡ came (change_shown history (Playing level.old) change) self.new.text) }
         ensures stopped { IfErr result (λ stop. (history : List Grid)
             → IsStopped (script_by B.Board R.Rules self.old.game rules.old) stop
             (after self.old.text

@@ -41,11 +41,13 @@ pub enum HistoryChange {
     Clears,
 }
 
-/// What comes of a key in a level. `S` is a set of rows.
+/// What comes of a key, made whole before anything of a session is changed. `S` is a set of rows.
 #[derive(Drop, Debug)]
 pub enum Change<L, S> {
-    /// The level stays as it is; a message may wait.
+    /// The level stays as it is; a message waits in it now, or none does.
     Stays(Option<Pending>),
+    /// The level goes back to this one, which has the latest board of the history.
+    Undoes(L),
     /// The player goes to another location, or to another board of the level. Rows, where some are told, are such that
     /// outside of them that board shows the same objects as the one before.
     Goes(Location<L>, HistoryChange, Option<S>),

@@ -2,14 +2,14 @@ use Rattle.std.proofs.Common.{List, ap, subst}
 use Rattle.ps_model.specs.board.Grid.{Grid}
 use Rattle.ps_model.specs.session.Sessions.{Playing}
 use Rattle.ps_stage.specs.Standings.{play_of}
-use Rattle.ps_session.specs.Behind.{ComesFromThere}
+use Rattle.ps_session.specs.KeyAnswers.{GoesFromThere}
 use Rattle.ps_session.specs.Histories.{grids_of}
 use Rattle.ps_session.proofs.Behind.{behind_gone, behind_stood}
 use Rattle.ps_session.proofs.HistoryBoards.{before_on_table, grids-before}
 use Rattle.ps_session.proofs.commit.commit.Goals as goal
 
-pub returns-in-Stands-clause-location : goal.returns-in-Stands-clause-location
-returns-in-Stands-clause-location g c = λ basis here comes.
+pub returns-in-Stays-clause-location : goal.returns-in-Stays-clause-location
+returns-in-Stays-clause-location g c = λ basis here comes.
     c.stood.ensures.basis basis (rw c.replace-before.ensures.value here)
 
 pub returns-in-Undoes-clause-shown : goal.returns-in-Undoes-clause-shown
@@ -26,8 +26,8 @@ pub returns-in-Goes-clause-boards : goal.returns-in-Goes-clause-boards
 returns-in-Goes-clause-boards g c = λ basis boards here.
     c.leave.ensures.boards basis boards (rw c.replace-before-in-Goes.ensures.value here)
 
-pub returns-in-Stands-clause-behind : goal.returns-in-Stands-clause-behind
-returns-in-Stands-clause-behind g c =
+pub returns-in-Stays-clause-behind : goal.returns-in-Stays-clause-behind
+returns-in-Stays-clause-behind g c =
     behind_stood (grids_of (g.H.History.boards c.args.history.now)) c.args.location.now c.stood.result
     c.args.behind.now (λ rows before here. c.stood.ensures.touched rows before
     (rw c.replace-before.ensures.value here)) c.requires.behind
@@ -36,7 +36,7 @@ pub returns-in-Goes-clause-behind : goal.returns-in-Goes-clause-behind
 returns-in-Goes-clause-behind g c =
     let gone = behind_gone (grids_of (g.H.History.boards c.args.history.now)) c.args.location.now c.in-Goes.next
     c.in-Goes.history_change c.args.behind.now c.in-Goes.rows c.requires.behind
-    (subst (ComesFromThere c.args.location.now) c.in-Goes.is c.requires.touched) in
+    (subst (GoesFromThere c.args.location.now) c.in-Goes.is c.requires.touched) in
     rw (
       c.leave.ensures.shown,
       c.leave.ensures.next,

@@ -1,10 +1,9 @@
-use Rattle.std.proofs.Common.{◌≡◌, ◌∙◌, true, false, List, Ok, Err, refl, sym, ap, subst}
-use Rattle.std.specs.Prelude.{Result, IfOk, IfErr}
+use Rattle.std.proofs.Common.{◌≡◌, ◌∙◌, ℕ, true, false, List, refl, sym, ap, subst}
 use Rattle.std.proofs.lemmas.Bool.{true≢false}
 use Rattle.ps_model.specs.board.Grid.{Grid}
 use Rattle.ps_model.specs.board.Turns.{Script}
 use Rattle.ps_model.specs.session.KeySteps.{input_taken, key_in_level}
-use Rattle.ps_model.specs.session.Sessions.{Play, Step}
+use Rattle.ps_model.specs.session.Sessions.{Play, Step, after}
 use Rattle.ps_stage.specs.Standings.{play_of, script_for}
 use Rattle.ps_stage.specs.StepsShown.{IsStopped}
 use Rattle.ps_stage.specs.declared.locations.Location.TheVariants.{Playing}
@@ -13,17 +12,6 @@ use Rattle.ps_model.specs.session.IgnoredKeys.{is_ignored_in_level}
 use Rattle.ps_session.proofs.Heeded.{moved_by, restarted_by, told_ignored, undone_by}
 use Rattle.ps_session.proofs.IgnoredSteps.{in_level}
 use Rattle.ps_session.proofs.levels.key_in_level.Goals as goal
-
--- what holds of a value, or of an error, makes another thing hold of it
-if_ok : {A E : Type 0} {P Q : A → Type 0} (result : Result A E) → IfOk result P → ((a : A) → P a → Q a) →
-    IfOk result Q
-if_ok (Ok value) holds makes = makes value holds
-if_ok (Err error) holds makes = holds
-
-if_err : {A E : Type 0} {P Q : E → Type 0} (result : Result A E) → IfErr result P → ((e : E) → P e → Q e) →
-    IfErr result Q
-if_err (Ok value) holds makes = holds
-if_err (Err error) holds makes = makes error holds
 
 pub returns-then-is_ignored_in_level : goal.returns-then-is_ignored_in_level
 returns-then-is_ignored_in_level g c =
@@ -45,8 +33,8 @@ returns-then-is_ignored_in_level g c =
       ignored = λ e. refl;
     }
 
-pub returns-in-Move : goal.returns-in-Move
-returns-in-Move g c =
+pub returns-in_ok-next-in-Move : goal.returns-in_ok-next-in-Move
+returns-in_ok-next-in-Move g c =
     let grids : List Grid = grids_of (g.H.History.boards c.args.history.now) in
     let script : Script = script_for g.B.Board.table_for c.args.stage.now.game
     (g.R.Rules.meant c.args.rules.now.plain) (g.R.Rules.meant c.args.rules.now.late) in
@@ -54,19 +42,43 @@ returns-in-Move g c =
     let heeded : is_ignored_in_level c.args.stage.now.game.options c.args.key ≡ false =
     told_ignored c.args.stage.now.game c.game.result.now c.options.result c.args.key c.is_ignored_in_level.result false
     c.game.ensures c.options.ensures c.is_ignored_in_level.ensures c.if-is_ignored_in_level.false in
-    let moved : key_in_level script play c.args.key ≡ input_taken script play c.in-Move.input =
-    moved_by script play c.in-Move.input c.args.key c.in-Move.is heeded in
     record {
-      game = c.moves.ensures.game;
-      meaning = c.moves.ensures.meaning;
-      same = c.moves.ensures.same;
-      came = if_ok c.moves.result c.moves.ensures.came (λ next comes. moved ∙ comes grids);
-      stopped = if_err c.moves.result c.moves.ensures.stopped (λ stop stops.
-          subst (λ (step : Step). IsStopped script stop step c.moves.new.stage.text) (sym moved) (stops grids));
-      basis = c.moves.ensures.basis;
-      boards = c.moves.ensures.boards;
-      elsewhere = c.moves.ensures.elsewhere;
-      touched = c.moves.ensures.touched;
+      game = c.in_ok-next-in-Move.ensures.game;
+      meaning = c.in_ok-next-in-Move.ensures.meaning;
+      same = c.in_ok-next-in-Move.ensures.level;
+      came = moved_by script play c.in-Move.input c.args.key c.in-Move.is heeded
+          ∙ ap (λ (text : List ℕ). after text (input_taken script play c.in-Move.input)) (sym c.requires.empty)
+          ∙ c.in_ok-next-in-Move.ensures.came grids;
+      stopped = tt;
+      basis = c.in_ok-next-in-Move.ensures.basis;
+      boards = c.in_ok-next-in-Move.ensures.boards;
+      elsewhere = tt;
+      touched = c.in_ok-next-in-Move.ensures.touched;
+      ignored = λ e. absurd (true≢false (sym e ∙ heeded));
+    }
+
+pub returns-in_err-next-in-Move : goal.returns-in_err-next-in-Move
+returns-in_err-next-in-Move g c =
+    let grids : List Grid = grids_of (g.H.History.boards c.args.history.now) in
+    let script : Script = script_for g.B.Board.table_for c.args.stage.now.game
+    (g.R.Rules.meant c.args.rules.now.plain) (g.R.Rules.meant c.args.rules.now.late) in
+    let play : Play = play_of grids c.args.level.now in
+    let heeded : is_ignored_in_level c.args.stage.now.game.options c.args.key ≡ false =
+    told_ignored c.args.stage.now.game c.game.result.now c.options.result c.args.key c.is_ignored_in_level.result false
+    c.game.ensures c.options.ensures c.is_ignored_in_level.ensures c.if-is_ignored_in_level.false in
+    record {
+      game = c.in_err-next-in-Move.ensures.game;
+      meaning = c.in_err-next-in-Move.ensures.meaning;
+      same = c.in_err-next-in-Move.ensures.level;
+      came = tt;
+      stopped = subst (λ (step : Step). IsStopped script c.in_err-next-in-Move.err step c.take_input.new.self.text)
+          (sym (moved_by script play c.in-Move.input c.args.key c.in-Move.is heeded
+          ∙ ap (λ (text : List ℕ). after text (input_taken script play c.in-Move.input)) (sym c.requires.empty)))
+          (c.in_err-next-in-Move.ensures.stopped grids);
+      basis = tt;
+      boards = tt;
+      elsewhere = c.in_err-next-in-Move.ensures.elsewhere;
+      touched = tt;
       ignored = λ e. absurd (true≢false (sym e ∙ heeded));
     }
 

@@ -6,7 +6,7 @@ use Rattle.ps_model.specs.session.Sessions.{Play, Session, after}
 use Rattle.ps_stage.specs.Standings.{play_of, script_for}
 use Rattle.ps_stage.specs.StepsShown.{came, pending_shown}
 use Rattle.ps_model.specs.session.IgnoredKeys.{is_ignored_at_message}
-use Rattle.ps_session.proofs.Dismissed.{dismissed}
+use Rattle.ps_session.proofs.Dismissed.{changed_at_message, dismissed}
 use Rattle.ps_session.proofs.messages.key_at_level_message.Goals as goal
 
 pub returns-in-Quit-clause-basis : goal.returns-in-Quit-clause-basis
@@ -35,11 +35,11 @@ returns g c =
           (sym c.requires.empty)
           ∙ c.in_ok-change.ensures.came history
           ∙ ap (λ (session : Session). came session c.go_on.new.self.text)
-          (sym (c.next_of.ensures.waiting history c.args.level.now c.args.pending));
+          (sym (changed_at_message history c.args.level.now c.args.pending c.in_ok-change.change));
       stopped = tt;
-      basis = c.next_of.ensures.basis _ c.in_ok-change.ensures.basis;
-      boards = c.next_of.ensures.boards c.args.stage.now.game c.args.level.now.entry c.in_ok-change.ensures.boards;
+      basis = c.in_ok-change.ensures.basis;
+      boards = c.in_ok-change.ensures.boards;
       elsewhere = tt;
-      touched = c.next_of.ensures.touched _ (c.in_ok-change.ensures.touched _);
+      touched = c.in_ok-change.ensures.touched _;
       ignored = λ e. absurd (true≢false (sym e ∙ heeded));
     }

@@ -2,13 +2,11 @@ use Rattle.std.proofs.Common.{◌≡◌, ◌∙◌, List, None, Some, subst, ref
 use Rattle.ps_model.specs.session.KeySteps.{key_step}
 use Rattle.ps_model.specs.session.Sessions.{Step}
 use Rattle.ps_board.specs.Histories.{BoardShown}
-use Rattle.ps_stage.specs.Locations.{IsOnBasis, location_shown}
+use Rattle.ps_stage.specs.Locations.{change_shown, location_shown, IsOnBasis}
 use Rattle.ps_stage.specs.OwnBoards.{IsForOthers}
+use Rattle.ps_session.specs.KeyAnswers.{answer_step, AnswersFrom, AnswersOnBasis}
 use Rattle.ps_stage.specs.Standings.{Basis, SessionParts, SessionValue, StageValue, basis_of, script_for}
 use Rattle.ps_session.specs.Histories.{AreOnTable, grids_of}
-use Rattle.ps_session.specs.Nexts.{next_shown, next_step}
-use Rattle.ps_session.specs.Bases.{AnswersOnBasis}
-use Rattle.ps_session.specs.Behind.{AnswersFrom}
 use Rattle.ps_session.proofs.KeyEnds.{error_came, game_of_value, ignored_inside, left_of_value, no_text_come}
 use Rattle.ps_session.proofs.KeyEnds.{none_came, same_value, session_come, step_of_value, text_come}
 use Rattle.ps_stage.specs.Meanings.{same_late, same_plain}
@@ -49,7 +47,7 @@ returns-in-Ok-None g c =
     let step : Step = key_step (script_for g.B.Board.table_for c.args.self.now.game
     (g.R.Rules.meant c.args.rules.now.plain) (g.R.Rules.meant c.args.rules.now.late)) c.args.self.now.session
     c.args.key in
-    let is : step ≡ next_step (grids_of boards) c.self.inside.location None c.next_at-found.new.stage.text =
+    let is : step ≡ answer_step (grids_of boards) c.self.inside.location None c.next_at-found.new.stage.text =
     step_of_value g.B.Board.table_for (g.R.Rules.meant c.args.rules.now.plain) (g.R.Rules.meant c.args.rules.now.late)
     c.forget_text.new.self.game inside c.args.self.now c.args.key c.forget_text.ensures.game c.self.view_is
     ∙ rw c.in-Ok-None.field-0-is at c.in-Ok-None.ensures.came in
@@ -144,7 +142,7 @@ returns g c =
     (g.R.Rules.meant c.args.rules.now.plain) (g.R.Rules.meant c.args.rules.now.late)) c.args.self.now.session
     c.args.key in
     let is : step
-    ≡ next_step (grids_of boards) c.self.inside.location (Some c.in-Ok-Some.next) c.next_at-found.new.stage.text =
+    ≡ answer_step (grids_of boards) c.self.inside.location (Some c.in-Ok-Some.next) c.next_at-found.new.stage.text =
     step_of_value g.B.Board.table_for (g.R.Rules.meant c.args.rules.now.plain) (g.R.Rules.meant c.args.rules.now.late)
     c.forget_text.new.self.game inside c.args.self.now c.args.key c.forget_text.ensures.game c.self.view_is
     ∙ rw c.in-Ok-Some.field-0-is at c.in-Ok-Some.ensures.came in
@@ -154,10 +152,10 @@ returns g c =
           ∙ c.in-Ok-Some.ensures.game) c.forget_text.ensures.game c.self.view_is;
       phase = c.phase-2.ensures;
       session = session_come step
-          (next_shown (grids_of boards) c.self.inside.location c.in-Ok-Some.next) _ c.next_at-found.new.stage.text is
+          (change_shown (grids_of boards) c.self.inside.location c.in-Ok-Some.next) _ c.next_at-found.new.stage.text is
           (c.commit.ensures.shown ∙ ap (λ (boards : List BoardShown).
-          next_shown (grids_of boards) c.next_at-found.new.location c.in-Ok-Some.next) c.prepare-done.ensures.boards
-          ∙ ap (λ location. next_shown (grids_of boards) location c.in-Ok-Some.next) c.in-Ok-Some.ensures.same);
+          change_shown (grids_of boards) c.next_at-found.new.location c.in-Ok-Some.next) c.prepare-done.ensures.boards
+          ∙ ap (λ location. change_shown (grids_of boards) location c.in-Ok-Some.next) c.in-Ok-Some.ensures.same);
       written = text_come step _ c.next_at-found.new.stage.text c.args.output.now _ is c.in_default.ensures.moved;
       same = tt;
       left = tt;
@@ -167,8 +165,8 @@ returns g c =
           (c.forget_text.ensures.game ∙ ap (λ (value : SessionValue). value.game) c.self.view_is)
           c.in-Ok-Some.field-0-is (ap (λ (value : SessionValue). value.session) c.self.view_is)
           (c.commit.ensures.shown ∙ ap (λ (boards : List BoardShown).
-          next_shown (grids_of boards) c.next_at-found.new.location c.in-Ok-Some.next) c.prepare-done.ensures.boards
-          ∙ ap (λ location. next_shown (grids_of boards) location c.in-Ok-Some.next) c.in-Ok-Some.ensures.same)
+          change_shown (grids_of boards) c.next_at-found.new.location c.in-Ok-Some.next) c.prepare-done.ensures.boards
+          ∙ ap (λ location. change_shown (grids_of boards) location c.in-Ok-Some.next) c.in-Ok-Some.ensures.same)
           c.in-Ok-Some.ensures.boards;
       ignored = λ ignored. refl;
       plain = same_plain c.in-Ok-Some.ensures.meaning;

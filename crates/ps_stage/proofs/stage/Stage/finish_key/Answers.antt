@@ -5,6 +5,7 @@ use Rattle.ps_model.specs.board.Turns.{Script}
 use Rattle.ps_model.specs.session.Sessions.{Session, after}
 use Rattle.ps_model.specs.session.StartSteps.{level_done}
 use Rattle.ps_stage.specs.declared.locations.KeyEnd.{KeyEnd}
+use Rattle.ps_stage.specs.declared.locations.Location.TheVariants.{Playing}
 use Rattle.ps_stage.specs.KeysShown.{key_end_step}
 use Rattle.ps_stage.specs.Locations.{change_shown, history_behind}
 use Rattle.ps_stage.specs.Standings.{StageValue, script_for, play_of}
@@ -31,7 +32,7 @@ returns-in-Won-clause-came g c =
     let behind : List Grid = history_behind c.args.history_change history first.board in
     ap (λ (end : KeyEnd). key_end_step script end (play_of behind c.args.level) c.args.self.now.text) c.in-Won.is
     ∙ comes behind history first
-    ∙ ap (λ (stage : StageValue). came (change_shown history first change) stage.text) (sym c.keep_level.ensures))
+    ∙ ap (λ (stage : StageValue). came (change_shown history (Playing first) change) stage.text) (sym c.keep_level.ensures))
 
 pub returns-in-Won-clause-stopped : goal.returns-in-Won-clause-stopped
 returns-in-Won-clause-stopped g c =

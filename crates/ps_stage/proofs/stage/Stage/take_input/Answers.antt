@@ -1,6 +1,7 @@
 use Rattle.std.proofs.Common.{◌∙◌, sym, subst, ap}
 use Rattle.ps_stage.specs.KeysShown.{IsNext, tried_outcome}
 use Rattle.ps_stage.specs.Locations.{change_shown}
+use Rattle.ps_stage.specs.declared.locations.Location.TheVariants.{Playing}
 use Rattle.ps_stage.specs.Standings.{StageValue, Standing, basis_of}
 use Rattle.ps_stage.specs.StepsShown.{came}
 use Rattle.ps_stage.proofs.KeyChanges.{stopped_as, taken_of}
@@ -20,7 +21,7 @@ returns-clause-came g c =
     c.try_turn.new.level history c.args.input (tried_outcome c.in_ok-tried.tried) c.in_ok-tried.ensures.stage
     (same_plain c.in_ok-tried.ensures.meaning) (same_late c.in_ok-tried.ensures.meaning) c.in_ok-tried.ensures.level c.in_ok-tried.ensures.outcome
     ∙ comes history
-    ∙ ap (λ (level : Standing). came (change_shown history level change) c.follow_tried.new.self.text)
+    ∙ ap (λ (level : Standing). came (change_shown history (Playing level) change) c.follow_tried.new.self.text)
     c.in_ok-tried.ensures.level)
 
 pub returns-clause-stopped : goal.returns-clause-stopped
