@@ -1,7 +1,7 @@
 //! The greatest number among the objects of a list. Lists of the same objects have the same one, so that most lists are
 //! told apart by it alone.
 
-ghost use Rattle.std.specs.Prelude.{◌≡◌, IfOk, map};
+ghost use Rattle.std.specs.Prelude.{◌≡◌, IfOk, map, vec_len};
 ghost use Rattle.ps_model.specs.names.Names.{members};
 ghost use Rattle.ps_names.specs.GlyphsShown.{glyph_shown};
 ghost use Rattle.ps_screen.specs.Glyphs.{AreByGreatest, with_greatest};

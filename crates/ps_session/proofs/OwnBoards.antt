@@ -1,9 +1,9 @@
 -- The level that comes next in a session is the one before, or one for which the boards are.
-use Rattle.std.proofs.Common.{◌≡◌, ◌≢◌, ℕ, suc, true, List, Option, Some, None, Bool, refl, sym, subst, arith}
+use Rattle.std.proofs.Common.{◌≡◌, ℕ, suc, true, List, Option, Some, None, Bool, refl, sym, subst, arith}
 use Rattle.ps_model.specs.board.Grid.{Grid}
 use Rattle.ps_model.specs.session.Sessions as model
 use Rattle.ps_stage.specs.Locations.{change_shown, location_shown}
-use Rattle.ps_stage.specs.OwnBoards.{has_boards, ChangeFits, LocationFits, StaysOrFits}
+use Rattle.ps_stage.specs.OwnBoards.{has_boards, ChangeFits, StaysOrFits}
 use Rattle.ps_session.specs.KeyAnswers.{AnswerFitsFrom}
 use Rattle.ps_session.specs.OwnBoards.{SessionFits}
 use Rattle.ps_stage.specs.Standings.{SessionParts, Standing}

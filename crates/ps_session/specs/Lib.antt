@@ -1,9 +1,8 @@
-pub mod Bases
 pub mod Behind
 pub mod Histories
 pub mod IgnoredKeys
+pub mod KeyAnswers
 pub mod Left
-pub mod Nexts
 pub mod OwnBoards
 pub mod Phases
 pub mod RestedSessions

@@ -15,7 +15,9 @@ use crate::ignored::is_ignored_at_message;
 use crate::levels::quits;
 use ps_board::Board;
 use ps_model::Key;
-use ps_stage::{Change, EntryNumber, HistoryChange, LevelChange, Pending, PlayedLevel, Stage, Stop};
+use ps_stage::{
+    Change, EntryNumber, HistoryChange, LevelChange, Pending, PlayedLevel, Stage, Stop,
+};
 use ps_turn::{Rules, TurnRules};
 
 /// What a key does in a level whose message waits; nothing, where it is ignored.

@@ -1,11 +1,10 @@
-use Rattle.std.proofs.Common.{◌≡◌, ◌∙◌, ℕ, true, false, List, refl, sym, ap, subst}
+use Rattle.std.proofs.Common.{◌≡◌, ◌∙◌, ℕ, true, false, List, refl, sym, ap}
 use Rattle.std.proofs.lemmas.Bool.{true≢false}
 use Rattle.ps_model.specs.board.Grid.{Grid}
 use Rattle.ps_model.specs.board.Turns.{Script}
 use Rattle.ps_model.specs.session.KeySteps.{input_taken, key_in_level}
-use Rattle.ps_model.specs.session.Sessions.{Play, Step, after}
+use Rattle.ps_model.specs.session.Sessions.{Play, after}
 use Rattle.ps_stage.specs.Standings.{play_of, script_for}
-use Rattle.ps_stage.specs.StepsShown.{IsStopped}
 use Rattle.ps_stage.specs.declared.locations.Location.TheVariants.{Playing}
 use Rattle.ps_session.specs.Histories.{grids_of}
 use Rattle.ps_model.specs.session.IgnoredKeys.{is_ignored_in_level}
@@ -57,30 +56,10 @@ returns-in_ok-next-in-Move g c =
       ignored = λ e. absurd (true≢false (sym e ∙ heeded));
     }
 
-pub returns-in_err-next-in-Move : goal.returns-in_err-next-in-Move
-returns-in_err-next-in-Move g c =
-    let grids : List Grid = grids_of (g.H.History.boards c.args.history.now) in
-    let script : Script = script_for g.B.Board.table_for c.args.stage.now.game
-    (g.R.Rules.meant c.args.rules.now.plain) (g.R.Rules.meant c.args.rules.now.late) in
-    let play : Play = play_of grids c.args.level.now in
-    let heeded : is_ignored_in_level c.args.stage.now.game.options c.args.key ≡ false =
-    told_ignored c.args.stage.now.game c.game.result.now c.options.result c.args.key c.is_ignored_in_level.result false
-    c.game.ensures c.options.ensures c.is_ignored_in_level.ensures c.if-is_ignored_in_level.false in
-    record {
-      game = c.in_err-next-in-Move.ensures.game;
-      meaning = c.in_err-next-in-Move.ensures.meaning;
-      same = c.in_err-next-in-Move.ensures.level;
-      came = tt;
-      stopped = subst (λ (step : Step). IsStopped script c.in_err-next-in-Move.err step c.take_input.new.self.text)
-          (sym (moved_by script play c.in-Move.input c.args.key c.in-Move.is heeded
-          ∙ ap (λ (text : List ℕ). after text (input_taken script play c.in-Move.input)) (sym c.requires.empty)))
-          (c.in_err-next-in-Move.ensures.stopped grids);
-      basis = tt;
-      boards = tt;
-      elsewhere = c.in_err-next-in-Move.ensures.elsewhere;
-      touched = tt;
-      ignored = λ e. absurd (true≢false (sym e ∙ heeded));
-    }
+pub returns-in_err-next-in-Move-clause-ignored : goal.returns-in_err-next-in-Move-clause-ignored
+returns-in_err-next-in-Move-clause-ignored g c = λ e. absurd (true≢false (sym e
+    ∙ told_ignored c.args.stage.now.game c.game.result.now c.options.result c.args.key c.is_ignored_in_level.result
+    false c.game.ensures c.options.ensures c.is_ignored_in_level.ensures c.if-is_ignored_in_level.false))
 
 pub returns-in_ok-next-in-Undo : goal.returns-in_ok-next-in-Undo
 returns-in_ok-next-in-Undo g c =

@@ -1,4 +1,4 @@
-use Rattle.std.proofs.Common.{◌≡◌, ◌∙◌, List, ap, sym}
+use Rattle.std.proofs.Common.{◌∙◌, List, ap, sym}
 use Rattle.ps_model.specs.board.Grid.{Grid}
 use Rattle.ps_stage.specs.Locations.{location_shown}
 use Rattle.ps_stage.specs.Standings.{SessionValue}
