@@ -1,6 +1,6 @@
 //! Keys in a level.
 
-ghost use Rattle.std.specs.Prelude.{◌≡◌, ℕ, [], true, IfErr, IfOk, List, None, Ok, Option, Some};
+ghost use Rattle.std.specs.Prelude.{◌≡◌, ℕ, [], IfOk, List, None, Ok, Option, Some};
 ghost use Rattle.ps_model.specs.board.Grid.{Grid};
 ghost use Rattle.ps_model.specs.board.Programs.{Section};
 ghost use Rattle.ps_model.specs.session.KeySteps.{key_in_level, quit, undone};
@@ -8,11 +8,10 @@ ghost use Rattle.ps_model.specs.session.Sessions.{with_board_in_history};
 ghost use Rattle.ps_model.specs.session.StartSteps.{restarted};
 ghost use Rattle.ps_stage.specs.Meanings.{meaning_of, script_by};
 ghost use Rattle.ps_stage.specs.Locations.{GoesOnBasis};
-ghost use Rattle.ps_stage.specs.OwnBoards.{ChangeFits, IsForOthers};
+ghost use Rattle.ps_stage.specs.OwnBoards.{ChangeFits};
 ghost use Rattle.ps_stage.specs.Touched.{GoesAnew, GoesFrom};
-ghost use Rattle.ps_session.specs.KeyAnswers.{answer_step, AnswerFits, AnswersFrom, AnswersOnBasis};
+ghost use Rattle.ps_session.specs.KeyAnswers.{Answers, answer_step};
 ghost use Rattle.ps_stage.specs.Standings.{Basis, SessionParts, Standing, basis_of, play_of, script_of};
-ghost use Rattle.ps_stage.specs.StepsShown.{IsStopped};
 ghost use Rattle.ps_stage.specs.declared.locations.Location.{Location as MeantLocation};
 ghost use Rattle.ps_stage.specs.declared.locations.Location.TheVariants.{Playing};
 ghost use Rattle.ps_session.specs.Histories.{AreOnTable, grids_of};
@@ -126,19 +125,8 @@ pub fn key_in_level<B: Board, H: History<B>, R: Rules<B>>(
     ensures game { stage.new.game ≡ stage.old.game }
     ensures meaning { meaning_of R.Rules rules.new ≡ meaning_of R.Rules rules.old }
     ensures same { level.new ≡ level.old }
-    ensures came { IfOk result (λ next.
-        key_in_level (script_by B.Board R.Rules stage.old.game rules.old)
-        (play_of (grids_of (H.boards history.now)) level.old) key
-        ≡ answer_step (grids_of (H.boards history.now)) (Playing level.old) next stage.new.text) }
-    ensures stopped { IfErr result (λ stop.
-        IsStopped (script_by B.Board R.Rules stage.old.game rules.old) stop
-        (key_in_level (script_by B.Board R.Rules stage.old.game rules.old)
-        (play_of (grids_of (H.boards history.now)) level.old) key) stage.new.text) }
-    ensures basis { IfOk result (λ next. AnswersOnBasis (basis_of B.table_for stage.old.game.names) next) }
-    ensures boards { IfOk result (AnswerFits stage.old.game level.old.entry) }
-    ensures elsewhere { IfErr result (IsForOthers stage.old.game) }
-    ensures touched { IfOk result (λ next. AnswersFrom (Playing level.old) next) }
-    ensures ignored { is_ignored_in_level stage.old.game.options key ≡ true → result ≡ Ok None }
+    ensures answers { Answers B.Board R.Rules stage.old.game rules.old (grids_of (H.boards history.now))
+        (Playing level.old) key result stage.new.text }
 {
     if is_ignored_in_level(stage.game().options(), key) {
         return Ok(None);

@@ -1,15 +1,11 @@
 //! Keys wherever a player is.
 
-ghost use Rattle.std.specs.Prelude.{◌≡◌, [], true, IfErr, IfOk, None, Ok};
-ghost use Rattle.ps_model.specs.session.KeySteps.{key_step};
-ghost use Rattle.ps_stage.specs.Meanings.{meaning_of, script_by};
-ghost use Rattle.ps_stage.specs.Locations.{location_shown, IsOnBasis};
-ghost use Rattle.ps_stage.specs.OwnBoards.{IsForOthers};
-ghost use Rattle.ps_session.specs.KeyAnswers.{answer_step, AnswerFitsFrom, AnswersFrom, AnswersOnBasis};
+ghost use Rattle.std.specs.Prelude.{◌≡◌, [], None, Ok};
+ghost use Rattle.ps_stage.specs.Meanings.{meaning_of};
+ghost use Rattle.ps_stage.specs.Locations.{IsOnBasis};
+ghost use Rattle.ps_session.specs.KeyAnswers.{Answers};
 ghost use Rattle.ps_stage.specs.Standings.{basis_of};
-ghost use Rattle.ps_stage.specs.StepsShown.{IsStopped};
 ghost use Rattle.ps_session.specs.Histories.{AreOnTable, grids_of};
-ghost use Rattle.ps_model.specs.session.IgnoredKeys.{is_ignored};
 
 use crate::levels::key_in_level;
 use crate::messages::{key_at_entry, key_at_level_message};
@@ -36,20 +32,8 @@ pub fn next_at<B: Board, H: History<B>, R: Rules<B>>(
     ensures game { stage.new.game ≡ stage.old.game }
     ensures meaning { meaning_of R.Rules rules.new ≡ meaning_of R.Rules rules.old }
     ensures same { location.new ≡ location.old }
-    ensures came { IfOk result (λ next.
-        key_step (script_by B.Board R.Rules stage.old.game rules.old)
-        (location_shown (grids_of (H.boards history.now)) location.old) key
-        ≡ answer_step (grids_of (H.boards history.now)) location.old next stage.new.text) }
-    ensures stopped { IfErr result (λ stop.
-        IsStopped (script_by B.Board R.Rules stage.old.game rules.old) stop
-        (key_step (script_by B.Board R.Rules stage.old.game rules.old)
-        (location_shown (grids_of (H.boards history.now)) location.old) key) stage.new.text) }
-    ensures basis { IfOk result (λ next. AnswersOnBasis (basis_of B.table_for stage.old.game.names) next) }
-    ensures boards { IfOk result (AnswerFitsFrom stage.old.game location.old) }
-    ensures elsewhere { IfErr result (IsForOthers stage.old.game) }
-    ensures touched { IfOk result (λ next. AnswersFrom location.old next) }
-    ensures ignored { let here = location_shown (grids_of (H.boards history.now)) location.old in
-        is_ignored stage.old.game.options here key ≡ true → result ≡ Ok None }
+    ensures answers { Answers B.Board R.Rules stage.old.game rules.old (grids_of (H.boards history.now)) location.old key
+        result stage.new.text }
 {
     match location {
         Location::Playing(level) => key_in_level(stage, rules, level, history, key),

@@ -1,13 +1,11 @@
 //! Keys at a message.
 
-ghost use Rattle.std.specs.Prelude.{◌≡◌, [], ℕ, true, IfErr, IfOk, List, None, Ok};
+ghost use Rattle.std.specs.Prelude.{◌≡◌, [], List, None, Ok};
 ghost use Rattle.ps_model.specs.board.Grid.{Grid};
 ghost use Rattle.ps_model.specs.session.KeySteps.{key_at_entry, key_at_level_message};
-ghost use Rattle.ps_stage.specs.Meanings.{meaning_of, script_by};
-ghost use Rattle.ps_stage.specs.OwnBoards.{IsForOthers};
-ghost use Rattle.ps_session.specs.KeyAnswers.{answer_step, AnswerFits, AnswersFrom, AnswersOnBasis};
-ghost use Rattle.ps_stage.specs.Standings.{basis_of, play_of};
-ghost use Rattle.ps_stage.specs.StepsShown.{IsStopped, pending_shown};
+ghost use Rattle.ps_stage.specs.Meanings.{meaning_of};
+ghost use Rattle.ps_session.specs.KeyAnswers.{Answers};
+ghost use Rattle.ps_stage.specs.Standings.{basis_of};
 ghost use Rattle.ps_stage.specs.declared.locations.Location.TheVariants.{AtMessage, Waiting};
 ghost use Rattle.ps_model.specs.session.IgnoredKeys.{is_ignored_at_message};
 
@@ -37,20 +35,8 @@ pub fn key_at_level_message<B: Board, R: Rules<B>>(
     ensures game { stage.new.game ≡ stage.old.game }
     ensures meaning { meaning_of R.Rules rules.new ≡ meaning_of R.Rules rules.old }
     ensures same { level.new ≡ level.old }
-    ensures came { IfOk result (λ next. (history : List Grid)
-        → key_at_level_message
-        (script_by B.Board R.Rules stage.old.game rules.old)
-        (play_of history level.old) (pending_shown pending) key
-        ≡ answer_step history (Waiting level.old pending) next stage.new.text) }
-    ensures stopped { IfErr result (λ stop. (history : List Grid)
-        → IsStopped (script_by B.Board R.Rules stage.old.game rules.old) stop
-        (key_at_level_message (script_by B.Board R.Rules stage.old.game rules.old)
-        (play_of history level.old) (pending_shown pending) key) stage.new.text) }
-    ensures basis { IfOk result (λ next. AnswersOnBasis (basis_of B.table_for stage.old.game.names) next) }
-    ensures boards { IfOk result (AnswerFits stage.old.game level.old.entry) }
-    ensures elsewhere { IfErr result (IsForOthers stage.old.game) }
-    ensures touched { IfOk result (λ next. AnswersFrom (Waiting level.old pending) next) }
-    ensures ignored { is_ignored_at_message key ≡ true → result ≡ Ok None }
+    ensures answers { (history : List Grid) → Answers B.Board R.Rules stage.old.game rules.old history
+        (Waiting level.old pending) key result stage.new.text }
 {
     if is_ignored_at_message(key) {
         return Ok(None);
@@ -77,19 +63,8 @@ pub fn key_at_entry<B: Board, R: Rules<B>>(
     requires empty { stage.old.text ≡ [] }
     ensures game { stage.new.game ≡ stage.old.game }
     ensures meaning { meaning_of R.Rules rules.new ≡ meaning_of R.Rules rules.old }
-    ensures came { IfOk result (λ next. (history : List Grid)
-        → key_at_entry (script_by B.Board R.Rules stage.old.game rules.old)
-        entry.now key
-        ≡ answer_step history (AtMessage entry.now) next stage.new.text) }
-    ensures stopped { IfErr result (λ stop.
-        IsStopped (script_by B.Board R.Rules stage.old.game rules.old) stop
-        (key_at_entry (script_by B.Board R.Rules stage.old.game rules.old)
-        entry.now key) stage.new.text) }
-    ensures basis { IfOk result (λ next. AnswersOnBasis (basis_of B.table_for stage.old.game.names) next) }
-    ensures boards { IfOk result (λ next. (before : ℕ) → AnswerFits stage.old.game before next) }
-    ensures elsewhere { IfErr result (IsForOthers stage.old.game) }
-    ensures touched { IfOk result (λ next. AnswersFrom (AtMessage entry.now) next) }
-    ensures ignored { is_ignored_at_message key ≡ true → result ≡ Ok None }
+    ensures answers { (history : List Grid) → Answers B.Board R.Rules stage.old.game rules.old history
+        (AtMessage entry.now) key result stage.new.text }
 {
     if is_ignored_at_message(key) {
         return Ok(None);

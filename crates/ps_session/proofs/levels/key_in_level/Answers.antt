@@ -21,15 +21,17 @@ returns-then-is_ignored_in_level g c =
       game = refl;
       meaning = refl;
       same = refl;
-      came = in_level (script_for g.B.Board.table_for c.args.stage.now.game (g.R.Rules.meant c.args.rules.now.plain)
-          (g.R.Rules.meant c.args.rules.now.late)) (play_of (grids_of (g.H.History.boards c.args.history.now))
-          c.args.level.now) c.args.key ignored;
-      stopped = tt;
-      basis = tt;
-      boards = tt;
-      elsewhere = tt;
-      touched = tt;
-      ignored = λ e. refl;
+      answers = record {
+        came = in_level (script_for g.B.Board.table_for c.args.stage.now.game (g.R.Rules.meant c.args.rules.now.plain)
+            (g.R.Rules.meant c.args.rules.now.late)) (play_of (grids_of (g.H.History.boards c.args.history.now))
+            c.args.level.now) c.args.key ignored;
+        stopped = tt;
+        basis = tt;
+        fits = tt;
+        elsewhere = tt;
+        touched = tt;
+        ignored = λ e. refl;
+      };
     }
 
 pub returns-in_ok-next-in-Move : goal.returns-in_ok-next-in-Move
@@ -45,21 +47,18 @@ returns-in_ok-next-in-Move g c =
       game = c.in_ok-next-in-Move.ensures.game;
       meaning = c.in_ok-next-in-Move.ensures.meaning;
       same = c.in_ok-next-in-Move.ensures.level;
-      came = moved_by script play c.in-Move.input c.args.key c.in-Move.is heeded
-          ∙ ap (λ (text : List ℕ). after text (input_taken script play c.in-Move.input)) (sym c.requires.empty)
-          ∙ c.in_ok-next-in-Move.ensures.came grids;
-      stopped = tt;
-      basis = c.in_ok-next-in-Move.ensures.basis;
-      boards = c.in_ok-next-in-Move.ensures.boards;
-      elsewhere = tt;
-      touched = c.in_ok-next-in-Move.ensures.touched;
-      ignored = λ e. absurd (true≢false (sym e ∙ heeded));
+      answers = record {
+        came = moved_by script play c.in-Move.input c.args.key c.in-Move.is heeded
+            ∙ ap (λ (text : List ℕ). after text (input_taken script play c.in-Move.input)) (sym c.requires.empty)
+            ∙ c.in_ok-next-in-Move.ensures.came grids;
+        stopped = tt;
+        basis = c.in_ok-next-in-Move.ensures.basis;
+        fits = c.in_ok-next-in-Move.ensures.boards;
+        elsewhere = tt;
+        touched = c.in_ok-next-in-Move.ensures.touched;
+        ignored = λ e. absurd (true≢false (sym e ∙ heeded));
+      };
     }
-
-pub returns-in_err-next-in-Move-clause-ignored : goal.returns-in_err-next-in-Move-clause-ignored
-returns-in_err-next-in-Move-clause-ignored g c = λ e. absurd (true≢false (sym e
-    ∙ told_ignored c.args.stage.now.game c.game.result.now c.options.result c.args.key c.is_ignored_in_level.result
-    false c.game.ensures c.options.ensures c.is_ignored_in_level.ensures c.if-is_ignored_in_level.false))
 
 pub returns-in_ok-next-in-Undo : goal.returns-in_ok-next-in-Undo
 returns-in_ok-next-in-Undo g c =
@@ -74,14 +73,16 @@ returns-in_ok-next-in-Undo g c =
       game = c.in_ok-next-in-Undo.ensures.game;
       meaning = refl;
       same = c.in_ok-next-in-Undo.ensures.same;
-      came = undone_by script play c.args.key c.in-Undo.is heeded
-          ∙ c.in_ok-next-in-Undo.ensures.came script.plain script.late;
-      stopped = tt;
-      basis = c.in_ok-next-in-Undo.ensures.basis;
-      boards = c.in_ok-next-in-Undo.ensures.boards;
-      elsewhere = tt;
-      touched = c.in_ok-next-in-Undo.ensures.touched;
-      ignored = λ e. absurd (true≢false (sym e ∙ heeded));
+      answers = record {
+        came = undone_by script play c.args.key c.in-Undo.is heeded
+            ∙ c.in_ok-next-in-Undo.ensures.came script.plain script.late;
+        stopped = tt;
+        basis = c.in_ok-next-in-Undo.ensures.basis;
+        fits = c.in_ok-next-in-Undo.ensures.boards;
+        elsewhere = tt;
+        touched = c.in_ok-next-in-Undo.ensures.touched;
+        ignored = λ e. absurd (true≢false (sym e ∙ heeded));
+      };
     }
 
 pub returns-in_ok-next-in-Restart : goal.returns-in_ok-next-in-Restart
@@ -97,13 +98,15 @@ returns-in_ok-next-in-Restart g c =
       game = c.in_ok-next-in-Restart.ensures.game;
       meaning = c.in_ok-next-in-Restart.ensures.meaning;
       same = c.in_ok-next-in-Restart.ensures.same;
-      came = restarted_by script play c.args.key c.in-Restart.is heeded ∙ c.in_ok-next-in-Restart.ensures.came grids;
-      stopped = tt;
-      basis = c.in_ok-next-in-Restart.ensures.basis;
-      boards = c.in_ok-next-in-Restart.ensures.boards;
-      elsewhere = tt;
-      touched = c.in_ok-next-in-Restart.ensures.touched;
-      ignored = λ e. absurd (true≢false (sym e ∙ heeded));
+      answers = record {
+        came = restarted_by script play c.args.key c.in-Restart.is heeded ∙ c.in_ok-next-in-Restart.ensures.came grids;
+        stopped = tt;
+        basis = c.in_ok-next-in-Restart.ensures.basis;
+        fits = c.in_ok-next-in-Restart.ensures.boards;
+        elsewhere = tt;
+        touched = c.in_ok-next-in-Restart.ensures.touched;
+        ignored = λ e. absurd (true≢false (sym e ∙ heeded));
+      };
     }
 
 pub returns-in_ok-next-in-Quit : goal.returns-in_ok-next-in-Quit
@@ -119,27 +122,14 @@ returns-in_ok-next-in-Quit g c =
       game = c.in_ok-next-in-Quit.ensures.game;
       meaning = refl;
       same = refl;
-      came = ap (key_in_level script play) c.in-Quit.is
-          ∙ c.in_ok-next-in-Quit.ensures.came grids (Playing c.args.level.now);
-      stopped = tt;
-      basis = c.in_ok-next-in-Quit.ensures.basis _;
-      boards = c.in_ok-next-in-Quit.ensures.boards c.args.stage.now.game c.args.level.now.entry;
-      elsewhere = tt;
-      touched = c.in_ok-next-in-Quit.ensures.touched _;
-      ignored = λ e. absurd (true≢false (sym e ∙ heeded));
+      answers = record {
+        came = ap (key_in_level script play) c.in-Quit.is
+            ∙ c.in_ok-next-in-Quit.ensures.came grids (Playing c.args.level.now);
+        stopped = tt;
+        basis = c.in_ok-next-in-Quit.ensures.basis _;
+        fits = c.in_ok-next-in-Quit.ensures.boards c.args.stage.now.game c.args.level.now.entry;
+        elsewhere = tt;
+        touched = c.in_ok-next-in-Quit.ensures.touched _;
+        ignored = λ e. absurd (true≢false (sym e ∙ heeded));
+      };
     }
-
-pub returns-in_err-next-in-Undo-clause-ignored : goal.returns-in_err-next-in-Undo-clause-ignored
-returns-in_err-next-in-Undo-clause-ignored g c = λ e. absurd (true≢false (sym e
-    ∙ told_ignored c.args.stage.now.game c.game.result.now c.options.result c.args.key c.is_ignored_in_level.result
-    false c.game.ensures c.options.ensures c.is_ignored_in_level.ensures c.if-is_ignored_in_level.false))
-
-pub returns-in_err-next-in-Restart-clause-ignored : goal.returns-in_err-next-in-Restart-clause-ignored
-returns-in_err-next-in-Restart-clause-ignored g c = λ e. absurd (true≢false (sym e
-    ∙ told_ignored c.args.stage.now.game c.game.result.now c.options.result c.args.key c.is_ignored_in_level.result
-    false c.game.ensures c.options.ensures c.is_ignored_in_level.ensures c.if-is_ignored_in_level.false))
-
-pub returns-in_err-next-in-Quit-clause-ignored : goal.returns-in_err-next-in-Quit-clause-ignored
-returns-in_err-next-in-Quit-clause-ignored g c = λ e. absurd (true≢false (sym e
-    ∙ told_ignored c.args.stage.now.game c.game.result.now c.options.result c.args.key c.is_ignored_in_level.result
-    false c.game.ensures c.options.ensures c.is_ignored_in_level.ensures c.if-is_ignored_in_level.false))

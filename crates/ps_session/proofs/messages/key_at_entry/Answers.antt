@@ -3,7 +3,9 @@ use Rattle.std.proofs.lemmas.Bool.{true≢false}
 use Rattle.ps_model.specs.board.Turns.{Script}
 use Rattle.ps_model.specs.session.Sessions.{after}
 use Rattle.ps_model.specs.session.StartSteps.{enter}
+use Rattle.ps_model.specs.session.KeySteps.{key_at_entry}
 use Rattle.ps_stage.specs.Standings.{script_for}
+use Rattle.ps_stage.specs.declared.locations.Location.TheVariants.{AtMessage}
 use Rattle.ps_model.specs.session.IgnoredKeys.{is_ignored_at_message}
 use Rattle.ps_session.proofs.Dismissed.{entry_dismissed}
 use Rattle.ps_session.proofs.IgnoredSteps.{at_entry}
@@ -16,22 +18,31 @@ returns-then-is_ignored_at_message g c =
     record {
       game = refl;
       meaning = refl;
-      came = λ history. at_entry (script_for g.B.Board.table_for c.args.stage.now.game
-          (g.R.Rules.meant c.args.rules.now.plain) (g.R.Rules.meant c.args.rules.now.late)) c.args.entry.now c.args.key
-          ignored;
-      stopped = tt;
-      basis = tt;
-      boards = λ before. tt;
-      elsewhere = tt;
-      touched = tt;
-      ignored = λ e. refl;
+      answers = λ history. record {
+        came = at_entry (script_for g.B.Board.table_for c.args.stage.now.game
+            (g.R.Rules.meant c.args.rules.now.plain) (g.R.Rules.meant c.args.rules.now.late)) c.args.entry.now c.args.key
+            ignored;
+        stopped = tt;
+        basis = tt;
+        fits = λ before. tt;
+        elsewhere = tt;
+        touched = tt;
+        ignored = λ e. refl;
+      };
     }
 
-pub returns-in-Quit-clause-basis : goal.returns-in-Quit-clause-basis
-returns-in-Quit-clause-basis g c = c.in_ok-next.ensures.basis _
-
-pub returns-in-Quit-clause-boards : goal.returns-in-Quit-clause-boards
-returns-in-Quit-clause-boards g c before = c.in_ok-next.ensures.boards c.args.stage.now.game before
+pub returns-in-Quit-clause-answers : goal.returns-in-Quit-clause-answers
+returns-in-Quit-clause-answers g c = λ history. record {
+  came = ap (key_at_entry (script_for g.B.Board.table_for c.args.stage.now.game
+      (g.R.Rules.meant c.args.rules.now.plain) (g.R.Rules.meant c.args.rules.now.late)) c.args.entry.now) c.in-Quit.is
+      ∙ c.in_ok-next.ensures.came history (AtMessage c.args.entry.now);
+  stopped = tt;
+  basis = c.in_ok-next.ensures.basis _;
+  fits = c.in_ok-next.ensures.boards c.args.stage.now.game;
+  elsewhere = tt;
+  touched = c.in_ok-next.ensures.anew;
+  ignored = λ e. absurd (true≢false (sym e ∙ ap is_ignored_at_message c.in-Quit.is));
+}
 
 pub returns : goal.returns
 returns g c =
@@ -42,14 +53,16 @@ returns g c =
     record {
       game = c.in_ok-location.ensures.game;
       meaning = c.in_ok-location.ensures.meaning;
-      came = λ history. entry_dismissed script c.args.entry.now c.args.key heeded c.in_default.not-Quit
-          ∙ ap (enter script) (sym c.next.ensures)
-          ∙ ap (λ (text : List ℕ). after text (enter script c.next.result)) (sym c.requires.empty)
-          ∙ c.in_ok-location.ensures.came;
-      stopped = tt;
-      basis = c.in_ok-location.ensures.basis;
-      boards = c.in_ok-location.ensures.boards;
-      elsewhere = tt;
-      touched = refl;
-      ignored = λ e. absurd (true≢false (sym e ∙ heeded));
+      answers = λ history. record {
+        came = entry_dismissed script c.args.entry.now c.args.key heeded c.in_default.not-Quit
+            ∙ ap (enter script) (sym c.next.ensures)
+            ∙ ap (λ (text : List ℕ). after text (enter script c.next.result)) (sym c.requires.empty)
+            ∙ c.in_ok-location.ensures.came;
+        stopped = tt;
+        basis = c.in_ok-location.ensures.basis;
+        fits = c.in_ok-location.ensures.boards;
+        elsewhere = tt;
+        touched = refl;
+        ignored = λ e. absurd (true≢false (sym e ∙ heeded));
+      };
     }

@@ -24,7 +24,7 @@ pub commit-requires : goal.commit-requires
 commit-requires g c = record {
   behind = rw (c.prepare-done.ensures.boards, c.in-Ok-Some.ensures.same) c.self.invariant.1.1;
   touched = rw c.in-Ok-Some.ensures.same
-      (subst (AnswersFrom c.self.inside.location) c.in-Ok-Some.field-0-is c.in-Ok-Some.ensures.touched);
+      (subst (AnswersFrom c.self.inside.location) c.in-Ok-Some.field-0-is c.in-Ok-Some.ensures.answers.touched);
   ready = c.in_default.ensures.ready;
   basis = rw (
     c.prepare-done.ensures.game,
@@ -34,7 +34,7 @@ commit-requires g c = record {
   ) c.self.invariant.0;
   comes = rw (c.prepare-done.ensures.game, c.in-Ok-Some.ensures.game)
       (subst (AnswersOnBasis (basis_of g.B.Board.table_for c.forget_text.new.self.game.names))
-      c.in-Ok-Some.field-0-is c.in-Ok-Some.ensures.basis);
+      c.in-Ok-Some.field-0-is c.in-Ok-Some.ensures.answers.basis);
 }
 
 pub returns-in-Ok-None : goal.returns-in-Ok-None
@@ -50,7 +50,7 @@ returns-in-Ok-None g c =
     let is : step ≡ answer_step (grids_of boards) c.self.inside.location None c.next_at-found.new.stage.text =
     step_of_value g.B.Board.table_for (g.R.Rules.meant c.args.rules.now.plain) (g.R.Rules.meant c.args.rules.now.late)
     c.forget_text.new.self.game inside c.args.self.now c.args.key c.forget_text.ensures.game c.self.view_is
-    ∙ rw c.in-Ok-None.field-0-is at c.in-Ok-None.ensures.came in
+    ∙ rw c.in-Ok-None.field-0-is at c.in-Ok-None.ensures.answers.came in
     record {
       game = game_of_value c.next_at-found.new.stage.game c.forget_text.new.self.game inside c.args.self.now
           c.in-Ok-None.ensures.game c.forget_text.ensures.game c.self.view_is;
@@ -89,13 +89,13 @@ returns-in-Err g c =
       left = left_of_value g.B.Board.table_for (g.R.Rules.meant c.args.rules.now.plain)
           (g.R.Rules.meant c.args.rules.now.late) c.forget_text.new.self.game inside c.args.self.now c.args.key
           c.tell_stop.result c.args.output.now c.tell_stop.new.output c.forget_text.ensures.game c.self.view_is
-          (c.tell_stop.ensures.left _ _ c.in-Err.ensures.stopped);
+          (c.tell_stop.ensures.left _ _ c.in-Err.ensures.answers.stopped);
       elsewhere = c.tell_stop.ensures.elsewhere c.args.self.now.game
           (subst (λ (parts : SessionParts). IsForOthers parts c.in-Err.stop)
           (c.forget_text.ensures.game ∙ ap (λ (value : SessionValue). value.game) c.self.view_is)
-          c.in-Err.ensures.elsewhere);
+          c.in-Err.ensures.answers.elsewhere);
       boards = tt;
-      ignored = λ ignored. error_came _ _ (c.next_at-found.ensures.ignored
+      ignored = λ ignored. error_came _ _ (c.next_at-found.ensures.answers.ignored
           (ignored_inside c.forget_text.new.self.game inside c.args.self.now c.args.key c.forget_text.ensures.game
           c.self.view_is ignored)) c.in-Err.is;
       plain = same_plain c.in-Err.ensures.meaning;
@@ -124,7 +124,7 @@ returns-in-Err-done g c =
       left = c.in-Err-done.ensures.kept;
       elsewhere = tt;
       boards = tt;
-      ignored = λ ignored. none_came _ _ (c.in-Ok-Some.ensures.ignored
+      ignored = λ ignored. none_came _ _ (c.in-Ok-Some.ensures.answers.ignored
           (ignored_inside c.forget_text.new.self.game inside c.args.self.now c.args.key c.forget_text.ensures.game
           c.self.view_is ignored)) c.in-Ok-Some.field-0-is;
       plain = same_plain c.in-Ok-Some.ensures.meaning;
@@ -145,7 +145,7 @@ returns g c =
     ≡ answer_step (grids_of boards) c.self.inside.location (Some c.in-Ok-Some.next) c.next_at-found.new.stage.text =
     step_of_value g.B.Board.table_for (g.R.Rules.meant c.args.rules.now.plain) (g.R.Rules.meant c.args.rules.now.late)
     c.forget_text.new.self.game inside c.args.self.now c.args.key c.forget_text.ensures.game c.self.view_is
-    ∙ rw c.in-Ok-Some.field-0-is at c.in-Ok-Some.ensures.came in
+    ∙ rw c.in-Ok-Some.field-0-is at c.in-Ok-Some.ensures.answers.came in
     record {
       game = game_of_value c.commit.new.stage.game c.forget_text.new.self.game inside c.args.self.now
           (ap (λ (stage : StageValue). stage.game) c.commit.ensures.stage ∙ c.prepare-done.ensures.game
@@ -167,7 +167,7 @@ returns g c =
           (c.commit.ensures.shown ∙ ap (λ (boards : List BoardShown).
           change_shown (grids_of boards) c.next_at-found.new.location c.in-Ok-Some.next) c.prepare-done.ensures.boards
           ∙ ap (λ location. change_shown (grids_of boards) location c.in-Ok-Some.next) c.in-Ok-Some.ensures.same)
-          c.in-Ok-Some.ensures.boards;
+          c.in-Ok-Some.ensures.answers.fits;
       ignored = λ ignored. refl;
       plain = same_plain c.in-Ok-Some.ensures.meaning;
       late = same_late c.in-Ok-Some.ensures.meaning;
@@ -181,7 +181,7 @@ invariant_of-self-2 g c =
     ∙ c.in-Ok-Some.ensures.game ∙ c.forget_text.ensures.game in
     let here : IsOnBasis basis c.next_at-found.new.location = rw c.in-Ok-Some.ensures.same c.self.invariant.0 in
     let answers : AnswersOnBasis basis c.in-Ok-Some.field-0 =
-    rw (← c.forget_text.ensures.game) c.in-Ok-Some.ensures.basis in
+    rw (← c.forget_text.ensures.game) c.in-Ok-Some.ensures.answers.basis in
     let comes : AnswersOnBasis basis (Some c.in-Ok-Some.next) =
     subst (AnswersOnBasis basis) c.in-Ok-Some.field-0-is answers in
     let before : AreOnTable basis.table (g.H.History.boards c.prepare-done.new.history) =
