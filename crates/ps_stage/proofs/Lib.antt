@@ -1,12 +1,13 @@
 mod AgainTurns
 mod Entered
-pub mod EntriesFound
 mod KeyChanges
 mod KeyTurns
 mod LevelPlaces
-pub mod OwnBoards
 mod OwnRooms
 mod PartLoaded
 mod Results
-pub mod Scripts
 mod ShownLevels
+mod StepsCompared
+pub mod EntriesFound
+pub mod OwnBoards
+pub mod Scripts

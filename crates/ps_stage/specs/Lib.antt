@@ -1,4 +1,5 @@
 pub mod CellsLoaded
+pub mod Changes
 pub mod KeysShown
 pub mod Locations
 pub mod Playable

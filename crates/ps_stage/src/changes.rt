@@ -1,6 +1,6 @@
 //! What comes of a key in a level: a turn with an input, and going on after a message.
 
-ghost use Rattle.std.specs.Prelude.{◌≡◌, ℕ, IfErr, IfOk, IfSome, OnOk, List, Some, false};
+ghost use Rattle.std.specs.Prelude.{◌≡◌, IfOk, IfSome, OnOk, List, Some, false};
 ghost use Rattle.ps_model.specs.board.Grid.{Grid};
 ghost use Rattle.ps_model.specs.declared.limits.TheConstants.{AGAIN_LIMIT};
 ghost use Rattle.ps_model.specs.session.Rooms.{frame_in};
@@ -11,12 +11,11 @@ ghost use Rattle.ps_model.specs.session.StartSteps.{level_done, start_turns};
 ghost use Rattle.ps_turn.specs.States.{done_shown};
 ghost use Rattle.ps_stage.specs.Meanings.{meaning_of, script_by};
 ghost use Rattle.ps_stage.specs.KeysShown.{IsNext, key_end_step, key_shown, tried_outcome};
-ghost use Rattle.ps_stage.specs.Locations.{change_shown, history_behind, history_change_if, GoesOnBasis};
-ghost use Rattle.ps_stage.specs.OwnBoards.{ChangeFits, IsForOthers};
+ghost use Rattle.ps_stage.specs.Changes.{ComesTo};
+ghost use Rattle.ps_stage.specs.Locations.{history_behind, history_change_if};
 ghost use Rattle.ps_stage.specs.Standings.{Standing, basis_of, play_of};
-ghost use Rattle.ps_stage.specs.StepsShown.{IsStopped, came, stands, pending_shown};
-ghost use Rattle.ps_stage.specs.Touched.{AreTouched, GoesFrom, IsTouchedBy};
-ghost use Rattle.ps_stage.specs.declared.locations.Location.TheVariants.{Playing};
+ghost use Rattle.ps_stage.specs.StepsShown.{came, stands, pending_shown};
+ghost use Rattle.ps_stage.specs.Touched.{AreTouched, IsTouchedBy};
 
 use crate::entering::located;
 use crate::levels::{LevelChange, PlayedLevel, Tried, TriedTurn};
@@ -72,20 +71,10 @@ impl<'g, B: Board> Stage<'g, B> {
     ) -> Result<LevelChange<B>, Stop>
         ensures game { self.new.game ≡ self.old.game }
         ensures meaning { meaning_of R.Rules rules.new ≡ meaning_of R.Rules rules.old }
-        ensures basis { IfOk result (λ change. GoesOnBasis (basis_of B.table_for self.old.game.names) change) }
-        ensures boards { IfOk result (λ change. (before : ℕ) → ChangeFits self.old.game before change) }
-        ensures elsewhere { IfErr result (IsForOthers self.old.game) }
-        ensures touched { IfOk result (λ change. (before : Grid) → GoesFrom before change) }
-        ensures came { IfOk result (λ change. (history before : List Grid) (first : Standing) → after self.old.text
-            (level_done (script_by B.Board R.Rules self.old.game rules.old)
-            (play_of history level.now))
-            ≡ came (change_shown before (Playing first) change) self.new.text) }
-        ensures stopped { IfErr result (λ stop. (history : List Grid)
-            → IsStopped (script_by B.Board R.Rules self.old.game rules.old) stop
-            (after self.old.text
-            (level_done (script_by B.Board R.Rules self.old.game rules.old)
-            (play_of history level.now)))
-            self.new.text) }
+        ensures changes { (first : Standing) (behind : Play → List Grid)
+            → ComesTo B.Board R.Rules self.old.game rules.old first
+            (λ script play. after self.old.text (level_done script (play_of (behind play) level.now)))
+            result self.new.text }
     {
         let location = self.level_done(rules, level)?;
         Ok(Change::Goes(location, HistoryChange::Clears, None))
@@ -104,19 +93,12 @@ impl<'g, B: Board> Stage<'g, B> {
         requires { level.basis ≡ basis_of B.table_for self.old.game.names }
         ensures game { self.new.game ≡ self.old.game }
         ensures meaning { meaning_of R.Rules rules.new ≡ meaning_of R.Rules rules.old }
-        ensures basis { IfOk result (λ change. GoesOnBasis (basis_of B.table_for self.old.game.names) change) }
-        ensures boards { IfOk result (ChangeFits self.old.game level.entry) }
-        ensures elsewhere { IfErr result (IsForOthers self.old.game) }
-        ensures touched { IfOk result (λ change. (before : Grid)
-            → IfSome rows (λ rows. AreTouched rows before level.board) → GoesFrom before change) }
-        ensures came { IfOk result (λ change. (history : List Grid) (first : Standing)
-            → key_end_step (script_by B.Board R.Rules self.old.game rules.old)
-            end (play_of (history_behind history_change history first.board) level) self.old.text
-            ≡ came (change_shown history (Playing first) change) self.new.text) }
-        ensures stopped { IfErr result (λ stop. (history : List Grid) (first : Standing)
-            → IsStopped (script_by B.Board R.Rules self.old.game rules.old) stop
-            (key_end_step (script_by B.Board R.Rules self.old.game rules.old) end
-            (play_of (history_behind history_change history first.board) level) self.old.text) self.new.text) }
+        ensures changes { (first : Standing) → first.entry ≡ level.entry
+            → IfSome rows (λ rows. AreTouched rows first.board level.board)
+            → ComesTo B.Board R.Rules self.old.game rules.old first
+            (λ script play. key_end_step script end
+            (play_of (history_behind history_change play.history play.board) level) self.old.text)
+            result self.new.text }
     {
         match end {
             KeyEnd::Stops(pending) => Ok(Change::Goes(
@@ -178,26 +160,12 @@ impl<'g, B: Board> Stage<'g, B> {
         requires { level.basis ≡ basis_of B.table_for self.old.game.names }
         ensures game { self.new.game ≡ self.old.game }
         ensures meaning { meaning_of R.Rules rules.new ≡ meaning_of R.Rules rules.old }
-        ensures basis { IfOk result (λ change. GoesOnBasis (basis_of B.table_for self.old.game.names) change) }
-        ensures boards { IfOk result (ChangeFits self.old.game level.entry) }
-        ensures elsewhere { IfErr result (IsForOthers self.old.game) }
-        ensures touched { IfOk result (λ change. (before : Grid)
-            → AreTouched rows before level.board → GoesFrom before change) }
-        ensures came { IfOk result (λ change. (history : List Grid) (first : Standing)
-            → after self.old.text
-            (key_shown (script_by B.Board R.Rules self.old.game rules.old)
-            (play_of (history_behind (history_change_if done.now.changed) history first.board) level)
-            (done_shown done.now level.board) AGAIN_LIMIT
-            (all_key_turns (script_by B.Board R.Rules self.old.game rules.old)))
-            ≡ came (change_shown history (Playing first) change) self.new.text) }
-        ensures stopped { IfErr result (λ stop. (history : List Grid) (first : Standing)
-            → IsStopped (script_by B.Board R.Rules self.old.game rules.old) stop
-            (after self.old.text
-            (key_shown (script_by B.Board R.Rules self.old.game rules.old)
-            (play_of (history_behind (history_change_if done.now.changed) history first.board) level)
-            (done_shown done.now level.board) AGAIN_LIMIT
-            (all_key_turns (script_by B.Board R.Rules self.old.game rules.old))))
-            self.new.text) }
+        ensures changes { (first : Standing) → first.entry ≡ level.entry → AreTouched rows first.board level.board
+            → ComesTo B.Board R.Rules self.old.game rules.old first
+            (λ script play. after self.old.text (key_shown script
+            (play_of (history_behind (history_change_if done.now.changed) play.history play.board) level)
+            (done_shown done.now level.board) AGAIN_LIMIT (all_key_turns script)))
+            result self.new.text }
     {
         let history_change = history_change_if(done.changed);
         let rows = if done.again { None } else { Some(rows) };
@@ -250,20 +218,8 @@ impl<'g, B: Board> Stage<'g, B> {
         ensures level { level.new ≡ level.old }
         ensures game { self.new.game ≡ self.old.game }
         ensures meaning { meaning_of R.Rules rules.new ≡ meaning_of R.Rules rules.old }
-        ensures basis { IfOk result (λ change. GoesOnBasis (basis_of B.table_for self.old.game.names) change) }
-        ensures boards { IfOk result (ChangeFits self.old.game level.old.entry) }
-        ensures elsewhere { IfErr result (IsForOthers self.old.game) }
-        ensures touched { IfOk result (λ change. GoesFrom level.old.board change) }
-        ensures came { IfOk result (λ change. (history : List Grid) → after self.old.text
-            (turn_taken (script_by B.Board R.Rules self.old.game rules.old)
-            (play_of history level.old) (tried_outcome tried))
-            ≡ came (change_shown history (Playing level.old) change) self.new.text) }
-        ensures stopped { IfErr result (λ stop. (history : List Grid)
-            → IsStopped (script_by B.Board R.Rules self.old.game rules.old) stop
-            (after self.old.text
-            (turn_taken (script_by B.Board R.Rules self.old.game rules.old)
-            (play_of history level.old) (tried_outcome tried)))
-            self.new.text) }
+        ensures changes { ComesTo B.Board R.Rules self.old.game rules.old level.old
+            (λ script play. after self.old.text (turn_taken script play (tried_outcome tried))) result self.new.text }
     {
         match tried {
             Tried::Blocked(message) => {
@@ -300,20 +256,8 @@ impl<'g, B: Board> Stage<'g, B> {
         ensures level { level.new ≡ level.old }
         ensures game { self.new.game ≡ self.old.game }
         ensures meaning { meaning_of R.Rules rules.new ≡ meaning_of R.Rules rules.old }
-        ensures basis { IfOk result (λ change. GoesOnBasis (basis_of B.table_for self.old.game.names) change) }
-        ensures boards { IfOk result (ChangeFits self.old.game level.old.entry) }
-        ensures elsewhere { IfErr result (IsForOthers self.old.game) }
-        ensures touched { IfOk result (λ change. GoesFrom level.old.board change) }
-        ensures came { IfOk result (λ change. (history : List Grid) → after self.old.text
-            (input_taken (script_by B.Board R.Rules self.old.game rules.old)
-            (play_of history level.old) input)
-            ≡ came (change_shown history (Playing level.old) change) self.new.text) }
-        ensures stopped { IfErr result (λ stop. (history : List Grid)
-            → IsStopped (script_by B.Board R.Rules self.old.game rules.old) stop
-            (after self.old.text
-            (input_taken (script_by B.Board R.Rules self.old.game rules.old)
-            (play_of history level.old) input))
-            self.new.text) }
+        ensures changes { ComesTo B.Board R.Rules self.old.game rules.old level.old
+            (λ script play. after self.old.text (input_taken script play input)) result self.new.text }
     {
         let tried = self.try_turn(rules, level, input)?;
         self.follow_tried(rules, level, tried)
@@ -340,20 +284,8 @@ impl<'g, B: Board> Stage<'g, B> {
         ensures level { level.new ≡ level.old }
         ensures game { self.new.game ≡ self.old.game }
         ensures meaning { meaning_of R.Rules rules.new ≡ meaning_of R.Rules rules.old }
-        ensures basis { IfOk result (λ change. GoesOnBasis (basis_of B.table_for self.old.game.names) change) }
-        ensures boards { IfOk result (ChangeFits self.old.game level.old.entry) }
-        ensures elsewhere { IfErr result (IsForOthers self.old.game) }
-        ensures touched { IfOk result (λ change. (before : Grid) → GoesFrom before change) }
-        ensures came { IfOk result (λ change. (history : List Grid) (first : Standing) → after self.old.text
-            (key_turns (script_by B.Board R.Rules self.old.game rules.old) left
-            (play_of history level.old))
-            ≡ came (change_shown history (Playing first) change) self.new.text) }
-        ensures stopped { IfErr result (λ stop. (history : List Grid)
-            → IsStopped (script_by B.Board R.Rules self.old.game rules.old) stop
-            (after self.old.text
-            (key_turns (script_by B.Board R.Rules self.old.game rules.old) left
-            (play_of history level.old)))
-            self.new.text) }
+        ensures changes { ComesTo B.Board R.Rules self.old.game rules.old level.old
+            (λ script play. after self.old.text (key_turns script left play)) result self.new.text }
     {
         let mut next = self.copied(level)?;
         let end = self.key_turns(rules, &mut next, left)?;
@@ -371,20 +303,8 @@ impl<'g, B: Board> Stage<'g, B> {
         ensures level { level.new ≡ level.old }
         ensures game { self.new.game ≡ self.old.game }
         ensures meaning { meaning_of R.Rules rules.new ≡ meaning_of R.Rules rules.old }
-        ensures basis { IfOk result (λ change. GoesOnBasis (basis_of B.table_for self.old.game.names) change) }
-        ensures boards { IfOk result (ChangeFits self.old.game level.old.entry) }
-        ensures elsewhere { IfErr result (IsForOthers self.old.game) }
-        ensures touched { IfOk result (λ change. (before : Grid) → GoesFrom before change) }
-        ensures came { IfOk result (λ change. (history : List Grid) (first : Standing) → after self.old.text
-            (start_turns (script_by B.Board R.Rules self.old.game rules.old) left
-            (play_of history level.old))
-            ≡ came (change_shown history (Playing first) change) self.new.text) }
-        ensures stopped { IfErr result (λ stop. (history : List Grid)
-            → IsStopped (script_by B.Board R.Rules self.old.game rules.old) stop
-            (after self.old.text
-            (start_turns (script_by B.Board R.Rules self.old.game rules.old) left
-            (play_of history level.old)))
-            self.new.text) }
+        ensures changes { ComesTo B.Board R.Rules self.old.game rules.old level.old
+            (λ script play. after self.old.text (start_turns script left play)) result self.new.text }
     {
         let mut next = self.copied(level)?;
         let pending = self.start_turns(rules, &mut next, left)?;
@@ -408,20 +328,9 @@ impl<'g, B: Board> Stage<'g, B> {
         ensures level { level.new ≡ level.old }
         ensures game { self.new.game ≡ self.old.game }
         ensures meaning { meaning_of R.Rules rules.new ≡ meaning_of R.Rules rules.old }
-        ensures basis { IfOk result (λ change. GoesOnBasis (basis_of B.table_for self.old.game.names) change) }
-        ensures boards { IfOk result (ChangeFits self.old.game level.old.entry) }
-        ensures elsewhere { IfErr result (IsForOthers self.old.game) }
-        ensures touched { IfOk result (λ change. (before : Grid) → GoesFrom before change) }
-        ensures came { IfOk result (λ change. (history : List Grid) → after self.old.text
-            (gone_on (script_by B.Board R.Rules self.old.game rules.old)
-            (play_of history level.old) (pending_shown pending))
-            ≡ came (change_shown history (Playing level.old) change) self.new.text) }
-        ensures stopped { IfErr result (λ stop. (history : List Grid)
-            → IsStopped (script_by B.Board R.Rules self.old.game rules.old) stop
-            (after self.old.text
-            (gone_on (script_by B.Board R.Rules self.old.game rules.old)
-            (play_of history level.old) (pending_shown pending)))
-            self.new.text) }
+        ensures changes { ComesTo B.Board R.Rules self.old.game rules.old level.old
+            (λ script play. after self.old.text (gone_on script play (pending_shown pending)))
+            result self.new.text }
     {
         match pending {
             Pending::Nothing => Ok(Change::Stays(None)),

@@ -50,12 +50,12 @@ returns-in_ok-next-in-Move g c =
       answers = record {
         came = moved_by script play c.in-Move.input c.args.key c.in-Move.is heeded
             ∙ ap (λ (text : List ℕ). after text (input_taken script play c.in-Move.input)) (sym c.requires.empty)
-            ∙ c.in_ok-next-in-Move.ensures.came grids;
+            ∙ c.in_ok-next-in-Move.ensures.changes.came grids;
         stopped = tt;
-        basis = c.in_ok-next-in-Move.ensures.basis;
-        fits = c.in_ok-next-in-Move.ensures.boards;
+        basis = c.in_ok-next-in-Move.ensures.changes.basis;
+        fits = c.in_ok-next-in-Move.ensures.changes.fits;
         elsewhere = tt;
-        touched = c.in_ok-next-in-Move.ensures.touched;
+        touched = c.in_ok-next-in-Move.ensures.changes.touched;
         ignored = λ e. absurd (true≢false (sym e ∙ heeded));
       };
     }

@@ -40,14 +40,14 @@ returns g c =
             dismissed script play (pending_shown c.args.pending) c.args.key heeded c.in_default.not-Quit
             ∙ ap (λ (text : List ℕ). after text (gone_on script play (pending_shown c.args.pending)))
             (sym c.requires.empty)
-            ∙ c.in_ok-change.ensures.came history
+            ∙ c.in_ok-change.ensures.changes.came history
             ∙ ap (λ (session : Session). came session c.go_on.new.self.text)
             (sym (changed_at_message history c.args.level.now c.args.pending c.in_ok-change.change));
         stopped = tt;
-        basis = c.in_ok-change.ensures.basis;
-        fits = c.in_ok-change.ensures.boards;
+        basis = c.in_ok-change.ensures.changes.basis;
+        fits = c.in_ok-change.ensures.changes.fits;
         elsewhere = tt;
-        touched = c.in_ok-change.ensures.touched _;
+        touched = c.in_ok-change.ensures.changes.touched;
         ignored = λ e. absurd (true≢false (sym e ∙ heeded));
       };
     }

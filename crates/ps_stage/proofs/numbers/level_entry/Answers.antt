@@ -1,9 +1,9 @@
-use Rattle.std.proofs.Common.{◌≡◌, ◌≢◌, ◌∙◌, ℕ, suc, ◌+◌, true, List, length, slice_get, refl, sym, ap, arith}
+use Rattle.std.proofs.Common.{◌≡◌, ◌≢◌, ◌∙◌, ℕ, suc, ◌+◌, true, List, slice_get, refl, sym, ap, arith}
 use Rattle.std.proofs.lemmas.Bool.{true≢false}
 use Rattle.std.proofs.lemmas.List.{length-map}
 use Rattle.ps_model.specs.game.LevelRuns.{is_level_found}
 use Rattle.ps_model.specs.session.LevelLines.{Entry as Meant}
-use Rattle.ps_levels.specs.EntriesShown.{entry_shown, entries_shown}
+use Rattle.ps_levels.specs.EntriesShown.{entries_shown}
 use Rattle.ps_laws.proofs.sessions.LevelNumbers.{levels_before}
 use Rattle.ps_stage.proofs.LevelPlaces.{counted_at, found_at, lacked, one_more}
 use Rattle.ps_stage.proofs.EntriesFound.{entry_found}
