@@ -195,14 +195,7 @@ impl<'g, B: Board> Stage<'g, B> {
         ensures next { IfOk result (λ tried. IsNext level.old tried) }
         ensures touched { IfOk result (λ tried. IsTouchedBy level.old.board tried) }
     {
-        level.try_turn(
-            self.alloc,
-            &mut self.spares,
-            &mut self.picture,
-            &self.game,
-            rules,
-            input,
-        )
+        level.try_turn(&mut self.workshop, &self.game, rules, input)
     }
 
     /// What follows a turn that was tried on a level.
@@ -270,7 +263,7 @@ impl<'g, B: Board> Stage<'g, B> {
         ensures level { level.new ≡ level.old }
         ensures copy { IfOk result (λ copy. copy ≡ level.old) }
     {
-        level.try_copy(self.alloc, &mut self.spares, self.game.names())
+        level.try_copy(&mut self.workshop)
     }
 
     /// The again turns of a key that are left come after a message.

@@ -66,14 +66,9 @@ impl<'g, B: Board> Stage<'g, B> {
             entry (Some (LevelEntry level.now)))
             ≡ came (location_shown [] location) self.new.text) }
     {
-        self.text.add_level(self.alloc, number)?;
-        let mut played: PlayedLevel<B> = PlayedLevel::load(
-            self.alloc,
-            &mut self.spares,
-            self.game.names(),
-            entry,
-            level,
-        )?;
+        let alloc = self.workshop.alloc();
+        self.text.add_level(alloc, number)?;
+        let mut played = PlayedLevel::load(&mut self.workshop, entry, level)?;
         let pending = self.start_step(rules, &mut played, None)?;
         Ok(located(played, pending))
     }
@@ -174,7 +169,8 @@ impl<'g, B: Board> Stage<'g, B> {
     {
         let entry = level.entry();
         let number = level_number(self.entries(), &entry);
-        self.text.add_level_done(self.alloc, number)?;
+        let alloc = self.workshop.alloc();
+        self.text.add_level_done(alloc, number)?;
         self.enter(rules, entry.next())
     }
 
@@ -201,13 +197,7 @@ impl<'g, B: Board> Stage<'g, B> {
             (play_of history level.old) message)
             ≡ came (location_shown history location) self.new.text) }
     {
-        let again = level.restarted(
-            self.alloc,
-            &mut self.spares,
-            &mut self.picture,
-            self.game.names(),
-        );
-        let mut again = match again {
+        let mut again = match level.restarted(&mut self.workshop) {
             Ok(again) => again,
             Err(Memory) => {
                 drop(message);

@@ -20,11 +20,10 @@ use crate::game::SessionGame;
 use crate::loading::load;
 use crate::locations::Change;
 use crate::parts::{LevelParts, restart_board_behind};
-use crate::spares::SpareLevels;
+use crate::workshop::Workshop;
 use ps_board::{Board, Columns, recall_shape};
 use ps_levels::Level;
 use ps_model::{Input, Memory, Room, RoomSize};
-use ps_names::Names;
 use ps_screen::{FrameText, OutputText, Picture};
 use ps_text::Text;
 use ps_turn::{DoneTurn, Rules, TurnRules, Turned, turn};
@@ -144,54 +143,49 @@ fn run_turn<B: Board, R: Rules<B>>(
     Ok(turned)
 }
 
-/// A turn of a game on a board, and on a second one that is equal to it before and after the turn. The board has what
-/// a turn that is done and counts came to, and the text of its frame goes with it; else it is as before.
+/// Takes on the board that a turn without input came to, if it is done and counts, with the text of its frame. The spare
+/// parts, on whose board the turn ran, have a board that is equal to it again.
 ///
 /// # Errors
 ///
-/// `Memory`, and the board is as before, or as the turn left it.
-fn counted_turn<B: Board, R: Rules<B>>(
-    game: &SessionGame<'_>,
-    rules: &mut TurnRules<R>,
-    input: Option<Input>,
-    counting: Counting,
+/// `Memory`, and the text of the frame is lost.
+fn settle<B: Board>(
     picture: &mut Picture<'_>,
-    board: &mut Box<B>,
-    spare: &mut Box<B>,
-    frame: &mut Option<FrameText>,
-) -> Result<Turned, Memory>
-    requires equal { B.grid spare.old.value ≡ B.grid board.old.value }
-    requires origin { B.origin spare.old.value ≡ B.grid board.old.value }
-    requires table { B.table spare.old.value ≡ B.table board.old.value }
-    requires own { B.table board.old.value ≡ B.table_for game.now.names.layers }
-    requires frame { IsFrameOf picture.old (B.grid board.old.value) frame.old }
-    ensures turned { IfOk result (λ turned. (g : Grid)
-        × (outcome_shown turned g
-        ≡ turn (script_by B.Board R.Rules game.now rules.old) input
-        (B.grid board.old.value))
-        × (B.grid board.new.value ≡ board_taken counting turned (B.grid board.old.value) g)) }
+    parts: &mut LevelParts<B>,
+    spare: &mut LevelParts<B>,
+    turned: &Turned,
+    counting: Counting,
+) -> Result<(), Memory>
+    requires sides { HaveSameSides (B.grid spare.old.board.value) (B.grid parts.old.board.value) }
+    requires origin { B.origin spare.old.board.value ≡ B.grid parts.old.board.value }
+    requires table { B.table spare.old.board.value ≡ B.table parts.old.board.value }
+    requires frame { IsFrameOf picture.old (B.grid parts.old.board.value) parts.old.frame }
     ensures picture { picture.new ≡ picture.old }
-    ensures frame { IsFrameOf picture.old (B.grid board.new.value) frame.new }
-    ensures equal { B.grid spare.new.value ≡ B.grid board.new.value }
-    ensures origin { B.origin spare.new.value ≡ B.grid board.new.value }
-    ensures table { B.table board.new.value ≡ B.table board.old.value }
-    ensures spare_table { B.table spare.new.value ≡ B.table board.old.value }
-    ensures meaning { meaning_of R.Rules rules.new ≡ meaning_of R.Rules rules.old }
+    ensures grid { B.grid parts.new.board.value
+        ≡ board_taken counting turned.now (B.grid parts.old.board.value) (B.grid spare.old.board.value) }
+    ensures frame { IsFrameOf picture.old (B.grid parts.new.board.value) parts.new.frame }
+    ensures equal { B.grid spare.new.board.value ≡ B.grid parts.new.board.value }
+    ensures origin { B.origin spare.new.board.value ≡ B.grid parts.new.board.value }
+    ensures table { B.table parts.new.board.value ≡ B.table parts.old.board.value }
+    ensures spare_table { B.table spare.new.board.value ≡ B.table parts.old.board.value }
+    ensures entry { parts.new.entry ≡ parts.old.entry }
+    ensures restart_board { parts.new.restart_board ≡ parts.old.restart_board }
+    ensures room { parts.new.room ≡ parts.old.room }
+    ensures names { parts.new.names ≡ parts.old.names }
 {
-    let turned = run_turn(game, rules, input, &**board, &mut **spare)?;
-    let Turned::Done(done) = &turned else {
-        return Ok(turned);
+    let counts = match turned {
+        Turned::Done(done) => counting.counts(done),
+        _ => false,
     };
-    if !counting.counts(done) {
-        board.copy_into(&mut **spare);
-        return Ok(turned);
+    if !counts {
+        parts.board.copy_into(&mut *spare.board);
+        return Ok(());
     }
-    mem::swap(board, spare);
-    let rows = board.rows_touched();
-    let drawn = picture.redraw(frame, &**spare, &**board, rows);
-    board.copy_rows(&mut **spare, &rows);
-    drawn?;
-    Ok(turned)
+    mem::swap(&mut parts.board, &mut spare.board);
+    let rows = parts.board.rows_touched();
+    let drawn = picture.redraw(&mut parts.frame, &*spare.board, &*parts.board, rows);
+    parts.board.copy_rows(&mut *spare.board, &rows);
+    drawn
 }
 
 /// Parts whose board shows what that of a level's parts does: the level's own spare ones, or else a copy.
@@ -200,10 +194,8 @@ fn counted_turn<B: Board, R: Rules<B>>(
 ///
 /// `Memory`, where there are no spare ones.
 fn lent<B: Board>(
-    alloc: Global,
-    spares: &mut SpareLevels<B>,
+    workshop: &mut Workshop<'_, B>,
     parts: &LevelParts<B>,
-    names: &Names,
     spare: Option<Box<LevelParts<B>>>,
 ) -> Result<Box<LevelParts<B>>, Memory>
     requires grid { IfSome spare (λ spare. B.grid spare.value.board.value ≡ B.grid parts.now.board.value) }
@@ -212,9 +204,10 @@ fn lent<B: Board>(
     ensures grid { IfOk result (λ lent. B.grid lent.value.board.value ≡ B.grid parts.now.board.value) }
     ensures origin { IfOk result (λ lent. B.origin lent.value.board.value ≡ B.grid parts.now.board.value) }
     ensures table { IfOk result (λ lent. B.table lent.value.board.value ≡ B.table parts.now.board.value) }
+    ensures workshop { workshop.new ≡ workshop.old }
 {
     let Some(spare) = spare else {
-        return spares.copy_of(alloc, parts, &*parts.board, names);
+        return workshop.copy_of(parts, &*parts.board);
     };
     Ok(spare)
 }
@@ -233,27 +226,25 @@ fn put_back<B: Board>(place: &mut Option<Box<LevelParts<B>>>, parts: Box<LevelPa
 ///
 /// `Memory`, and no spare parts are lost.
 fn level_of<B: Board>(
-    alloc: Global,
-    spares: &mut SpareLevels<B>,
+    workshop: &mut Workshop<'_, B>,
     parts: &LevelParts<B>,
     board: &B,
     room: Room,
     frame: Option<FrameText>,
-    names: &Names,
 ) -> Result<PlayedLevel<B>, Memory>
-    requires names { parts.now.names.value ≡ names.now }
     requires table { B.table parts.now.restart_board.value.value ≡ B.table board.now }
-    requires frame { IsFrameOf names.now (B.grid board.now) frame }
+    requires frame { IsFrameOf workshop.old (B.grid board.now) frame }
+    ensures workshop { workshop.new ≡ workshop.old }
     ensures entry { IfOk result (λ level. level.entry ≡ parts.now.entry) }
     ensures table { IfOk result (λ level. level.basis.table ≡ B.table board.now) }
-    ensures names { IfOk result (λ level. level.basis.names ≡ names.now) }
+    ensures names { IfOk result (λ level. level.basis.names ≡ workshop.old) }
     ensures board { IfOk result (λ level. level.board ≡ B.grid board.now) }
     ensures restart_board { IfOk result (λ level. level.restart_board
         ≡ B.grid parts.now.restart_board.value.value) }
     ensures room { IfOk result (λ level. level.room ≡ room) }
 {
-    let mut copy = spares.copy_of(alloc, parts, board, names)?;
-    match spares.copy_of(alloc, parts, board, names) {
+    let mut copy = workshop.copy_of(parts, board)?;
+    match workshop.copy_of(parts, board) {
         Ok(spare) => {
             copy.room = room;
             copy.frame = frame;
@@ -264,7 +255,7 @@ fn level_of<B: Board>(
         }
         Err(Memory) => {
             drop(frame);
-            spares.keep(copy);
+            workshop.spares.keep(copy);
             Err(Memory)
         }
     }
@@ -301,85 +292,72 @@ impl<B: Board> PlayedLevel<B> {
     ///
     /// `Memory`.
     pub(crate) fn load(
-        alloc: Global,
-        spares: &mut SpareLevels<B>,
-        names: &Names,
+        workshop: &mut Workshop<'_, B>,
         entry: EntryNumber,
         level: &Level,
     ) -> Result<PlayedLevel<B>, Memory>
-        requires playable { IsPlayable names.now level.now }
+        requires playable { IsPlayable workshop.old level.now }
         requires fits { LevelFits B.Words.limit level.now }
+        ensures workshop { workshop.new ≡ workshop.old }
         ensures entry { IfOk result (λ played. played.entry ≡ entry) }
-        ensures basis { IfOk result (λ played. played.basis ≡ basis_of B.table_for names.now) }
-        ensures board { IfOk result (λ played. played.board ≡ loaded names.now level.now) }
-        ensures restart_board { IfOk result (λ played. played.restart_board ≡ loaded names.now level.now) }
+        ensures basis { IfOk result (λ played. played.basis ≡ basis_of B.table_for workshop.old) }
+        ensures board { IfOk result (λ played. played.board ≡ loaded workshop.old level.now) }
+        ensures restart_board { IfOk result (λ played. played.restart_board ≡ loaded workshop.old level.now) }
         ensures room { IfOk result (λ played. played.room ≡ first_room) }
     {
-        let board: B = load(alloc, names, level)?;
-        let parts = LevelParts::at_start(alloc, names, entry, board)?;
-        let spare = spares.copy_of(alloc, &*parts, &*parts.board, names)?;
+        let board: B = load(workshop.alloc, workshop.names, level)?;
+        let parts = LevelParts::at_start(workshop.alloc, workshop.names, entry, board)?;
+        let spare = workshop.copy_of(&*parts, &*parts.board)?;
         Ok(PlayedLevel {
             parts,
             spare: Some(spare),
         })
     }
 
-    /// The same level once more, for the game of these names. It has the text of the frame, if it was drawn.
+    /// The same level once more. It has the text of the frame, if it was drawn.
     ///
     /// # Errors
     ///
     /// `Memory`.
     pub(crate) fn try_copy(
         &mut self,
-        alloc: Global,
-        spares: &mut SpareLevels<B>,
-        names: &Names,
+        workshop: &mut Workshop<'_, B>,
     ) -> Result<PlayedLevel<B>, Memory>
-        requires { self.old.basis.names ≡ names.now }
+        requires { self.old.basis.names ≡ workshop.old }
+        ensures workshop { workshop.new ≡ workshop.old }
         ensures level { self.new ≡ self.old }
         ensures copy { IfOk result (λ copy. copy ≡ self.old) }
     {
         let frame = self.parts.frame.take();
         let parts = &*self.parts;
-        level_of(
-            alloc,
-            spares,
-            parts,
-            &*parts.board,
-            parts.room,
-            frame,
-            names,
-        )
+        level_of(workshop, parts, &*parts.board, parts.room, frame)
     }
 
-    /// The level with a board that the history had, for the game of these names. The last frame showed that room. The
-    /// text of the board's frame goes with it, if the level's own was drawn and the boards are alike.
+    /// The level with a board that the history had. The last frame showed that room. The text of the board's frame goes
+    /// with it, if the level's own was drawn and the boards are alike.
     ///
     /// # Errors
     ///
     /// `Memory`.
     pub(crate) fn with_board(
         &mut self,
-        alloc: Global,
-        spares: &mut SpareLevels<B>,
-        picture: &mut Picture<'_>,
-        names: &Names,
+        workshop: &mut Workshop<'_, B>,
         other: &B,
         room: Room,
     ) -> Result<PlayedLevel<B>, Memory>
         requires table { B.table other.now ≡ self.old.basis.table }
-        requires names { self.old.basis.names ≡ names.now }
-        requires picture { picture.old ≡ names.now }
+        requires names { self.old.basis.names ≡ workshop.old }
         ensures level { self.new ≡ self.old }
-        ensures picture { picture.new ≡ picture.old }
+        ensures workshop { workshop.new ≡ workshop.old }
         ensures entry { IfOk result (λ copy. copy.entry ≡ self.old.entry) }
         ensures basis { IfOk result (λ copy. copy.basis ≡ self.old.basis) }
         ensures board { IfOk result (λ copy. copy.board ≡ B.grid other.now) }
         ensures restart_board { IfOk result (λ copy. copy.restart_board ≡ self.old.restart_board) }
         ensures room { IfOk result (λ copy. copy.room ≡ room) }
     {
-        let frame = frame_on(picture, self.parts.frame.take(), &*self.parts.board, other)?;
-        level_of(alloc, spares, &*self.parts, other, room, frame, names)
+        let own = self.parts.frame.take();
+        let frame = frame_on(&mut workshop.picture, own, &*self.parts.board, other)?;
+        level_of(workshop, &*self.parts, other, room, frame)
     }
 
     /// The level at the board that a restart goes back to. The room stays.
@@ -389,15 +367,11 @@ impl<B: Board> PlayedLevel<B> {
     /// `Memory`.
     pub(crate) fn restarted(
         &mut self,
-        alloc: Global,
-        spares: &mut SpareLevels<B>,
-        picture: &mut Picture<'_>,
-        names: &Names,
+        workshop: &mut Workshop<'_, B>,
     ) -> Result<PlayedLevel<B>, Memory>
-        requires names { self.old.basis.names ≡ names.now }
-        requires picture { picture.old ≡ names.now }
+        requires { self.old.basis.names ≡ workshop.old }
         ensures level { self.new ≡ self.old }
-        ensures picture { picture.new ≡ picture.old }
+        ensures workshop { workshop.new ≡ workshop.old }
         ensures entry { IfOk result (λ copy. copy.entry ≡ self.old.entry) }
         ensures basis { IfOk result (λ copy. copy.basis ≡ self.old.basis) }
         ensures board { IfOk result (λ copy. copy.board ≡ self.old.restart_board) }
@@ -407,8 +381,8 @@ impl<B: Board> PlayedLevel<B> {
         let frame = self.parts.frame.take();
         let parts = &*self.parts;
         let other = &**parts.restart_board;
-        let frame = frame_on(picture, frame, &*parts.board, other)?;
-        level_of(alloc, spares, parts, other, parts.room, frame, names)
+        let frame = frame_on(&mut workshop.picture, frame, &*parts.board, other)?;
+        level_of(workshop, parts, other, parts.room, frame)
     }
 
     /// The place of its entry.
@@ -449,18 +423,19 @@ impl<B: Board> PlayedLevel<B> {
     /// `Memory`, and the output is as before.
     pub(crate) fn show(
         &mut self,
-        picture: &mut Picture<'_>,
+        workshop: &mut Workshop<'_, B>,
         size: Option<RoomSize>,
         output: &mut OutputText,
     ) -> Result<(), Memory>
-        requires { self.old.basis.names ≡ picture.old }
+        requires { self.old.basis.names ≡ workshop.old }
         ensures level { self.new ≡ self.old }
-        ensures picture { picture.new ≡ picture.old }
+        ensures workshop { workshop.new ≡ workshop.old }
         ensures shown { OnOk result
-            (output.new ≡ output.old ++ frame_in size picture.old self.old.board self.old.room) }
+            (output.new ≡ output.old ++ frame_in size workshop.old self.old.board self.old.room) }
         ensures kept { OnErr result (output.new ≡ output.old) }
     {
         let parts = &mut *self.parts;
+        let picture = &mut workshop.picture;
         picture.show(&mut parts.frame, &*parts.board, size, parts.room, output)
     }
 
@@ -475,10 +450,12 @@ impl<B: Board> PlayedLevel<B> {
     }
 
     /// Its parts, and those for turns, are there to be used again.
-    pub(crate) fn give_back(self, spares: &mut SpareLevels<B>) {
+    pub(crate) fn give_back(self, workshop: &mut Workshop<'_, B>)
+        ensures { workshop.new ≡ workshop.old }
+    {
         let PlayedLevel { parts, spare } = self;
-        spares.keep_any(spare);
-        spares.keep(parts);
+        workshop.spares.keep_any(spare);
+        workshop.spares.keep(parts);
     }
 
     /// Its parts become those for turns of the next level, if that has none, and else are there to be used again. The
@@ -486,25 +463,26 @@ impl<B: Board> PlayedLevel<B> {
     #[inline(always)]
     pub(crate) fn hand_on(
         self,
-        spares: &mut SpareLevels<B>,
+        workshop: &mut Workshop<'_, B>,
         next: &mut PlayedLevel<B>,
         rows: &Columns<B::Words>,
     )
         requires touched { AreTouched rows.now self.board next.old.board }
         requires basis { self.basis ≡ next.old.basis }
-        ensures { next.new ≡ next.old }
+        ensures next { next.new ≡ next.old }
+        ensures workshop { workshop.new ≡ workshop.old }
     {
         let PlayedLevel { mut parts, spare } = self;
-        spares.keep_any(spare);
+        workshop.spares.keep_any(spare);
         if next.spare.is_some() {
-            spares.keep(parts);
+            workshop.spares.keep(parts);
             return;
         }
         next.parts.board.copy_rows(&mut *parts.board, rows);
         next.spare = Some(parts);
     }
 
-    /// Takes a turn. Where it is done and counts, the level has its board, and goes back to it at a restart where the
+    /// Takes a turn without input. Where it is done and counts, the level has its board, and goes back to it at a restart where the
     /// turn set a checkpoint.
     ///
     /// # Errors
@@ -512,42 +490,36 @@ impl<B: Board> PlayedLevel<B> {
     /// `Memory`, and the level is as before or after the turn, but for its checkpoint.
     pub(crate) fn take_turn<R: Rules<B>>(
         &mut self,
-        alloc: Global,
-        spares: &mut SpareLevels<B>,
-        picture: &mut Picture<'_>,
+        workshop: &mut Workshop<'_, B>,
         game: &SessionGame<'_>,
         rules: &mut TurnRules<R>,
-        input: Option<Input>,
         counting: Counting,
     ) -> Result<Turned, Memory>
         requires basis { self.old.basis ≡ basis_of B.table_for game.now.names }
-        requires picture { picture.old ≡ game.now.names }
-        ensures picture { picture.new ≡ picture.old }
+        requires names { workshop.old ≡ game.now.names }
+        ensures workshop { workshop.new ≡ workshop.old }
         ensures turned { IfOk result (λ turned. (g : Grid)
             × (outcome_shown turned g
-            ≡ turn (script_by B.Board R.Rules game.now rules.old) input
-            self.old.board)
+            ≡ turn (script_by B.Board R.Rules game.now rules.old) None self.old.board)
             × (self.new ≡ taken counting turned self.old g)) }
         ensures basis { self.new.basis ≡ self.old.basis }
         ensures entry { self.new.entry ≡ self.old.entry }
         ensures meaning { meaning_of R.Rules rules.new ≡ meaning_of R.Rules rules.old }
     {
-        let mut spare = lent(alloc, spares, &*self.parts, game.names(), self.spare.take())?;
+        let mut spare = lent(workshop, &*self.parts, self.spare.take())?;
         let parts = &mut *self.parts;
-        let turned = counted_turn(
-            game,
-            rules,
-            input,
-            counting,
-            picture,
-            &mut parts.board,
-            &mut spare.board,
-            &mut parts.frame,
-        );
+        let turned = match run_turn(game, rules, None, &*parts.board, &mut *spare.board) {
+            Ok(turned) => turned,
+            Err(Memory) => {
+                put_back(&mut self.spare, spare);
+                return Err(Memory);
+            }
+        };
+        let settled = settle(&mut workshop.picture, parts, &mut *spare, &turned, counting);
         put_back(&mut self.spare, spare);
-        let turned = turned?;
-        self.keep_checkpoint(alloc, counting, &turned)
-            .and(Ok(turned))
+        settled?;
+        self.keep_checkpoint(workshop.alloc, counting, &turned)?;
+        Ok(turned)
     }
 
     /// Behind a turn that came to its board, the level goes back to that board at a restart, where the turn counts and
@@ -588,16 +560,14 @@ impl<B: Board> PlayedLevel<B> {
     /// `Memory`.
     pub(crate) fn try_turn<R: Rules<B>>(
         &mut self,
-        alloc: Global,
-        spares: &mut SpareLevels<B>,
-        picture: &mut Picture<'_>,
+        workshop: &mut Workshop<'_, B>,
         game: &SessionGame<'_>,
         rules: &mut TurnRules<R>,
         input: Input,
     ) -> Result<TriedTurn<B>, Memory>
         requires basis { self.old.basis ≡ basis_of B.table_for game.now.names }
-        requires picture { picture.old ≡ game.now.names }
-        ensures picture { picture.new ≡ picture.old }
+        requires names { workshop.old ≡ game.now.names }
+        ensures workshop { workshop.new ≡ workshop.old }
         ensures level { self.new ≡ self.old }
         ensures outcome { IfOk result (λ tried. tried_outcome tried
             ≡ turn (script_by B.Board R.Rules game.now rules.old) (Some input)
@@ -606,7 +576,7 @@ impl<B: Board> PlayedLevel<B> {
         ensures touched { IfOk result (λ tried. IsTouchedBy self.old.board tried) }
         ensures meaning { meaning_of R.Rules rules.new ≡ meaning_of R.Rules rules.old }
     {
-        let mut spare = lent(alloc, spares, &*self.parts, game.names(), self.spare.take())?;
+        let mut spare = lent(workshop, &*self.parts, self.spare.take())?;
         let parts = &mut *self.parts;
         let done = match run_turn(game, rules, Some(input), &*parts.board, &mut *spare.board) {
             Ok(Turned::Done(done)) => done,
@@ -624,11 +594,9 @@ impl<B: Board> PlayedLevel<B> {
             }
         };
         recall_shape(&*parts.board);
-        let rows = spare.board.rows_touched();
-        let names = game.names();
         let frame = parts.frame.take();
-        match spare.follow(alloc, picture, names, parts, frame, rows, &done) {
-            Ok(()) => {
+        match spare.follow(workshop, parts, frame, &done) {
+            Ok(rows) => {
                 let next = PlayedLevel {
                     parts: spare,
                     spare: None,

@@ -21,6 +21,7 @@ mod spares;
 mod stage;
 mod starts;
 mod stops;
+mod workshop;
 
 pub use entries::EntryNumber;
 pub use game::SessionGame;

@@ -7,10 +7,11 @@ ghost use Rattle.ps_screen.specs.FrameTexts.{IsFrameOf};
 ghost use Rattle.ps_turn.specs.States.{HaveSameSides};
 
 use crate::entries::EntryNumber;
+use crate::workshop::Workshop;
 use ps_board::{Board, Columns};
 use ps_model::{Memory, Room};
 use ps_names::Names;
-use ps_screen::{FrameText, Picture};
+use ps_screen::FrameText;
 use ps_turn::DoneTurn;
 use std::alloc::Global;
 use std::rc::Rc;
@@ -184,30 +185,28 @@ impl<B: Board> LevelParts<B> {
         self.names = Snapshot::of(names);
     }
 
-    /// Become the parts of the level after a done turn that came to their board, from that of these: its board showed
-    /// the same objects outside of these rows, and the text of its frame, if it was drawn, is handed on, and made that
-    /// of their board.
+    /// Become the parts of the level after a done turn that came to their board, from that of these. The text of the
+    /// frame before, if it was drawn, is handed on, and made that of their board. The answer is the rows that the turn
+    /// touched: outside of them the two boards show the same objects.
     ///
     /// # Errors
     ///
     /// `Memory`, and they have the same board.
     pub fn follow(
         &mut self,
-        alloc: Global,
-        picture: &mut Picture<'_>,
-        names: &Names,
+        workshop: &mut Workshop<'_, B>,
         before: &LevelParts<B>,
         frame: Option<FrameText>,
-        rows: Columns<B::Words>,
         done: &DoneTurn,
-    ) -> Result<(), Memory>
+    ) -> Result<Columns<B::Words>, Memory>
         requires sides { HaveSameSides (B.grid self.old.board.value) (B.grid before.now.board.value) }
         requires table { B.table self.old.board.value ≡ B.table before.now.board.value }
         requires restart_table { B.table before.now.restart_board.value.value ≡ B.table before.now.board.value }
-        requires rows { DifferOnlyOn rows (B.grid before.now.board.value) (B.grid self.old.board.value) }
-        requires picture { picture.old ≡ names.now }
-        requires frame { IsFrameOf names.now (B.grid before.now.board.value) frame }
-        ensures picture { picture.new ≡ picture.old }
+        requires origin { B.origin self.old.board.value ≡ B.grid before.now.board.value }
+        requires frame { IsFrameOf workshop.old (B.grid before.now.board.value) frame }
+        ensures workshop { workshop.new ≡ workshop.old }
+        ensures rows { IfOk result (λ rows.
+            DifferOnlyOn rows (B.grid before.now.board.value) (B.grid self.old.board.value)) }
         ensures board { self.new.board ≡ self.old.board }
         ensures entry { OnOk result (self.new.entry ≡ before.now.entry) }
         ensures restart_board { OnOk result (B.grid self.new.restart_board.value.value ≡ (if done.now.checkpoint
@@ -215,20 +214,22 @@ impl<B: Board> LevelParts<B> {
         ensures restart_table { OnOk result
             (B.table self.new.restart_board.value.value ≡ B.table self.old.board.value) }
         ensures room { OnOk result (self.new.room ≡ before.now.room) }
-        ensures frame { OnOk result (IsFrameOf names.now (B.grid self.old.board.value) self.new.frame) }
-        ensures names { OnOk result (self.new.names.value ≡ names.now) }
+        ensures frame { OnOk result (IsFrameOf workshop.old (B.grid self.old.board.value) self.new.frame) }
+        ensures names { OnOk result (self.new.names.value ≡ workshop.old) }
     {
+        let rows = self.board.rows_touched();
         self.frame = frame;
+        let picture = &mut workshop.picture;
         picture.redraw(&mut self.frame, &*before.board, &*self.board, rows)?;
         self.restart_board = restart_board_behind(
-            alloc,
+            workshop.alloc,
             &*self.board,
             &before.restart_board,
             done,
         )?;
         self.entry = before.entry.copied();
         self.room = before.room;
-        self.names = Snapshot::of(names);
-        Ok(())
+        self.names = Snapshot::of(workshop.names);
+        Ok(rows)
     }
 }

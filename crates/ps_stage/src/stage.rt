@@ -10,21 +10,19 @@ ghost use Rattle.ps_stage.specs.Touched.{AreTouched};
 
 use crate::game::SessionGame;
 use crate::levels::PlayedLevel;
-use crate::spares::SpareLevels;
+use crate::workshop::Workshop;
 use ps_board::{Board, Columns};
 use ps_levels::Entry;
 use ps_model::{Memory, Room};
-use ps_screen::{OutputText, Picture};
+use ps_screen::OutputText;
 use std::alloc::Global;
 use std::marker::Model;
 
-/// A game in play, its picture, boards to be used again, and the text that a key makes. The text goes to the output
+/// A game in play, what its levels are made, turned and drawn with, and the text that a key makes. The text goes to the output
 /// when all else is done, so that a key which fails writes nothing.
 pub struct Stage<'g, B: Board> {
-    pub(crate) alloc: Global,
     pub(crate) game: SessionGame<'g>,
-    pub(crate) picture: Picture<'g>,
-    pub(crate) spares: SpareLevels<B>,
+    pub(crate) workshop: Workshop<'g, B>,
     pub(crate) text: OutputText,
 }
 
@@ -32,10 +30,8 @@ pub struct Stage<'g, B: Board> {
 impl<'g, B: Board> Drop for Stage<'g, B> {
     fn drop(self) {
         let Stage {
-            alloc: _,
             game: _game,
-            picture: _picture,
-            spares: _spares,
+            workshop: _workshop,
             text: _text,
         } = self;
     }
@@ -49,7 +45,7 @@ impl<'g, B: Board> Model for Stage<'g, B> {
 
     ghost view = { λ s. record { game = s.game; text = s.text } };
 
-    ghost invariant = { λ s. (s.picture ≡ s.game.names) × (s.game.sides.most ≤ B.Words.limit) };
+    ghost invariant = { λ s. (s.workshop ≡ s.game.names) × (s.game.sides.most ≤ B.Words.limit) };
 }
 
 impl<'g, B: Board> Stage<'g, B> {
@@ -63,12 +59,10 @@ impl<'g, B: Board> Stage<'g, B> {
         ensures game { IfOk result (λ stage. stage.game ≡ game.entry) }
         ensures text { IfOk result (λ stage. stage.text ≡ []) }
     {
-        let picture = Picture::new(alloc, game.names())?;
+        let workshop = Workshop::new(alloc, game.names())?;
         Ok(Stage {
-            alloc,
             game,
-            picture,
-            spares: SpareLevels::none(),
+            workshop,
             text: OutputText::new(alloc),
         })
     }
@@ -155,14 +149,14 @@ impl<'g, B: Board> Stage<'g, B> {
             ++ frame_in self.old.game.options.flickscreen self.old.game.names level.old.board level.old.room) }
     {
         let size = self.game.options().flickscreen;
-        level.show(&mut self.picture, size, &mut self.text)
+        level.show(&mut self.workshop, size, &mut self.text)
     }
 
     /// Keeps the boards of a level that nobody plays any more, to be used again. No memory is taken.
     pub fn keep_level(&mut self, level: PlayedLevel<B>)
         ensures { self.new ≡ self.old }
     {
-        level.give_back(&mut self.spares);
+        level.give_back(&mut self.workshop);
     }
 
     /// Hands the board of a level that is left on to the next one, for its turns, or else keeps it to be used again.
@@ -179,7 +173,7 @@ impl<'g, B: Board> Stage<'g, B> {
         ensures stage { self.new ≡ self.old }
         ensures next { next.new ≡ next.old }
     {
-        level.hand_on(&mut self.spares, next, rows);
+        level.hand_on(&mut self.workshop, next, rows);
     }
 
     /// A level with a board that the history had, of which the last frame showed that room.
@@ -203,14 +197,7 @@ impl<'g, B: Board> Stage<'g, B> {
         ensures restart_board { IfOk result (λ back. back.restart_board ≡ level.old.restart_board) }
         ensures room { IfOk result (λ back. back.room ≡ room) }
     {
-        level.with_board(
-            self.alloc,
-            &mut self.spares,
-            &mut self.picture,
-            self.game.names(),
-            board,
-            room,
-        )
+        level.with_board(&mut self.workshop, board, room)
     }
 
     /// Adds the line of a message.

@@ -149,15 +149,7 @@ impl<'g, B: Board> Stage<'g, B> {
             level.old.board)
             × (level.new ≡ taken counting turned level.old g)) }
     {
-        level.take_turn(
-            self.alloc,
-            &mut self.spares,
-            &mut self.picture,
-            &self.game,
-            rules,
-            None,
-            counting,
-        )
+        level.take_turn(&mut self.workshop, &self.game, rules, counting)
     }
 
     /// Tells of an again turn of a start, of which this level came, if it is done.

@@ -18,7 +18,7 @@ returns-clause-basis g c =
     c.located.ensures.basis _
     (c.in_ok-pending.ensures.basis
     ∙ c.in_ok-played.ensures.basis
-    ∙ ap (basis_of g.B.Board.table_for) c.names.ensures.names
+    ∙ ap (basis_of g.B.Board.table_for) c.self.invariant.0
     ∙ ap (λ (stage : StageValue). basis_of g.B.Board.table_for stage.game.names) c.self.view_is)
 
 pub returns-clause-came : goal.returns-clause-came
@@ -27,7 +27,7 @@ returns-clause-came g c =
     let plain = g.R.Rules.meant c.args.rules.now.plain in
     let late = g.R.Rules.meant c.args.rules.now.late in
     let script : Script = script_for table_for c.args.self.now.game plain late in
-    let named = ap (λ (names : Names). loaded names c.args.level.now) c.names.ensures.names
+    let named = ap (λ (names : Names). loaded names c.args.level.now) c.self.invariant.0
     ∙ ap (λ (stage : StageValue). loaded stage.game.names c.args.level.now) c.self.view_is in
     level_entered script c.args.entry c.args.number c.args.level.now c.in_ok-played.played c.args.self.now.text
     c.add_level.new.self c.requires.number
