@@ -13,8 +13,8 @@ use Rattle.ps_stage.specs.Standings.{Standing, with_done}
 use Rattle.ps_stage.specs.StepsShown.{came, counts, stands}
 use Rattle.ps_stage.specs.declared.locations.KeyEnd.{KeyEnd}
 use Rattle.ps_stage.specs.declared.locations.KeyEnd.TheVariants.{Stops, Won, Restarts}
-use Rattle.ps_stage.specs.declared.locations.KeyTold.{KeyTold}
-use Rattle.ps_stage.specs.declared.locations.KeyTold.TheVariants.{Ends, GoesOn}
+use Rattle.std.specs.declared.ops.ControlFlow.{ControlFlow}
+use Rattle.std.specs.declared.ops.ControlFlow.TheVariants.{Break, Continue}
 use Rattle.ps_stage.specs.declared.levels.Tried.{Tried}
 use Rattle.ps_stage.specs.declared.levels.Tried.TheVariants.{Blocked, Restarted, Done}
 
@@ -39,9 +39,9 @@ key_end_step script Won play text = after text (level_done script play)
 key_end_step script (Restarts message) play text = after text (restarted script play message)
 
 -- a turn of a key behind which they end, or go on with again turns
-abbrev pub key_told_step : Script → KeyTold → Play → List ℕ → (Play → Step) → Step
-key_told_step script (Ends end) play text again_turns = key_end_step script end play text
-key_told_step script GoesOn play text again_turns = after text (again_turns play)
+abbrev pub key_told_step : Script → ControlFlow KeyEnd ⊤ → Play → List ℕ → (Play → Step) → Step
+key_told_step script (Break end) play text again_turns = key_end_step script end play text
+key_told_step script (Continue on) play text again_turns = after text (again_turns play)
 
 -- the outcome of a turn that was tried on a level
 abbrev pub tried_outcome : Tried Standing (List Bool) → model.Outcome
@@ -56,6 +56,6 @@ IsNext level (Restarted message) = ⊤
 IsNext level (Done next done rows) = next ≡ with_done level done next.board
 
 -- again turns come behind a turn of a key
-abbrev pub is_going_on : KeyTold → Bool
-is_going_on (Ends end) = false
-is_going_on GoesOn = true
+abbrev pub is_going_on : ControlFlow KeyEnd ⊤ → Bool
+is_going_on (Break end) = false
+is_going_on (Continue on) = true

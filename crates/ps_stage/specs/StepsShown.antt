@@ -15,8 +15,8 @@ use Rattle.ps_stage.specs.declared.stops.Stop.{Stop}
 use Rattle.ps_stage.specs.declared.stops.Stop.TheVariants.{Memory, Elsewhere}
 use Rattle.ps_stage.specs.declared.locations.Pending.{Pending}
 use Rattle.ps_stage.specs.declared.locations.Pending.TheVariants.{Nothing, LevelDone, KeyAgain, StartAgain}
-use Rattle.ps_stage.specs.declared.locations.StartTold.{StartTold}
-use Rattle.ps_stage.specs.declared.locations.StartTold.TheVariants.{Stops, GoesOn}
+use Rattle.std.specs.declared.ops.ControlFlow.{ControlFlow}
+use Rattle.std.specs.declared.ops.ControlFlow.TheVariants.{Break, Continue}
 
 -- whether a done turn counts
 abbrev pub counts : Counting → DoneTurn → Bool
@@ -53,9 +53,9 @@ stands None play = model.Playing play
 stands (Some pending) play = model.Waiting play (pending_shown pending)
 
 -- a step that stops there, or goes on with again turns
-abbrev pub told_step : StartTold → Play → List ℕ → (Play → Step) → Step
-told_step (Stops pending) play text again_turns = came (stands pending play) text
-told_step GoesOn play text again_turns = after text (again_turns play)
+abbrev pub told_step : ControlFlow (Option Pending) ⊤ → Play → List ℕ → (Play → Step) → Step
+told_step (Break pending) play text again_turns = came (stands pending play) text
+told_step (Continue on) play text again_turns = after text (again_turns play)
 
 -- the start behind a done turn, of which this level came: a frame, of the room that is seen, and what follows, if the
 -- turn changed the board

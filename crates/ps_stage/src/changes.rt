@@ -19,7 +19,7 @@ ghost use Rattle.ps_stage.specs.Touched.{AreTouched, IsTouchedBy};
 
 use crate::entering::located;
 use crate::levels::{LevelChange, PlayedLevel, Tried, TriedTurn};
-use crate::locations::{Change, HistoryChange, KeyEnd, KeyTold, Pending};
+use crate::locations::{Change, HistoryChange, KeyEnd, Pending};
 use crate::stage::Stage;
 use crate::starts::again_limit;
 use crate::stops::Stop;
@@ -27,6 +27,7 @@ use ps_board::{Board, Columns};
 use ps_model::{Input, Memory};
 use ps_text::Text;
 use ps_turn::{DoneTurn, Rules, TurnRules};
+use std::ops::ControlFlow;
 
 /// What a done turn does to the history: the board before it enters, if the turn changed it.
 fn history_change_if(changed: bool) -> HistoryChange
@@ -143,8 +144,8 @@ impl<'g, B: Board> Stage<'g, B> {
     {
         let most = again_limit();
         match self.tell_key_turn(level, done, most)? {
-            KeyTold::Ends(end) => Ok(end),
-            KeyTold::GoesOn => self.all_key_turns(rules, level),
+            ControlFlow::Break(end) => Ok(end),
+            ControlFlow::Continue(()) => self.all_key_turns(rules, level),
         }
     }
 

@@ -13,12 +13,13 @@ ghost use Rattle.ps_stage.specs.Standings.{basis_of, play_of, script_of};
 ghost use Rattle.ps_stage.specs.StepsShown.{pending_shown};
 
 use crate::levels::{Counting, PlayedLevel};
-use crate::locations::{KeyEnd, KeyTold, Pending};
+use crate::locations::{KeyEnd, Pending};
 use crate::stage::Stage;
 use crate::starts::again_limit;
 use ps_board::Board;
 use ps_model::Memory;
 use ps_turn::{DoneTurn, Rules, TurnRules, Turned};
+use std::ops::ControlFlow;
 
 /// What a turn of a key leaves to come after its message.
 fn key_pending(win: bool, again: bool, left: u32) -> Pending
@@ -36,7 +37,7 @@ fn key_pending(win: bool, again: bool, left: u32) -> Pending
 impl<'g, B: Board> Stage<'g, B> {
     /// Tells what comes after a frame of a key: a message waits; without one the level ends on a win; otherwise the
     /// again turns come, if the turn is to come again.
-    fn tell_key(&mut self, done: &DoneTurn, left: u32) -> Result<KeyTold, Memory>
+    fn tell_key(&mut self, done: &DoneTurn, left: u32) -> Result<ControlFlow<KeyEnd>, Memory>
         ensures game { self.new.game ≡ self.old.game }
         ensures ends { done.now.again ≡ false → IfOk result (λ told. is_going_on told ≡ false) }
         ensures told { IfOk result (λ told. (script : Script) (play : Play) (g : Grid) (turns : Play → Step)
@@ -45,15 +46,15 @@ impl<'g, B: Board> Stage<'g, B> {
     {
         if let Some(message) = &done.message {
             self.tell(message.as_str())?;
-            return Ok(KeyTold::Ends(KeyEnd::Stops(Some(key_pending(done.win, done.again, left)))));
+            return Ok(ControlFlow::Break(KeyEnd::Stops(Some(key_pending(done.win, done.again, left)))));
         }
         if done.win {
-            return Ok(KeyTold::Ends(KeyEnd::Won));
+            return Ok(ControlFlow::Break(KeyEnd::Won));
         }
         if done.again {
-            return Ok(KeyTold::GoesOn);
+            return Ok(ControlFlow::Continue(()));
         }
-        Ok(KeyTold::Ends(KeyEnd::Stops(None)))
+        Ok(ControlFlow::Break(KeyEnd::Stops(None)))
     }
 
     /// Shows the board after a done turn of a key, and tells what comes after the frame.
@@ -62,7 +63,7 @@ impl<'g, B: Board> Stage<'g, B> {
         level: &mut PlayedLevel<B>,
         done: &DoneTurn,
         left: u32,
-    ) -> Result<KeyTold, Memory>
+    ) -> Result<ControlFlow<KeyEnd>, Memory>
         requires { level.old.basis ≡ basis_of B.table_for self.old.game.names }
         ensures game { self.new.game ≡ self.old.game }
         ensures basis { level.new.basis ≡ level.old.basis }
@@ -85,7 +86,7 @@ impl<'g, B: Board> Stage<'g, B> {
         level: &mut PlayedLevel<B>,
         turned: Turned,
         left: u32,
-    ) -> Result<KeyTold, Memory>
+    ) -> Result<ControlFlow<KeyEnd>, Memory>
         requires { level.old.basis ≡ basis_of B.table_for self.old.game.names }
         ensures game { self.new.game ≡ self.old.game }
         ensures basis { level.new.basis ≡ level.old.basis }
@@ -99,13 +100,13 @@ impl<'g, B: Board> Stage<'g, B> {
         match turned {
             Turned::Blocked(message) => {
                 drop(message);
-                Ok(KeyTold::Ends(KeyEnd::Stops(None)))
+                Ok(ControlFlow::Break(KeyEnd::Stops(None)))
             }
-            Turned::Restarted(message) => Ok(KeyTold::Ends(KeyEnd::Restarts(message))),
+            Turned::Restarted(message) => Ok(ControlFlow::Break(KeyEnd::Restarts(message))),
             Turned::Done(done) => {
                 if !Counting::IfChangedOrWon.counts(&done) {
                     drop(done);
-                    return Ok(KeyTold::Ends(KeyEnd::Stops(None)));
+                    return Ok(ControlFlow::Break(KeyEnd::Stops(None)));
                 }
                 let told = self.tell_key_turn(level, &done, left);
                 drop(done);
@@ -121,7 +122,7 @@ impl<'g, B: Board> Stage<'g, B> {
         rules: &mut TurnRules<R>,
         level: &mut PlayedLevel<B>,
         left: u32,
-    ) -> Result<KeyTold, Memory>
+    ) -> Result<ControlFlow<KeyEnd>, Memory>
         requires { level.old.basis ≡ basis_of B.table_for self.old.game.names }
         ensures game { self.new.game ≡ self.old.game }
         ensures meaning { meaning_of R.Rules rules.new ≡ meaning_of R.Rules rules.old }
@@ -161,8 +162,8 @@ impl<'g, B: Board> Stage<'g, B> {
         while left > 0 {
             left -= 1;
             match self.key_turn(rules, level, left)? {
-                KeyTold::Ends(end) => return Ok(end),
-                KeyTold::GoesOn => {}
+                ControlFlow::Break(end) => return Ok(end),
+                ControlFlow::Continue(()) => {}
             }
         }
         Ok(KeyEnd::Stops(None))

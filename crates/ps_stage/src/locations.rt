@@ -53,15 +53,6 @@ pub enum Change<L, S> {
     Goes(Location<L>, HistoryChange, Option<S>),
 }
 
-/// What comes after a frame of the start of a level.
-#[derive(Clone, Copy, PartialEq, Eq, Debug)]
-pub enum StartTold {
-    /// No turn: a message waits, or none does.
-    Stops(Option<Pending>),
-    /// Again turns.
-    GoesOn,
-}
-
 /// How the turns of a key end.
 #[derive(Drop, Debug)]
 pub enum KeyEnd {
@@ -71,13 +62,4 @@ pub enum KeyEnd {
     Won,
     /// The level restarts, with a message or without.
     Restarts(Option<Text>),
-}
-
-/// What comes after a turn of a key.
-#[derive(Drop, Debug)]
-pub enum KeyTold {
-    /// No further turn.
-    Ends(KeyEnd),
-    /// Again turns.
-    GoesOn,
 }

@@ -16,12 +16,13 @@ ghost use Rattle.ps_stage.specs.StepsShown.{came, stands, pending_shown, taken};
 ghost use Rattle.ps_turn.specs.States.{outcome_shown};
 
 use crate::levels::{Counting, PlayedLevel};
-use crate::locations::{Pending, StartTold};
+use crate::locations::Pending;
 use crate::stage::Stage;
 use ps_board::Board;
 use ps_model::{AGAIN_LIMIT, Memory};
 use ps_text::Text;
 use ps_turn::{DoneTurn, Rules, TurnRules, Turned};
+use std::ops::ControlFlow;
 
 /// What the turn of a start leaves to come after its message.
 fn start_pending(again: bool, left: u32) -> Pending
@@ -80,7 +81,7 @@ impl<'g, B: Board> Stage<'g, B> {
         message: &Option<Text>,
         again: bool,
         left: u32,
-    ) -> Result<StartTold, Memory>
+    ) -> Result<ControlFlow<Option<Pending>>, Memory>
         ensures game { self.new.game ≡ self.old.game }
         ensures told { IfOk result (λ told. (play : Play) (turns : Play → Step)
             → after self.old.text (start_told play message.now again left turns)
@@ -88,12 +89,12 @@ impl<'g, B: Board> Stage<'g, B> {
     {
         if let Some(message) = message {
             self.tell(message.as_str())?;
-            return Ok(StartTold::Stops(Some(start_pending(again, left))));
+            return Ok(ControlFlow::Break(Some(start_pending(again, left))));
         }
         if again {
-            return Ok(StartTold::GoesOn);
+            return Ok(ControlFlow::Continue(()));
         }
-        Ok(StartTold::Stops(None))
+        Ok(ControlFlow::Break(None))
     }
 
     /// Shows a level with the room that is seen there.
@@ -114,7 +115,7 @@ impl<'g, B: Board> Stage<'g, B> {
         level: &mut PlayedLevel<B>,
         done: &DoneTurn,
         left: u32,
-    ) -> Result<StartTold, Memory>
+    ) -> Result<ControlFlow<Option<Pending>>, Memory>
         requires { level.old.basis ≡ basis_of B.table_for self.old.game.names }
         ensures game { self.new.game ≡ self.old.game }
         ensures basis { level.new.basis ≡ level.old.basis }
@@ -125,7 +126,7 @@ impl<'g, B: Board> Stage<'g, B> {
             ≡ told_step told (play_of history level.new) self.new.text turns) }
     {
         if !done.changed {
-            return Ok(StartTold::Stops(None));
+            return Ok(ControlFlow::Break(None));
         }
         self.show_level(level)?;
         self.tell_start(&done.message, done.again, left)
@@ -158,7 +159,7 @@ impl<'g, B: Board> Stage<'g, B> {
         level: &mut PlayedLevel<B>,
         turned: &Turned,
         left: u32,
-    ) -> Result<StartTold, Memory>
+    ) -> Result<ControlFlow<Option<Pending>>, Memory>
         requires { level.old.basis ≡ basis_of B.table_for self.old.game.names }
         ensures game { self.new.game ≡ self.old.game }
         ensures basis { level.new.basis ≡ level.old.basis }
@@ -169,7 +170,7 @@ impl<'g, B: Board> Stage<'g, B> {
             ≡ told_step told (play_of history level.new) self.new.text turns) }
     {
         let Turned::Done(done) = turned else {
-            return Ok(StartTold::Stops(None));
+            return Ok(ControlFlow::Break(None));
         };
         self.tell_start_turn(level, done, left)
     }
@@ -180,7 +181,7 @@ impl<'g, B: Board> Stage<'g, B> {
         rules: &mut TurnRules<R>,
         level: &mut PlayedLevel<B>,
         left: u32,
-    ) -> Result<StartTold, Memory>
+    ) -> Result<ControlFlow<Option<Pending>>, Memory>
         requires { level.old.basis ≡ basis_of B.table_for self.old.game.names }
         ensures game { self.new.game ≡ self.old.game }
         ensures meaning { meaning_of R.Rules rules.new ≡ meaning_of R.Rules rules.old }
@@ -221,8 +222,8 @@ impl<'g, B: Board> Stage<'g, B> {
         while left > 0 {
             left -= 1;
             match self.start_turn(rules, level, left)? {
-                StartTold::Stops(pending) => return Ok(pending),
-                StartTold::GoesOn => {}
+                ControlFlow::Break(pending) => return Ok(pending),
+                ControlFlow::Continue(()) => {}
             }
         }
         Ok(None)
@@ -270,8 +271,8 @@ impl<'g, B: Board> Stage<'g, B> {
     {
         self.show_level(level)?;
         match self.tell_start(message, again, AGAIN_LIMIT)? {
-            StartTold::Stops(pending) => Ok(pending),
-            StartTold::GoesOn => self.all_start_turns(rules, level),
+            ControlFlow::Break(pending) => Ok(pending),
+            ControlFlow::Continue(()) => self.all_start_turns(rules, level),
         }
     }
 
