@@ -35,7 +35,7 @@ counted_taken script level next history done g left turns true is =
 counted_taken script level next history done g left turns false is =
     ap (λ (l : Standing). quietly (Playing (play_of history l))) (sym is)
 
-key_turned : (script : Script) (level next : Standing) (history : List Grid) (turned : Turned) (g : Grid) (left : ℕ) →
+key_turned : (script : Script) (level next : Standing) (history : List Grid) (turned : Turned DoneTurn) (g : Grid) (left : ℕ) →
     turn script None level.board ≡ outcome_shown turned g → next ≡ taken IfChangedOrWon turned level g →
     key_turns script (suc left) (play_of history level)
     ≡ key_outcome_shown script (play_of history next) turned left (key_turns script left)
@@ -51,7 +51,7 @@ key_turned script level next history (Done done) g left ran is =
 
 -- the same, seen from the stage and the level that the turn came to
 pub key_told_of : (table_for : List ℕ → Option (List ℕ)) (stage then : StageValue)
-    (plain late : Option (List ℕ) → List Section) (level next : Standing) (history : List Grid) (turned : Turned)
+    (plain late : Option (List ℕ) → List Section) (level next : Standing) (history : List Grid) (turned : Turned DoneTurn)
     (g : Grid) (left : ℕ) → then ≡ stage →
     outcome_shown turned g ≡ turn (script_for table_for stage.game plain late) None level.board →
     next ≡ taken IfChangedOrWon turned level g →

@@ -55,7 +55,7 @@ start_taken script level next history done g left turns false e is =
     counted ∙ ap (λ (l : Standing). start_shown script (play_of history l) done left turns) (sym same)
 
 -- an again turn of a start, seen from the stage and the level that it came to
-start_turned : (script : Script) (level next : Standing) (history : List Grid) (turned : Turned) (g : Grid) (left : ℕ) →
+start_turned : (script : Script) (level next : Standing) (history : List Grid) (turned : Turned DoneTurn) (g : Grid) (left : ℕ) →
     turn script None level.board ≡ outcome_shown turned g → next ≡ taken IfChanged turned level g →
     start_turns script (suc left) (play_of history level)
     ≡ start_outcome_shown script (play_of history next) turned left (start_turns script left)
@@ -70,7 +70,7 @@ start_turned script level next history (Done done) g left turned is =
     ∙ start_taken script level next history done g left (start_turns script left) done.changed refl is
 
 pub start_told_of : (table_for : List ℕ → Option (List ℕ)) (stage then : StageValue)
-    (plain late : Option (List ℕ) → List Section) (level next : Standing) (history : List Grid) (turned : Turned)
+    (plain late : Option (List ℕ) → List Section) (level next : Standing) (history : List Grid) (turned : Turned DoneTurn)
     (g : Grid) (left : ℕ) → then ≡ stage →
     outcome_shown turned g ≡ turn (script_for table_for stage.game plain late) None level.board →
     next ≡ taken IfChanged turned level g →
@@ -85,7 +85,7 @@ start_told_of table_for stage then plain late level next history turned g left s
     (play_of history next) turned left (start_turns script left))) (sym same)
 
 -- a start behind its own turn
-start_ran : (script : Script) (level next : Standing) (history : List Grid) (turned : Turned) (g : Grid)
+start_ran : (script : Script) (level next : Standing) (history : List Grid) (turned : Turned DoneTurn) (g : Grid)
     (message : Option (List ℕ)) → turn script None level.board ≡ outcome_shown turned g →
     next ≡ taken Always turned level g →
     started_by script (play_of history level) message (turn script None level.board)
@@ -112,7 +112,7 @@ start_runs script play message e =
 -- the same, seen from the stage and the level that the turn came to
 pub start_ran_of : (table_for : List ℕ → Option (List ℕ)) (stage then : StageValue)
     (plain late those others : Option (List ℕ) → List Section) (level next : Standing) (history : List Grid)
-    (turned : Turned) (g : Grid) (message told : Option (List ℕ)) (again : Bool) →
+    (turned : Turned DoneTurn) (g : Grid) (message told : Option (List ℕ)) (again : Bool) →
     stage.game.options.run_rules_on_level_start ≡ true → then ≡ stage → those ≡ plain → others ≡ late →
     outcome_shown turned g ≡ turn (script_for table_for stage.game plain late) None level.board →
     next ≡ taken Always turned level g → told ≡ option_or (message_of turned) message → again ≡ is_again turned →

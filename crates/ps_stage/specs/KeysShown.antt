@@ -15,8 +15,8 @@ use Rattle.ps_stage.specs.declared.locations.KeyEnd.{KeyEnd}
 use Rattle.ps_stage.specs.declared.locations.KeyEnd.TheVariants.{Stops, Won, Restarts}
 use Rattle.std.specs.declared.ops.ControlFlow.{ControlFlow}
 use Rattle.std.specs.declared.ops.ControlFlow.TheVariants.{Break, Continue}
-use Rattle.ps_stage.specs.declared.levels.Tried.{Tried}
-use Rattle.ps_stage.specs.declared.levels.Tried.TheVariants.{Blocked, Restarted, Done}
+use Rattle.ps_turn.specs.declared.outcomes.DoneTurn.{DoneTurn}
+use Rattle.ps_stage.specs.declared.levels.AfterTurn.{AfterTurn}
 
 -- a done turn of a key, of which this level came: its frame, of the room that is seen, and what follows
 abbrev pub key_shown : Script → Play → model.Done → ℕ → (Play → Step) → Step
@@ -24,7 +24,7 @@ key_shown script play done left again_turns =
     let next : Play = seen script play in after (shown script next) (key_told script next done left again_turns)
 
 -- an again turn of a key, of which this level came: one that doesn't count is as if not run
-abbrev pub key_outcome_shown : Script → Play → Turned → ℕ → (Play → Step) → Step
+abbrev pub key_outcome_shown : Script → Play → Turned DoneTurn → ℕ → (Play → Step) → Step
 key_outcome_shown script play (outcomes.Blocked message) left again_turns = quietly (Playing play)
 key_outcome_shown script play (outcomes.Restarted message) left again_turns = restarted script play message
 key_outcome_shown script play (outcomes.Done done) left again_turns = elim (counts IfChangedOrWon done) [
@@ -44,16 +44,16 @@ key_told_step script (Break end) play text again_turns = key_end_step script end
 key_told_step script (Continue on) play text again_turns = after text (again_turns play)
 
 -- the outcome of a turn that was tried on a level
-abbrev pub tried_outcome : Tried Standing (List Bool) → model.Outcome
-tried_outcome (Blocked message) = model.Blocked message
-tried_outcome (Restarted message) = model.Restarted message
-tried_outcome (Done next done rows) = model.Finished (done_shown done next.board)
+abbrev pub tried_outcome : Turned (AfterTurn Standing (List Bool)) → model.Outcome
+tried_outcome (outcomes.Blocked message) = model.Blocked message
+tried_outcome (outcomes.Restarted message) = model.Restarted message
+tried_outcome (outcomes.Done next) = model.Finished (done_shown next.done next.level.board)
 
 -- the level behind a done turn is the one before with the turn's board
-abbrev pub IsNext : Standing → Tried Standing (List Bool) → Type 0
-IsNext level (Blocked message) = ⊤
-IsNext level (Restarted message) = ⊤
-IsNext level (Done next done rows) = next ≡ with_done level done next.board
+abbrev pub IsNext : Standing → Turned (AfterTurn Standing (List Bool)) → Type 0
+IsNext level (outcomes.Blocked message) = ⊤
+IsNext level (outcomes.Restarted message) = ⊤
+IsNext level (outcomes.Done next) = next.level ≡ with_done level next.done next.level.board
 
 -- again turns come behind a turn of a key
 abbrev pub is_going_on : ControlFlow KeyEnd ⊤ → Bool

@@ -25,13 +25,13 @@ counts IfChanged done = done.changed
 counts IfChangedOrWon done = done.changed || done.win
 
 -- the level behind a turn that came to this grid, where only some done turns count
-abbrev pub taken : Counting → Turned → Standing → Grid → Standing
+abbrev pub taken : Counting → Turned DoneTurn → Standing → Grid → Standing
 taken counting (Blocked message) level g = level
 taken counting (Restarted message) level g = level
 taken counting (Done done) level g = elim (counts counting done) [ true ↦ with_done level done g | false ↦ level ]
 
 -- the board behind that turn
-abbrev pub board_taken : Counting → Turned → Grid → Grid → Grid
+abbrev pub board_taken : Counting → Turned DoneTurn → Grid → Grid → Grid
 board_taken counting (Blocked message) board g = board
 board_taken counting (Restarted message) board g = board
 board_taken counting (Done done) board g = elim (counts counting done) [ true ↦ g | false ↦ board ]
@@ -67,19 +67,19 @@ start_shown script play done left again_turns = elim done.changed [
 ]
 
 -- the start behind an again turn, of which this level came: one that isn't done is as if not run
-abbrev pub start_outcome_shown : Script → Play → Turned → ℕ → (Play → Step) → Step
+abbrev pub start_outcome_shown : Script → Play → Turned DoneTurn → ℕ → (Play → Step) → Step
 start_outcome_shown script play (Blocked message) left again_turns = quietly (model.Playing play)
 start_outcome_shown script play (Restarted message) left again_turns = quietly (model.Playing play)
 start_outcome_shown script play (Done done) left again_turns = start_shown script play done left again_turns
 
 -- the message of a turn
-abbrev pub message_of : Turned → Option (List ℕ)
+abbrev pub message_of : Turned DoneTurn → Option (List ℕ)
 message_of (Blocked message) = message
 message_of (Restarted message) = message
 message_of (Done done) = done.message
 
 -- the turn is done, and to come again
-abbrev pub is_again : Turned → Bool
+abbrev pub is_again : Turned DoneTurn → Bool
 is_again (Blocked message) = false
 is_again (Restarted message) = false
 is_again (Done done) = done.again

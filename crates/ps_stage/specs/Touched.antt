@@ -5,8 +5,9 @@ use Rattle.ps_model.specs.board.Grid.{Grid}
 use Rattle.ps_board.specs.Rows.{DifferOnlyOn}
 use Rattle.ps_turn.specs.States.{HaveSameSides}
 use Rattle.ps_stage.specs.Standings.{Standing}
-use Rattle.ps_stage.specs.declared.levels.Tried.{Tried}
-use Rattle.ps_stage.specs.declared.levels.Tried.TheVariants.{Blocked, Restarted, Done}
+use Rattle.ps_turn.specs.declared.outcomes.Turned.{Turned}
+use Rattle.ps_turn.specs.declared.outcomes.Turned.TheVariants.{Blocked, Restarted, Done}
+use Rattle.ps_stage.specs.declared.levels.AfterTurn.{AfterTurn}
 use Rattle.ps_stage.specs.declared.locations.Change.{Change}
 use Rattle.ps_stage.specs.declared.locations.Change.TheVariants.{Stays, Undoes, Goes}
 use Rattle.ps_stage.specs.declared.locations.Location.{Location}
@@ -26,10 +27,10 @@ IsTouchedAt rows before (AtMessage entry) = ⊤
 IsTouchedAt rows before (Ended ending) = ⊤
 
 -- the rows that come with a turn that was tried are such
-abbrev pub IsTouchedBy : Grid → Tried Standing (List Bool) → Type 0
+abbrev pub IsTouchedBy : Grid → Turned (AfterTurn Standing (List Bool)) → Type 0
 IsTouchedBy before (Blocked message) = ⊤
 IsTouchedBy before (Restarted message) = ⊤
-IsTouchedBy before (Done next done rows) = AreTouched rows before next.board
+IsTouchedBy before (Done next) = AreTouched next.rows before next.level.board
 
 -- those that come with a change are such, if some do
 abbrev pub GoesFrom : Grid → Change Standing (List Bool) → Type 0

@@ -18,7 +18,7 @@ ghost use Rattle.ps_stage.specs.StepsShown.{came, stands, pending_shown};
 ghost use Rattle.ps_stage.specs.Touched.{AreTouched, IsTouchedBy};
 
 use crate::entering::located;
-use crate::levels::{LevelChange, PlayedLevel, Tried, TriedTurn};
+use crate::levels::{AfterTurn, LevelChange, PlayedLevel, TriedTurn};
 use crate::locations::{Change, HistoryChange, KeyEnd, Pending};
 use crate::stage::Stage;
 use crate::starts::again_limit;
@@ -26,7 +26,7 @@ use crate::stops::Stop;
 use ps_board::{Board, Columns};
 use ps_model::{Input, Memory};
 use ps_text::Text;
-use ps_turn::{DoneTurn, Rules, TurnRules};
+use ps_turn::{DoneTurn, Rules, TurnRules, Turned};
 use std::ops::ControlFlow;
 
 /// What a done turn does to the history: the board before it enters, if the turn changed it.
@@ -216,16 +216,21 @@ impl<'g, B: Board> Stage<'g, B> {
             (λ script play. after self.old.text (turn_taken script play (tried_outcome tried))) result self.new.text }
     {
         match tried {
-            Tried::Blocked(message) => {
+            Turned::Blocked(message) => {
                 let pending = self.tell_blocked(level, &message);
                 drop(message);
                 Ok(Change::Stays(pending?))
             }
-            Tried::Restarted(message) => {
+            Turned::Restarted(message) => {
                 let location = self.restart(rules, level, message)?;
                 Ok(Change::Goes(location, HistoryChange::Adds, None))
             }
-            Tried::Done(next, done, rows) => {
+            Turned::Done(after) => {
+                let AfterTurn {
+                    level: next,
+                    done,
+                    rows,
+                } = after;
                 let change = self.follow_key(rules, next, &done, rows);
                 drop(done);
                 change

@@ -25,7 +25,6 @@ use ps_board::{Board, Columns, recall_shape};
 use ps_levels::Level;
 use ps_model::{Input, Memory, Room, RoomSize};
 use ps_screen::{FrameText, OutputText, Picture};
-use ps_text::Text;
 use ps_turn::{DoneTurn, Rules, TurnRules, Turned, turn};
 use std::alloc::Global;
 use std::marker::Model;
@@ -98,17 +97,17 @@ impl Counting {
     }
 }
 
-/// What comes of a turn that leaves the level as it is: nothing; a restart, with a message or without; or the level
-/// after the turn, and rows outside of which its board shows the same objects. `S` is a set of rows.
+/// What is told of a done turn that leaves the level as it is: the level after it, and rows outside of which its board
+/// shows the same objects. `S` is a set of rows.
 #[derive(Drop)]
-pub enum Tried<L, S> {
-    Blocked(Option<Text>),
-    Restarted(Option<Text>),
-    Done(L, DoneTurn, S),
+pub struct AfterTurn<L, S> {
+    pub level: L,
+    pub done: DoneTurn,
+    pub rows: S,
 }
 
-/// What comes of a turn of a level.
-pub type TriedTurn<B> = Tried<PlayedLevel<B>, Columns<<B as Board>::Words>>;
+/// What comes of a turn that leaves the level as it is.
+pub type TriedTurn<B> = Turned<AfterTurn<PlayedLevel<B>, Columns<<B as Board>::Words>>>;
 
 /// What comes of a key in a level.
 pub type LevelChange<B> = Change<PlayedLevel<B>, Columns<<B as Board>::Words>>;
@@ -582,11 +581,11 @@ impl<B: Board> PlayedLevel<B> {
             Ok(Turned::Done(done)) => done,
             Ok(Turned::Blocked(message)) => {
                 put_back(&mut self.spare, spare);
-                return Ok(Tried::Blocked(message));
+                return Ok(Turned::Blocked(message));
             }
             Ok(Turned::Restarted(message)) => {
                 put_back(&mut self.spare, spare);
-                return Ok(Tried::Restarted(message));
+                return Ok(Turned::Restarted(message));
             }
             Err(Memory) => {
                 put_back(&mut self.spare, spare);
@@ -597,11 +596,11 @@ impl<B: Board> PlayedLevel<B> {
         let frame = parts.frame.take();
         match spare.follow(workshop, parts, frame, &done) {
             Ok(rows) => {
-                let next = PlayedLevel {
+                let level = PlayedLevel {
                     parts: spare,
                     spare: None,
                 };
-                Ok(Tried::Done(next, done, rows))
+                Ok(Turned::Done(AfterTurn { level, done, rows }))
             }
             Err(Memory) => {
                 drop(done);

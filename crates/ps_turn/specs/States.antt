@@ -60,13 +60,13 @@ done_shown done g = record {
 }
 
 -- an outcome, where the board on which the turn worked shows this grid
-abbrev pub outcome_shown : Turned → Grid → model.Outcome
+abbrev pub outcome_shown : Turned DoneTurn → Grid → model.Outcome
 outcome_shown (Blocked message) g = model.Blocked message
 outcome_shown (Restarted message) g = model.Restarted message
 outcome_shown (Done done) g = model.Finished (done_shown done g)
 
 -- the turn is done
-abbrev pub is_done : Turned → Bool
+abbrev pub is_done : Turned DoneTurn → Bool
 is_done (Blocked message) = false
 is_done (Restarted message) = false
 is_done (Done done) = true

@@ -17,10 +17,11 @@ pub struct DoneTurn {
     pub again: bool,
 }
 
-/// What comes of a turn: it is blocked, or the level restarts, each with a message or without; or it is done.
+/// What comes of a turn: it is blocked, or the level restarts, each with a message or without; or it is done, and this
+/// is told of it.
 #[derive(Drop, Debug)]
-pub enum Turned {
+pub enum Turned<D = DoneTurn> {
     Blocked(Option<Text>),
     Restarted(Option<Text>),
-    Done(DoneTurn),
+    Done(D),
 }
