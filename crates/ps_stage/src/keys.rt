@@ -46,7 +46,9 @@ impl<'g, B: Board> Stage<'g, B> {
     {
         if let Some(message) = &done.message {
             self.tell(message.as_str())?;
-            return Ok(ControlFlow::Break(KeyEnd::Stops(Some(key_pending(done.win, done.again, left)))));
+            return Ok(ControlFlow::Break(KeyEnd::Stops(Some(key_pending(
+                done.win, done.again, left,
+            )))));
         }
         if done.win {
             return Ok(ControlFlow::Break(KeyEnd::Won));

@@ -17,8 +17,8 @@ pub struct DoneTurn {
     pub again: bool,
 }
 
-/// What comes of a turn: it is blocked, or the level restarts, each with a message or without; or it is done, and this
-/// is told of it.
+/// What comes of a turn: it is blocked, or the level restarts, each with a message or without; or it is done, with what
+/// that tells.
 #[derive(Drop, Debug)]
 pub enum Turned<D = DoneTurn> {
     Blocked(Option<Text>),
