@@ -5,6 +5,7 @@ use Rattle.ps_model.specs.board.Grid.{Grid}
 use Rattle.ps_model.specs.board.Turns.{Script, turn}
 use Rattle.ps_model.specs.session.Solving.{Spot}
 use Rattle.ps_turn.specs.States.{outcome_shown}
+use Rattle.ps_turn.specs.declared.outcomes.DoneTurn.{DoneTurn}
 use Rattle.ps_turn.specs.declared.outcomes.Turned.{Turned}
 use Rattle.ps_trial.specs.SilentStarts.{Boards}
 use Rattle.ps_trial.specs.SilentKeys.{turn_taken, input_taken}
@@ -12,7 +13,7 @@ use Rattle.ps_trial.specs.TurnsTaken.{boards_taken}
 use Rattle.ps_trial.specs.declared.counting.Counting.TheVariants.{Always}
 
 -- an input goes by its own turn
-pub taken_from : (script other : Script) (here now there : Boards) (input : Input) (turned : Turned) (g : Grid)
+pub taken_from : (script other : Script) (here now there : Boards) (input : Input) (turned : Turned DoneTurn) (g : Grid)
     (came : Boards → Option Spot) → other ≡ script → now ≡ here →
     outcome_shown turned g ≡ turn script (Some input) here.board → there ≡ boards_taken Always turned here g →
     (there ≡ boards_taken Always turned now g → turn_taken other now (outcome_shown turned g) ≡ came now) →

@@ -6,6 +6,7 @@ use Rattle.ps_board.specs.Rows.{DifferOnlyOn}
 use Rattle.ps_turn.specs.States.{HaveSameSides, TurnParts, script_with}
 use Rattle.ps_turn.specs.declared.rules.Rules.{Ghosts as Rules}
 use Rattle.ps_turn.specs.declared.rules.TurnRules.{TurnRules}
+use Rattle.ps_turn.specs.declared.outcomes.DoneTurn.{DoneTurn}
 use Rattle.ps_turn.specs.declared.outcomes.Turned.{Turned}
 use Rattle.ps_turn.specs.declared.outcomes.Turned.TheVariants.{Blocked, Restarted, Done}
 use Rattle.ps_trial.specs.SilentStarts.{Boards}
@@ -55,13 +56,13 @@ pub record AreOfOneSize (board_table own_restart_table : Option (List ℕ)) (her
   pub unset : desk.is_set ≡ false → desk.boards.restart_board ≡ here.restart_board
 
 -- a done turn that is told not to have changed the board has left it as it was
-abbrev pub IsSameIfUnchanged : Turned → Grid → Grid → Type 0
+abbrev pub IsSameIfUnchanged : Turned DoneTurn → Grid → Grid → Type 0
 IsSameIfUnchanged (Blocked message) before now = ⊤
 IsSameIfUnchanged (Restarted message) before now = ⊤
 IsSameIfUnchanged (Done done) before now = done.changed ≡ false → now ≡ before
 
 -- the boards that a done turn came to are those before it, but for what it is told to have changed
-abbrev pub IsSameUnless : Turned → Boards → Boards → Type 0
+abbrev pub IsSameUnless : Turned DoneTurn → Boards → Boards → Type 0
 IsSameUnless (Blocked message) before now = ⊤
 IsSameUnless (Restarted message) before now = ⊤
 IsSameUnless (Done done) before now = (done.changed ≡ false → now.board ≡ before.board)
