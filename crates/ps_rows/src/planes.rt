@@ -206,6 +206,18 @@ fn take_marks<W: ColumnWords>(
     }
 }
 
+/// Whether a plane has one of some rows marked, by the marks of all planes; one that isn't there has none.
+#[inline(always)]
+pub fn is_marked_in<W: ColumnWords>(marks: &[Columns<W>], plane: u32, rows: Columns<W>) -> bool
+    ensures { result ≡ false → (row : ℕ) → row < SIDE_LIMIT → column_at rows row ≡ true →
+        column_at (row_of marks.now plane) row ≡ false }
+{
+    if marks.len() <= plane as usize {
+        return false;
+    }
+    !marks[plane as usize].both(rows).is_empty()
+}
+
 impl<W: ColumnWords> Planes<W> {
     /// So many planes of a height, without columns. Nothing, where there is no memory.
     pub fn try_new(alloc: Global, count: u32, height: u32) -> Result<Planes<W>, Memory>
@@ -278,14 +290,11 @@ impl<W: ColumnWords> Planes<W> {
         self.index[plane as usize]
     }
 
-    /// Whether a row of a plane may have a column; no row of a plane that isn't there.
-    pub fn is_marked(&self, plane: u32, row: u32) -> bool
-        ensures { result ≡ column_at (row_of self.now.index.items plane) row }
+    /// For each plane the rows that may have a column.
+    pub fn marks(&self) -> &[Columns<W>]
+        ensures { result.now ≡ self.now.index.items }
     {
-        if !self.has_plane(plane) {
-            return false;
-        }
-        self.index[plane as usize].has(row)
+        self.index.as_slice()
     }
 
     /// Whether no row of a plane is marked; so of a plane that isn't there.
