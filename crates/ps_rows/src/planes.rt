@@ -98,8 +98,14 @@ fn clear_row<W: ColumnWords>(words: &mut [Columns<W>], height: u32, plane: usize
     words[start + row as usize] = Columns::none();
 }
 
-/// Clears the rows of a plane that are marked; it has no column in any other. Where they are many, all rows are cleared
-/// in one go.
+/// Whether a set of these words has more than one.
+fn are_wide<W: ColumnWords>() -> bool {
+    let all = Columns::<W>::all();
+    all.has(WORD_BITS)
+}
+
+/// Clears the rows of a plane that are marked; it has no column in any other. Where they are many, and sets have one
+/// word, all rows are cleared in one go.
 fn clear_marked_rows<W: ColumnWords>(
     words: &mut [Columns<W>],
     height: u32,
@@ -113,7 +119,7 @@ fn clear_marked_rows<W: ColumnWords>(
         row_of words.old (plane * height + row) ≡ no_columns }
     ensures { ArePlanesOf height plane (plane + 1) [] words.old words.new }
 {
-    if !marked.has_few() {
+    if !are_wide::<W>() && !marked.has_few() {
         clear_plane(words, height, plane);
         return;
     }
@@ -141,8 +147,7 @@ fn copy_sets<W: ColumnWords>(
 
 /// How many rows of planes are copied in one go.
 fn most_sets<W: ColumnWords>() -> u32 {
-    let all = Columns::<W>::all();
-    if all.has(WORD_BITS) {
+    if are_wide::<W>() {
         return MOST_WIDE_SETS;
     }
     MOST_SETS
