@@ -44,11 +44,14 @@ impl<'r> CycleFinder<'r> {
     }
 }
 
-/// The boards that are kept for the rounds of a program's groups, and for the passes of its loops.
+/// The boards that are kept for the rounds of a program's groups, and for the passes of its loops, and whether `cancel`
+/// ended its last run.
 #[derive(Drop)]
 pub struct KeptBoards<B: Board> {
     pub of_rounds: KeptBoard<B>,
     pub of_passes: KeptBoard<B>,
+    /// Whether `cancel` ended the last run, where no group was passed over.
+    pub(crate) cancelled: bool,
 }
 
 impl<B: Board> KeptBoards<B> {
@@ -57,6 +60,14 @@ impl<B: Board> KeptBoards<B> {
         KeptBoards {
             of_rounds: KeptBoard::new(alloc),
             of_passes: KeptBoard::new(alloc),
+            cancelled: false,
         }
+    }
+
+    /// Whether `cancel` ended the last run. From now on it hasn't.
+    pub(crate) fn take_cancelled(&mut self) -> bool {
+        let cancelled = self.cancelled;
+        self.cancelled = false;
+        cancelled
     }
 }

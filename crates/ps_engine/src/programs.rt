@@ -131,6 +131,7 @@ fn play_sections<'r, B: Scan>(
     let mut repeats = REPEAT_LIMIT;
     for section in sections {
         if run.queue.ends(extent) {
+            kept.cancelled = true;
             return Ok(());
         }
         match section {
@@ -224,7 +225,7 @@ pub fn run_program<'r, 's: 'r, B: Scan>(
     ensures scratch { length scratch.new ≡ length scratch.old }
     ensures sections { program.new.sections ≡ program.old.sections }
 {
-    let seeks_quiet = program.begin(board)?;
+    let seeks_quiet = program.begin(board, false)?;
     let motions = board.motions_there();
     let mut run = Run {
         board,
@@ -264,7 +265,7 @@ pub fn run_until_cancelled<'r, 's: 'r, B: Scan>(
     ensures scratch { length scratch.new ≡ length scratch.old }
     ensures sections { program.new.sections ≡ program.old.sections }
 {
-    let seeks_quiet = program.begin(board)?;
+    let seeks_quiet = program.begin(board, kept.take_cancelled())?;
     let motions = board.motions_there();
     let mut run = Run {
         board,

@@ -254,11 +254,15 @@ impl<'p, B: Scan> QuietGroups<'p, B> {
         self.sections
     }
 
-    /// Whether the next run is to be with quiet groups on a board, by what there is to gain.
-    fn is_due(&mut self, board: &B) -> bool
+    /// Whether the next run is to be with quiet groups on a board, by what there is to gain. A run that `cancel` ended
+    /// tells nothing of that, and so it is none of those for which the program rests.
+    fn is_due(&mut self, board: &B, cancelled: bool) -> bool
         ensures { self.new ≡ self.old }
     {
         if !pays(self.sections.len(), board) {
+            return false;
+        }
+        if cancelled && 0 < self.pace.rest {
             return false;
         }
         let little = self.board.is_some() && self.gains < self.sections.len() / 4;
@@ -304,17 +308,18 @@ impl<'p, B: Scan> QuietGroups<'p, B> {
     }
 
     /// Begins a run on a board. Answers whether groups that are quiet are left out: then what the board shows is kept.
-    /// Groups that ask about nothing that has changed since the last time stay known.
+    /// Groups that ask about nothing that has changed since the last time stay known. It is told whether `cancel` ended
+    /// the last run.
     ///
     /// # Errors
     ///
     /// `Memory`, where no board is kept, or one of another size or game.
-    pub(crate) fn begin(&mut self, board: &B) -> Result<bool, Memory>
+    pub(crate) fn begin(&mut self, board: &B, cancelled: bool) -> Result<bool, Memory>
         ensures sections { self.new.sections ≡ self.old.sections }
         ensures kept { IfOk result (λ seeks. seeks ≡ true →
             self.new.kept ≡ Some (B.grid board.now, B.table board.now)) }
     {
-        if !self.is_due(board) {
+        if !self.is_due(board, cancelled) {
             return Ok(false);
         }
         if self.renew(board) {

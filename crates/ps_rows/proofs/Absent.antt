@@ -2,6 +2,7 @@
 use Rattle.std.proofs.Common.{◌≡◌, ◌∙◌, ℕ, ◌+◌, ◌*◌, ◌/◌, ◌%◌, ◌<◌, ◌≤◌, ◌&&◌, inl, inr, Bool, true, false, List, []}
 use Rattle.std.proofs.Common.{length, sym, ap, arith}
 use Rattle.std.specs.List.{list_any, list_all}
+use Rattle.std.proofs.Math.Bool.{and-true}
 use Rattle.std.proofs.lemmas.Bool.{cases_lt, and_parts}
 use Rattle.std.proofs.lemmas.List.{get_or_past}
 use Rattle.std.proofs.lemmas.Nat.{div_below, div-add-mod', mod_below}
@@ -13,13 +14,13 @@ use Rattle.ps_model.specs.declared.compiled.LayeredObject.{LayeredObject}
 use Rattle.ps_model.specs.board.Grid.{Grid, cell_at}
 use Rattle.ps_model.specs.meaning.Compiled.{CellMask, is_held_in, mask_fits, moves_as_asked}
 use Rattle.ps_laws.proofs.common.SameThings.{is_number-true}
-use Rattle.ps_board.specs.ColumnSets.{column_at, no_columns, set_columns}
+use Rattle.ps_board.specs.ColumnSets.{both_columns, column_at, no_columns, set_columns}
 use Rattle.ps_match.specs.Nowhere.{IsNotOnRow, IsNowhere}
 use Rattle.ps_model.specs.board.Movement.{is_number}
 use Rattle.ps_rows.specs.RowIndex.{AreRowsMarked}
 use Rattle.ps_rows.specs.RowTests.{IsRowOf, IsWithin, held, held_all}
 use Rattle.ps_rows.specs.Showing.{cells_shown, grid_shown, AreObjectsShown}
-use Rattle.ps_rows.proofs.Sets.{none_at}
+use Rattle.ps_rows.proofs.Sets.{both_at, none_at}
 use Rattle.ps_rows.proofs.Rests.{cells_long}
 use Rattle.ps_rows.proofs.Scans.{other_row, own_row}
 use Rattle.ps_model.specs.declared.limits.TheConstants.{SIDE_LIMIT}
@@ -96,6 +97,14 @@ not_marked_there table width height layers words index count row object true som
 not_marked_there table width height layers words index count row object false some narrow under shown counted marked is
     clear =
     other_row table width height layers words row some narrow under object is
+
+-- one of some rows, none of which is marked
+pub not_marked_of : (marked rows both : List Bool) (row : ℕ) → both ≡ both_columns marked rows →
+    set_columns both ≡ [] → row < SIDE_LIMIT → column_at rows row ≡ true → column_at marked row ≡ false
+not_marked_of marked rows both row is none low on =
+    sym (and-true (column_at marked row)) ∙ ap (λ (b : Bool). column_at marked row && b) (sym on)
+    ∙ sym (both_at marked rows row low) ∙ ap (λ (set : List Bool). column_at set row) (sym is)
+    ∙ none_in both row none low
 
 -- on a row where what a mask needs is nowhere, nothing fits it
 pub mask_nowhere : (g : Grid) (row : ℕ) (needed : List Bool) (mask : CellMask) → g.width ≤ SIDE_LIMIT →

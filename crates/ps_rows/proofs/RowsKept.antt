@@ -3,7 +3,7 @@ use Rattle.std.proofs.Common.{◌≡◌, ◌∙◌, ℕ, ◌+◌, ◌*◌, ◌<�
 use Rattle.std.proofs.Common.{length, refl, sym, ap, subst, take, get_or, arith}
 use Rattle.std.specs.Prelude.{nat_lt, replicate, slice_get, slice_index_or}
 use Rattle.std.specs.List.{list_all, list_any}
-use Rattle.std.proofs.Math.Bool.{and-false, and-true}
+use Rattle.std.proofs.Math.Bool.{and-false, and-true, and_comm}
 use Rattle.std.proofs.lemmas.Bool.{le-ltb}
 use Rattle.std.proofs.lemmas.List.{get_or-replicate, length-replicate}
 use Rattle.std.proofs.lemmas.List.Folds.{list_all_more, list_any_more}
@@ -167,13 +167,14 @@ kept_first g row q x xs all columns mid kept is one others =
     (λ cell. sym (ap (λ ys. list_all (q cell) ys) is))
     (kept_then g row columns (λ cell. q cell x) mid kept (λ cell. list_all (q cell) xs) one others)
 
--- one object of each of a mask's lists, and then its motions
-pub kept_narrowed : (g : Grid) (row : ℕ) (columns listed mid kept : List Bool) (mask : CellMask) →
-    g.width ≤ SIDE_LIMIT → IsRowOf g row listed (held_of_each mask.one_of) → mid ≡ both_columns columns listed →
-    IsKept g row mid kept (moved_all mask.motions) → IsKept g row columns kept (narrowed mask)
-kept_narrowed g row columns listed mid kept mask narrow told is moving =
-    kept_then g row columns (held_of_each mask.one_of) mid kept (moved_all mask.motions)
-    (kept_both g row columns (held_of_each mask.one_of) listed mid narrow told is) moving
+-- a mask's motions, and then one object of each of its lists
+pub kept_narrowed : (g : Grid) (row : ℕ) (columns mid kept : List Bool) (mask : CellMask) →
+    IsKept g row columns mid (moved_all mask.motions) → IsKept g row mid kept (held_of_each mask.one_of) →
+    IsKept g row columns kept (narrowed mask)
+kept_narrowed g row columns mid kept mask moving listed =
+    kept_as g row columns (λ cell. moved_all mask.motions cell && held_of_each mask.one_of cell) kept (narrowed mask)
+    (λ cell. and_comm (moved_all mask.motions cell) (held_of_each mask.one_of cell))
+    (kept_then g row columns (moved_all mask.motions) mid kept (held_of_each mask.one_of) moving listed)
 
 -- all rows -----------------------------------------------------------------------------------------------------------
 

@@ -98,8 +98,14 @@ fn clear_row<W: ColumnWords>(words: &mut [Columns<W>], height: u32, plane: usize
     words[start + row as usize] = Columns::none();
 }
 
-/// Clears the rows of a plane that are marked; it has no column in any other. Where they are many, all rows are cleared
-/// in one go.
+/// Whether a set of these words has more than one.
+fn are_wide<W: ColumnWords>() -> bool {
+    let all = Columns::<W>::all();
+    all.has(WORD_BITS)
+}
+
+/// Clears the rows of a plane that are marked; it has no column in any other. Where they are many, and sets have one
+/// word, all rows are cleared in one go.
 fn clear_marked_rows<W: ColumnWords>(
     words: &mut [Columns<W>],
     height: u32,
@@ -113,7 +119,7 @@ fn clear_marked_rows<W: ColumnWords>(
         row_of words.old (plane * height + row) ≡ no_columns }
     ensures { ArePlanesOf height plane (plane + 1) [] words.old words.new }
 {
-    if !marked.has_few() {
+    if !are_wide::<W>() && !marked.has_few() {
         clear_plane(words, height, plane);
         return;
     }
@@ -141,8 +147,7 @@ fn copy_sets<W: ColumnWords>(
 
 /// How many rows of planes are copied in one go.
 fn most_sets<W: ColumnWords>() -> u32 {
-    let all = Columns::<W>::all();
-    if all.has(WORD_BITS) {
+    if are_wide::<W>() {
         return MOST_WIDE_SETS;
     }
     MOST_SETS
@@ -204,6 +209,18 @@ fn take_marks<W: ColumnWords>(
     for plane in 0..planes as usize {
         others[plane] = others[plane].without(rows).either(index[plane].both(rows));
     }
+}
+
+/// Whether a plane has one of some rows marked, by the marks of all planes; one that isn't there has none.
+#[inline(always)]
+pub fn is_marked_in<W: ColumnWords>(marks: &[Columns<W>], plane: u32, rows: Columns<W>) -> bool
+    ensures { result ≡ false → (row : ℕ) → row < SIDE_LIMIT → column_at rows row ≡ true →
+        column_at (row_of marks.now plane) row ≡ false }
+{
+    if marks.len() <= plane as usize {
+        return false;
+    }
+    !marks[plane as usize].both(rows).is_empty()
 }
 
 impl<W: ColumnWords> Planes<W> {
@@ -278,14 +295,11 @@ impl<W: ColumnWords> Planes<W> {
         self.index[plane as usize]
     }
 
-    /// Whether a row of a plane may have a column; no row of a plane that isn't there.
-    pub fn is_marked(&self, plane: u32, row: u32) -> bool
-        ensures { result ≡ column_at (row_of self.now.index.items plane) row }
+    /// For each plane the rows that may have a column.
+    pub fn marks(&self) -> &[Columns<W>]
+        ensures { result.now ≡ self.now.index.items }
     {
-        if !self.has_plane(plane) {
-            return false;
-        }
-        self.index[plane as usize].has(row)
+        self.index.as_slice()
     }
 
     /// Whether no row of a plane is marked; so of a plane that isn't there.

@@ -5,7 +5,7 @@ ghost use Rattle.ps_model.specs.declared.pieces.Motion.TheVariants.{Still};
 ghost use Rattle.ps_model.specs.meaning.Compiled.{mask_fits};
 ghost use Rattle.ps_model.specs.meaning.Fitting.{same_motion};
 ghost use Rattle.ps_program.specs.ProgramShown.{mask_shown};
-ghost use Rattle.ps_board.specs.ColumnSets.{column_at};
+ghost use Rattle.ps_board.specs.ColumnSets.{column_at, no_columns, with_column};
 ghost use Rattle.ps_rows.specs.Planes.{IsSet};
 ghost use Rattle.ps_rows.specs.RowTests.{IsPartOf, IsRowOf, IsWithin, held, held_all, held_any};
 ghost use Rattle.ps_rows.specs.RowTests.{five_rows, held_of_each, is_free, moved, moved_all, narrowed};
@@ -13,6 +13,7 @@ ghost use Rattle.ps_rows.specs.RowsKept.{IsKept};
 ghost use Rattle.ps_rows.specs.Showing.{motions_from};
 
 use crate::motions::motion_plane;
+use crate::planes::is_marked_in;
 use crate::row_board::RowBoard;
 use ps_board::{Board, ColumnWords, Columns};
 use ps_model::{LayeredObject, Motion, MotionTest};
@@ -90,12 +91,22 @@ impl<W: ColumnWords> RowBoard<W> {
         word
     }
 
-    /// Where an object stands on its layer, by the index first: of a property with many objects most stand nowhere.
-    fn marked_row(&self, sought: &LayeredObject, row: u32) -> Columns<W>
-        requires { row < self.now.planes.height }
+    /// Where an object stands on its layer, by the index first: of a property with many objects most stand nowhere. The
+    /// index and a set of the row alone are read before all of these.
+    #[inline(always)]
+    fn marked_row(
+        &self,
+        sought: &LayeredObject,
+        row: u32,
+        marks: &[Columns<W>],
+        here: Columns<W>,
+    ) -> Columns<W>
+        requires row { row < self.now.planes.height }
+        requires marks { marks.now ≡ self.now.planes.index.items }
+        requires here { here ≡ with_column no_columns row true }
         ensures { IsRowOf (⟦<RowBoard<W> as Board>⟧.grid self.now) row result (held sought.now) }
     {
-        if !self.planes.is_marked(sought.object.0, row) {
+        if !is_marked_in(marks, sought.object.0, here) {
             return Columns::none();
         }
         self.object_row(sought, row)
@@ -106,9 +117,11 @@ impl<W: ColumnWords> RowBoard<W> {
         requires { row < self.now.planes.height }
         ensures { IsRowOf (⟦<RowBoard<W> as Board>⟧.grid self.now) row result (held_any objects.now) }
     {
+        let marks = self.planes.marks();
+        let here = Columns::none().with(row, true);
         let mut word = Columns::none();
         for sought in objects {
-            word = word.either(self.marked_row(sought, row));
+            word = word.either(self.marked_row(sought, row, marks, here));
         }
         word
     }
@@ -196,8 +209,8 @@ impl<W: ColumnWords> RowBoard<W> {
         if columns.is_empty() {
             return Columns::none();
         }
-        let listed = columns.both(self.lists_row(mask.one_of.as_slice(), row));
-        self.moving_of(mask.motions.as_slice(), row, listed)
+        let moving = self.moving_of(mask.motions.as_slice(), row, columns);
+        self.listed_row(mask.one_of.as_slice(), row, moving)
     }
 
     /// Those of some columns of a row in which each layer has the motion that a mask without lists asks for.

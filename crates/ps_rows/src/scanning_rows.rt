@@ -8,6 +8,7 @@ ghost use Rattle.ps_board.specs.ColumnSets.{both_columns, column_at, columns_wit
 ghost use Rattle.ps_program.specs.ProgramShown.{mask_shown};
 ghost use Rattle.ps_match.specs.InRoom.{meaning_of_mask};
 ghost use Rattle.ps_match.specs.ScannedRows.{AreRowsScanned};
+ghost use Rattle.ps_rows.specs.Planes.{IsSet};
 ghost use Rattle.ps_rows.specs.RowTests.{IsRowOf, held, held_all, held_any, held_of_each, moved, moved_all, narrowed};
 ghost use Rattle.ps_rows.specs.RowsKept.{AreBoth, AreKept, AreWithout, IsKept, are_away, is_away};
 
@@ -240,14 +241,32 @@ impl<W: ColumnWords> RowBoard<W> {
     }
 
     /// Those of some columns of a row in which one object of each list stands. Where none is left nothing is read.
-    fn listed_row(&self, lists: &[List<LayeredObject>], row: u32, columns: Columns<W>) -> Columns<W>
+    pub(crate) fn listed_row(
+        &self,
+        lists: &[List<LayeredObject>],
+        row: u32,
+        columns: Columns<W>,
+    ) -> Columns<W>
         requires { row < self.now.planes.height }
-        ensures { IsKept (⟦<RowBoard<W> as Board>⟧.grid self.now) row columns result (held_of_each lists.now) }
+        ensures kept { IsKept (⟦<RowBoard<W> as Board>⟧.grid self.now) row columns result (held_of_each lists.now) }
+        ensures set { IsSet result }
     {
         if columns.is_empty() {
             return Columns::none();
         }
         columns.both(self.lists_row(lists, row))
+    }
+
+    /// Keeps of each row the columns in which one object of each list stands, row by row. Few masks have lists, so that
+    /// this is apart from what all of them need.
+    #[inline(never)]
+    fn keep_each_listed(&self, lists: &[List<LayeredObject>], first: u32, found: &mut [Columns<W>])
+        requires { first + length found.old ≤ self.now.planes.height }
+        ensures { AreKept (⟦<RowBoard<W> as Board>⟧.grid self.now) first found.old found.new (held_of_each lists.now) }
+    {
+        for step in 0..found.len() {
+            found[step] = self.listed_row(lists, first + step as u32, found[step]);
+        }
     }
 
     /// Keeps of each row the columns in which one object of each list stands.
@@ -258,9 +277,7 @@ impl<W: ColumnWords> RowBoard<W> {
         if lists.is_empty() {
             return;
         }
-        for step in 0..found.len() {
-            found[step] = self.listed_row(lists, first + step as u32, found[step]);
-        }
+        self.keep_each_listed(lists, first, found);
     }
 
     /// Makes each row the columns in which one object of each list stands. The objects of the first list are joined in

@@ -42,19 +42,6 @@ fn lesser(first: u32, second: u32) -> u32
     first
 }
 
-/// The first plane behind those that share a set with one, of so many; or the greatest number that a plane can have.
-fn next_set(plane: u32, planes: u32) -> u32
-    requires { plane < planes }
-    ensures order { plane < result }
-    ensures within { result ≤ (plane / WORD_BITS + 1) * WORD_BITS }
-{
-    let rest = WORD_BITS - plane % WORD_BITS;
-    if u32::MAX - plane < rest {
-        return u32::MAX;
-    }
-    plane + rest
-}
-
 /// Planes, by their numbers, as sets of `WORD_BITS` of them each; of few planes none is noted.
 #[derive(Drop)]
 pub struct UsedPlanes {
@@ -155,7 +142,8 @@ impl UsedPlanes {
         Some(place * WORD_BITS + bit)
     }
 
-    /// The first noted plane from one on, of so many, here or among others; their number, where there is none.
+    /// The first noted plane from one on, of so many, here or among others; their number, where there is none. The sets
+    /// behind the one of that plane are looked at as a whole: most of them are empty.
     pub fn next(&self, other: &UsedPlanes, from: u32, planes: u32) -> u32
         requires order { from ≤ planes }
         requires here { planes ≤ vec_len self.now.words * WORD_BITS }
@@ -164,12 +152,18 @@ impl UsedPlanes {
         ensures few { result ≤ planes }
         ensures none { AreNotUsed self.now.words.items other.now.words.items from result }
     {
-        let mut plane = from;
-        while plane < planes {
-            if let Some(next) = self.next_beside(other, plane) {
+        if planes <= from {
+            return planes;
+        }
+        if let Some(next) = self.next_beside(other, from) {
+            return lesser(next, planes);
+        }
+        let mut place = (from / WORD_BITS) as usize + 1;
+        while place * (WORD_BITS as usize) < planes as usize {
+            if let Some(next) = self.next_beside(other, place as u32 * WORD_BITS) {
                 return lesser(next, planes);
             }
-            plane = next_set(plane, planes);
+            place += 1;
         }
         planes
     }

@@ -9,8 +9,8 @@ use Rattle.ps_rows.proofs.RowsKept.{kept_both}
 use Rattle.ps_rows.proofs.Sets.{none_at, set_where}
 use Rattle.ps_rows.proofs.row_board.RowBoard.listed_row.Goals as goal
 
-pub returns-then-is_empty : goal.returns-then-is_empty
-returns-then-is_empty g c =
+pub returns-then-is_empty-clause-kept : goal.returns-then-is_empty-clause-kept
+returns-then-is_empty-clause-kept g c =
     let b = c.args.self.now in
     let grid : Grid = grid_shown b.members.table.items b.width b.planes.height b.layers b.planes.words.items in
     record {
@@ -25,9 +25,19 @@ returns-then-is_empty g c =
           subst P (sym c.none.ensures) (set_where (λ x. false));
     }
 
-pub returns : goal.returns
-returns g c =
+pub returns-then-is_empty-clause-set : goal.returns-then-is_empty-clause-set
+returns-then-is_empty-clause-set g c =
+    let P : List Bool → Type 0 = λ set. IsSet set in
+    subst P (sym c.none.ensures) (set_where (λ x. false))
+
+pub returns-clause-kept : goal.returns-clause-kept
+returns-clause-kept g c =
     let b = c.args.self.now in
     let grid : Grid = grid_shown b.members.table.items b.width b.planes.height b.layers b.planes.words.items in
     kept_both grid c.args.row c.args.columns (held_of_each c.args.lists.now) c.lists_row.result c.both.result
     b.columns c.lists_row.ensures c.both.ensures
+
+pub returns-clause-set : goal.returns-clause-set
+returns-clause-set g c =
+    let P : List Bool → Type 0 = λ set. IsSet set in
+    subst P (sym c.both.ensures) (set_where (λ x. column_at c.args.columns x && column_at c.lists_row.result x))

@@ -7,7 +7,7 @@ use Rattle.ps_board.specs.ColumnSets.{column_at}
 use Rattle.ps_board.proofs.ColumnLaws.{none_in}
 use Rattle.ps_rows.specs.Planes.{IsSet}
 use Rattle.ps_rows.specs.Showing.{grid_shown}
-use Rattle.ps_rows.specs.RowTests.{IsRowOf, held_of_each, moved_all, narrowed}
+use Rattle.ps_rows.specs.RowTests.{held_of_each, moved_all, narrowed}
 use Rattle.ps_rows.specs.RowsKept.{IsKept}
 use Rattle.ps_rows.proofs.RowsKept.{kept_narrowed}
 use Rattle.ps_rows.proofs.Sets.{none_at, set_where}
@@ -36,29 +36,17 @@ returns-clause-inside g c =
     let b = c.args.self.now in
     let grid : Grid = grid_shown b.members.table.items b.width b.planes.height b.layers b.planes.words.items in
     let mask = mask_shown c.args.mask.now in
-    let Listed : List (List LayeredObject) → Type 0 = λ xs. IsRowOf grid c.args.row c.lists_row.result (held_of_each xs)
-    in
-    let Moving : List MotionTest → Type 0 = λ xs. IsKept grid c.args.row c.both-listed.result c.moving_of.result
+    let Moving : List MotionTest → Type 0 = λ xs. IsKept grid c.args.row c.args.columns c.moving_of-moving.result
     (moved_all xs) in
-    (kept_narrowed grid c.args.row c.args.columns c.lists_row.result c.both-listed.result c.moving_of.result mask
-    b.columns (subst Listed c.as_slice.ensures c.lists_row.ensures) c.both-listed.ensures
-    (subst Moving c.as_slice-2.ensures c.moving_of.ensures)).part
+    let Listed : List (List LayeredObject) → Type 0 = λ xs. IsKept grid c.args.row c.moving_of-moving.result
+    c.listed_row.result (held_of_each xs) in
+    (kept_narrowed grid c.args.row c.args.columns c.moving_of-moving.result c.listed_row.result mask
+    (subst Moving c.as_slice.ensures c.moving_of-moving.ensures)
+    (subst Listed c.as_slice-2.ensures c.listed_row.ensures.kept)).part
 
 pub returns-clause-within : goal.returns-clause-within
-returns-clause-within g c =
-    let b = c.args.self.now in
-    let grid : Grid = grid_shown b.members.table.items b.width b.planes.height b.layers b.planes.words.items in
-    let mask = mask_shown c.args.mask.now in
-    let Listed : List (List LayeredObject) → Type 0 = λ xs. IsRowOf grid c.args.row c.lists_row.result (held_of_each xs)
-    in
-    let Moving : List MotionTest → Type 0 = λ xs. IsKept grid c.args.row c.both-listed.result c.moving_of.result
-    (moved_all xs) in
-    (kept_narrowed grid c.args.row c.args.columns c.lists_row.result c.both-listed.result c.moving_of.result mask
-    b.columns (subst Listed c.as_slice.ensures c.lists_row.ensures) c.both-listed.ensures
-    (subst Moving c.as_slice-2.ensures c.moving_of.ensures)).within
+returns-clause-within g c = λ within.
+    c.listed_row.ensures.kept.within (c.moving_of-moving.ensures.within within)
 
 pub returns-clause-set : goal.returns-clause-set
-returns-clause-set g c =
-    let P : List Bool → Type 0 = λ set. IsSet set in
-    c.moving_of.ensures.set (subst P (sym c.both-listed.ensures) (set_where (λ x.
-    column_at c.args.columns x && column_at c.lists_row.result x)))
+returns-clause-set g c = c.listed_row.ensures.set

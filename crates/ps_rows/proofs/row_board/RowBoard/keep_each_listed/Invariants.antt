@@ -1,7 +1,7 @@
 use Rattle.ps_rows.specs.Showing.{grid_shown}
 use Rattle.ps_rows.specs.RowTests.{held_of_each}
 use Rattle.ps_rows.proofs.KeptRowByRow.{AreKeptBelow}
-use Rattle.ps_rows.proofs.row_board.RowBoard.keep_listed.Given as goal
+use Rattle.ps_rows.proofs.row_board.RowBoard.keep_each_listed.Given as goal
 
 -- the rows passed by are done, and the others as they were
 abbrev pub invariant-loop-step : goal.invariant-loop-step
