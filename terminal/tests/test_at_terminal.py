@@ -44,8 +44,8 @@ class Sitting:
         threading.Thread(target=self._read, daemon=True).start()
 
     def _take_terminal(self):
-        # A shell lets the programs that it starts in the background ignore these, as perhaps it does with this test.
-        for number in (signal.SIGINT, signal.SIGQUIT):
+        # A shell lets the programs that it starts in the background ignore these, and nohup the first, as perhaps with this test.
+        for number in (signal.SIGHUP, signal.SIGINT, signal.SIGQUIT):
             signal.signal(number, signal.SIG_DFL)
         os.setsid()
         fcntl.ioctl(self.slave, termios.TIOCSCTTY, 0)
