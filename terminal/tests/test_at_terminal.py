@@ -36,6 +36,8 @@ class Sitting:
         fcntl.ioctl(self.slave, termios.TIOCSWINSZ, struct.pack("HHHH", 12, 60, 0, 0))
         self.before = termios.tcgetattr(self.slave)
         self.output = b""
+        # Who changes the output.
+        self.lock = threading.Lock()
         environment = dict(os.environ, XDG_STATE_HOME=folder)
         command = [sys.executable, "-I", "-S", MAIN, STAND_IN, *words]
         self.process = subprocess.Popen(
@@ -44,8 +46,8 @@ class Sitting:
         threading.Thread(target=self._read, daemon=True).start()
 
     def _take_terminal(self):
-        # A shell lets the programs that it starts in the background ignore these, as perhaps it does with this test.
-        for number in (signal.SIGINT, signal.SIGQUIT):
+        # A shell lets the programs that it starts in the background ignore these, and nohup the first, as perhaps with this test.
+        for number in (signal.SIGHUP, signal.SIGINT, signal.SIGQUIT):
             signal.signal(number, signal.SIG_DFL)
         os.setsid()
         fcntl.ioctl(self.slave, termios.TIOCSCTTY, 0)
@@ -53,7 +55,9 @@ class Sitting:
     def _read(self):
         try:
             while True:
-                self.output += os.read(self.master, 65536)
+                data = os.read(self.master, 65536)
+                with self.lock:
+                    self.output += data
         except OSError:
             pass
 
@@ -64,7 +68,8 @@ class Sitting:
             if time.monotonic() > end:
                 raise AssertionError(f"{text!r} isn't in {self.output!r}")
             time.sleep(0.005)
-        self.output = self.output.partition(text)[2]
+        with self.lock:
+            self.output = self.output.partition(text)[2]
 
     def type(self, keys):
         os.write(self.master, keys)
